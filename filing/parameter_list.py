@@ -4,11 +4,11 @@ from __future__ import annotations
 
 import csv
 import io
-from typing import Dict, Iterator, List, Tuple
+from typing import Dict, Iterator, List, Set, Tuple
 
 from .metadata import Merged, Path, objects
 from .origins import Origins
-from .parameters import columns_of, parameters_of_file, parameters_of_metadata, placed_references, template_without
+from .parameters import ROW_NUMBER, columns_of, parameters_of_file, parameters_of_metadata, placed_references, template_without
 from .prepared import Files
 
 HEADER = "parameter", "value", "file", "references", "first reference"
@@ -25,21 +25,22 @@ def parameter_list(origins: Origins, files: Files) -> str:
 
 def rows(origins: Origins, files: Files) -> Iterator[Tuple[str, str, str, int, str]]:
     """Name, value, file, the number of references, and the first of them."""
-    places = references_to_parameters(origins.merged)
     given = [*parameters_of_metadata(origins.merged), *parameters_of_file(files)]
-    missing = ((name, "", "") for name in places.keys() - {name for name, _, _ in given})
+    references = references_by_name(origins.merged, {name for name, _, _ in given})
+    missing = ((name, "", "") for name in references.keys() - {name for name, _, _ in given})
     for name, value, label in sorted([*given, *missing]):
-        paths = places.get(name, [])
+        paths = references.get(name, [])
         yield name, value, label, len(paths), shown(origins, paths[0]) if paths else ""
 
 
-def references_to_parameters(merged: Merged) -> Dict[str, List[Path]]:
-    """Where each name is referred to that is no column's there, so it is a parameter's, or nothing."""
+def references_by_name(merged: Merged, given: Set[str]) -> Dict[str, List[Path]]:
+    """Where each parameter is referred to. A name that a column of the template has too is that column's where the table's file has it, so it is
+    one of a parameter that is given, and of none that is missing."""
     columns = {name: columns_of(template) for name, template in objects(merged.value, "tableTemplates")}
     places: Dict[str, List[Path]] = {}
     for name, path in placed_references(merged):
         owner = path[1] if path[0] == "tableTemplates" else None
-        if template_without(name, owner, columns) is not None:
+        if name != ROW_NUMBER and name in given or template_without(name, owner, columns) is not None:
             places.setdefault(name, []).append(path)
     return places
 

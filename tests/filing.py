@@ -2798,6 +2798,14 @@ def list_of_parameters(folder: Path) -> None:
             ["unit", "", "", "1", f"{group}.dimensions.unit"],
         ]
         case(f"--parameters, {form}", listed(folder, given, form), (0, wanted, ""))
+        column = filed_with("name,value\nnote,x\nrowNumber,y\n", tableTemplates={"t": {"columns": columns}})
+        rows = [
+            ["note", "x", file, "1", f"{module}: tableTemplates.t.columns.cash.dimensions.eg:Region"],
+            ["places", "", "", "1", f"{group}.decimals"],
+            ["rowNumber", "y", file, "0", ""],
+            ["unit", "", "", "1", f"{group}.dimensions.unit"],
+        ]
+        case(f"a parameter that a column has the name of, {form}", listed(folder, column, form), (0, rows, ""))
         two = {"t": {"columns": columns}, "u": {"columns": {"cash": {}, "entityID": {}, "refPeriod": {}, "places": {}}}}
         some = filed_with("name,value\n", tableTemplates=two, dimensions={"entity": "$entityID"})
         rows = [["entityID", "", "", "1", f"{module}: dimensions.entity"], ["places", "", "", "1", f"{group}.decimals"], ["unit", "", "", "1", f"{group}.dimensions.unit"]]
