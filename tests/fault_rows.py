@@ -145,15 +145,52 @@ def ends(folder: Path) -> None:
     stands("a refused table", 1, HEADER + b"t1,1,1,40,BadNumber,2,cash,x,\n")
     stands("a refused table on a full disk", 3, HEADER, "--out", "/dev/full")
     write(folder, {"t1": b"cash\nx\n"}, links={"a": {}})
-    stands("a fault of the metadata", 1, HEADER)
+    stands("a fault of the metadata", 1, HEADER + b",0,0,5,Unsupported,,,(an object of 1),/links\n")
     write(folder, {"t1": b"cash\nx\n"}, parameterURL="p.csv")
     stands("a parameters file that is not there", 3, HEADER)
     (folder / "r/p.csv").write_text("name\n")
-    stands("a fault of the parameters file", 1, HEADER)
+    stands("a fault of the parameters file", 1, HEADER + b',0,0,13,BadParameter,,,name,"r/p.csv, line 1"\n')
     (folder / "t.csv").write_text("name\n")
-    stands("a fault of the types table", 1, HEADER)
+    stands("a fault of the types table", 1, HEADER + b',0,0,14,BadTypes,,,name,"t.csv, line 1"\n')
     (folder / "t.csv").unlink()
     stands("a types table that is not there", 3, HEADER)
+
+
+def of_the_report(folder: Path) -> None:
+    """A fault of the metadata, the types table or the parameters file: its record, with the place and what stands there as --explain has them."""
+
+    def stands(name: str, number: str, fault: str, found: str, place: str) -> None:
+        wanted = [NAMES, ["", "0", "0", number, fault, "", "", found, place]]
+        for words in (["--workers", "1"], ["--out", "o.json", "--whole"]):
+            seen = run(folder, *words, "--explain", "--faults", "f.csv")
+            content = (folder / "f.csv").read_bytes()
+            case(f"{name} {words}", seen[0] == 1 and records(content) == wanted, seen, content)
+            explained = seen[2].splitlines()
+            case(f"{name} {words}, as explained", explained[1:3] == [f"    {place}", f"    {found}"] and explained[0].endswith(f": {fault} ({number})"), seen)
+
+    write(folder, {"t1": b"cash\n1\n"}, dimensions={"entity": "eg:A1", "eg:Regoin": "eg:a,\n\"b\""})
+    stands("a dimension", "11", "BadDimension", '"eg:a,\\x0a"b""', "/dimensions/eg:Regoin")
+    write(folder, {"t1": b"cash\n1\n", "t2": b"cash\nx\n"}, {"template": "no, p"})
+    stands("a template", "9", "UnknownTemplate", '"no, p"', "/tables/t1/template")
+    (folder / "r/m.json").write_text('{"a":\n [}')
+    stands("no JSON", "1", "Syntax", "line 2, column 3", "r/m.json")
+    write(folder, {"t1": b"cash\n1\n"}, parameterURL="p.csv")
+    (folder / "r/p.csv").write_bytes(b'name,value\n\na,1\n"a,b",2\n')
+    stands("a parameters file", "13", "BadParameter", '"a,b"', "r/p.csv, line 4, cell 1")
+    (folder / "t.csv").write_text(TYPES + "http://example.com/eg,Cash,integer\n")
+    stands("a types table", "14", "BadTypes", '"Cash"', "t.csv, line 4, cell 2")
+    (folder / "t.csv").unlink()
+    (folder / "t.csv").mkdir()
+    stands("a types table that is a folder", "17", "Read", "(the whole file)", "t.csv")
+    (folder / "t.csv").rmdir()
+    write(folder, {"t1": b"cash\n1\n"}, links={"a": {}})
+    report = (folder / "r/m.json").read_bytes()
+    (folder / "r/m.json").unlink()
+    os.mkfifo(folder / "r/m.json")
+    threading.Thread(target=lambda: (folder / "r/m.json").write_bytes(report), daemon=True).start()
+    seen = run(folder, "--faults", "f.csv")
+    content = (folder / "f.csv").read_bytes()
+    case("a metadata that cannot be read twice", seen[0] == 1 and content == HEADER + b",0,0,5,Unsupported,,,(the whole file),r/m.json\n", seen, content)
 
 
 INPUTS = ["r/m.json", "t.csv", "r/p.csv", "r/t1.csv", "r/t2.csv"]
@@ -298,7 +335,7 @@ def changed(folder: Path) -> None:
 
 
 def main() -> int:
-    for test in (rows, identifiers, ends, inputs, outputs, places, read_once, changed):
+    for test in (rows, identifiers, ends, of_the_report, inputs, outputs, places, read_once, changed):
         with tempfile.TemporaryDirectory() as folder:
             test(Path(folder))
     return told("what --faults writes")
