@@ -29,7 +29,8 @@ fn row_of_the_key(alloc: Global, folder: &mut Texts<'_>) -> Result<Vec<u8>, Allo
 fn writes_the_key(alloc: Global, folder: &mut Texts<'_>) -> bool {
     match row_of_the_key(alloc, folder) {
         Ok(row) => {
-            row.as_slice() == b",0,0,2,NotReport,,,(nothing),/documentInfo/documentType\n"
+            row.as_slice()
+                == b",0,0,2,NotReport,,,(nothing),/documentInfo/documentType\n".as_slice()
         }
         Err(_) => false,
     }
