@@ -1,5 +1,6 @@
 pub mod PlacedBytes
 pub mod Escaping
+pub mod EscapeMarks
 pub mod EscapedLengths
 pub mod Appends
 pub mod NumeralBytes

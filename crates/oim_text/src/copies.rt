@@ -116,35 +116,19 @@ fn escape_marks(bytes: u8x32) -> u64
         | bytes.simd_lt(u8x32::splat(32))).to_bitmask()
 }
 
-/// How many of the first 32 bytes of a text stand for themselves in JSON, before the first that does not.
-#[inline(always)]
-fn unescaped_len(text: &[u8]) -> usize
-    requires { 32 ≤ length text.now }
-    ensures stand { result ≤ prefix_len is_unescaped text.now }
-    ensures most { result ≤ 32 }
+/// Writes a byte as JSON has it. Six bytes may be written in all. Answers where it ends.
+#[inline(never)]
+fn copy_rare_byte(room: &mut [u8], at: usize, byte: u8) -> usize
+    requires { at + 6 ≤ length room.old }
+    ensures bytes { Placed room.old room.new at (escaped_byte byte) result }
+    ensures within { result ≤ at + 6 }
 {
-    let marks = escape_marks(u8x32::from_slice(text));
-    if marks == 0 {
-        return AT_ONCE;
-    }
-    marks.trailing_zeros() as usize
+    let (escape, size) = escape_of(byte);
+    room[at..at + 6].copy_from_slice(&escape);
+    at + size
 }
 
-/// Copies the first 32 bytes of a text to a place, and answers how many of them, `left` at most, stand for themselves in JSON.
-#[inline(always)]
-fn copy_run(room: &mut [u8], at: usize, text: &[u8], left: usize) -> usize
-    requires text { 32 ≤ length text.now }
-    requires room { at + 32 ≤ length room.old }
-    ensures bytes { Placed room.old room.new at (take result text.now) (at + result) }
-    ensures stand { result ≤ prefix_len is_unescaped text.now }
-    ensures within { (result ≤ left) × (result ≤ 32) }
-{
-    let run = unescaped_len(text);
-    copy_chunk(room, at, text);
-    if run < left { run } else { left }
-}
-
-/// Writes a byte as JSON has it. Six bytes may be written in all. Answers where it ends. Mostly it is a quote.
+/// The same, where it is mostly a quote.
 #[inline(always)]
 #[tactic(auto, unfolding(oim_json::specs::JsonText::escaped_byte))]
 fn copy_byte(room: &mut [u8], at: usize, byte: u8) -> usize
@@ -155,9 +139,7 @@ fn copy_byte(room: &mut [u8], at: usize, byte: u8) -> usize
     if byte == b'"' {
         return copy_short(room, at, b"\\\"");
     }
-    let (escape, size) = escape_of(byte);
-    room[at..at + 6].copy_from_slice(&escape);
-    at + size
+    copy_rare_byte(room, at, byte)
 }
 
 /// The same of all bytes of a text.
@@ -174,6 +156,32 @@ fn copy_bytes(room: &mut [u8], from: usize, text: &[u8]) -> usize
     at
 }
 
+/// Copies the first `len` bytes of a text, which are 32 at most, to a place, with escapes as JSON has them. Up to 32 bytes behind
+/// them may be written too. Answers where they end. The bytes are looked at once, also where several of them are escaped.
+#[inline(always)]
+fn copy_block(room: &mut [u8], from: usize, text: &[u8], len: usize) -> usize
+    requires few { len ≤ 32 }
+    requires text { len + 32 ≤ length text.now }
+    requires room { from + 6 * len + 32 ≤ length room.old }
+    ensures bytes { Placed room.old room.new from (flat_map escaped_byte (take len text.now)) result }
+    ensures within { result ≤ from + 6 * len }
+{
+    let mut marks = escape_marks(u8x32::from_slice(text));
+    copy_chunk(room, from, text);
+    let mut at = from;
+    let mut done = 0;
+    loop {
+        let run = marks.trailing_zeros() as usize;
+        if run >= len - done {
+            return at + (len - done);
+        }
+        at = copy_byte(room, at + run, text[done + run]);
+        done += run + 1;
+        copy_chunk(room, at, &text[done..]);
+        marks = marks >> run >> 1;
+    }
+}
+
 /// Copies the first `len` bytes of a text to a place, with escapes as JSON has them. There is room for six times as many
 /// bytes and 32 more. Answers where they end.
 #[inline(always)]
@@ -188,13 +196,13 @@ pub fn copy_escaped(room: &mut [u8], from: usize, text: &[u8], len: usize) -> us
     let mut at = from;
     let mut done = 0;
     while done < len {
-        let run = copy_run(room, at, &text[done..], len - done);
-        at += run;
-        done += run;
-        if run < AT_ONCE && done < len {
-            at = copy_byte(room, at, text[done]);
-            done += 1;
-        }
+        let part = if len - done < AT_ONCE {
+            len - done
+        } else {
+            AT_ONCE
+        };
+        at = copy_block(room, at, &text[done..], part);
+        done += part;
     }
     at
 }

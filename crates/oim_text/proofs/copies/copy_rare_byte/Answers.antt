@@ -1,7 +1,7 @@
 use Rattle.std.proofs.Common.{◌≡◌, ◌+◌, ◌-◌, ◌∙◌, ap, take, arith}
 use Rattle.oim_json.specs.JsonText.{escaped_byte}
 use Rattle.oim_text.proofs.PlacedBytes.{Placed-put_mid}
-use Rattle.oim_text.proofs.copies.copy_byte.Goals as goal
+use Rattle.oim_text.proofs.copies.copy_rare_byte.Goals as goal
 
 pub returns-clause-bytes : goal.returns-clause-bytes
 returns-clause-bytes c =
