@@ -102,7 +102,8 @@ def columns_of(template: Object) -> Object:
 
 
 def template_without(name: str, owner: Optional[str], columns: Dict[str, Object]) -> Optional[str]:
-    """The first template in which a reference is one to a parameter, which a template makes, or the report's own level (None): no column has the name."""
+    """The first template of those that a reference stands in which has no column of the name, so that only a parameter can have it. `owner` is the
+    template that refers, or None for the report's own level, which all have."""
     return None if name == ROW_NUMBER else next((it for it in (columns if owner is None else [owner]) if name not in columns[it]), None)
 
 

@@ -156,6 +156,14 @@ def ends(folder: Path) -> None:
     stands("a types table that is not there", 3, HEADER)
 
 
+def read_once_only(file: Path) -> None:
+    """Puts a named pipe in a file's place, which gives what the file holds to the first who reads it."""
+    content = file.read_bytes()
+    file.unlink()
+    os.mkfifo(file)
+    threading.Thread(target=lambda: file.write_bytes(content), daemon=True).start()
+
+
 def of_the_report(folder: Path) -> None:
     """A fault of the metadata, the types table or the parameters file: its record, with the place and what stands there as --explain has them."""
 
@@ -184,10 +192,7 @@ def of_the_report(folder: Path) -> None:
     stands("a types table that is a folder", "17", "Read", "(the whole file)", "t.csv")
     (folder / "t.csv").rmdir()
     write(folder, {"t1": b"cash\n1\n"}, links={"a": {}})
-    report = (folder / "r/m.json").read_bytes()
-    (folder / "r/m.json").unlink()
-    os.mkfifo(folder / "r/m.json")
-    threading.Thread(target=lambda: (folder / "r/m.json").write_bytes(report), daemon=True).start()
+    read_once_only(folder / "r/m.json")
     seen = run(folder, "--faults", "f.csv")
     content = (folder / "f.csv").read_bytes()
     case("a metadata that cannot be read twice", seen[0] == 1 and content == HEADER + b",0,0,5,Unsupported,,,(the whole file),r/m.json\n", seen, content)
@@ -303,19 +308,15 @@ def places(folder: Path) -> None:
 
 def read_once(folder: Path) -> None:
     """A table that cannot be read a second time."""
-    write(folder, {"t1": None, "t2": b"cash\nx\n"})
-    os.mkfifo(folder / "r/t1.csv")
-    threading.Thread(target=lambda: (folder / "r/t1.csv").write_bytes(b"cash\nx\n"), daemon=True).start()
+    write(folder, {"t1": b"cash\nx\n", "t2": b"cash\nx\n"})
+    read_once_only(folder / "r/t1.csv")
     seen = run(folder, "--faults", "f.csv")
     content = (folder / "f.csv").read_bytes()
     wanted = HEADER + b"t1,1,1,40,BadNumber,,,,\nt2,1,1,40,BadNumber,2,cash,x,\n"
     case("a table from a pipe", seen[0] == 1 and content == wanted, seen, content)
-    report = (folder / "r/m.json").read_bytes()
     (folder / "r/t1.csv").unlink()
     (folder / "r/t1.csv").write_bytes(b"cash\nx\n")
-    (folder / "r/m.json").unlink()
-    os.mkfifo(folder / "r/m.json")
-    threading.Thread(target=lambda: (folder / "r/m.json").write_bytes(report), daemon=True).start()
+    read_once_only(folder / "r/m.json")
     seen = run(folder, "--faults", "f.csv")
     content = (folder / "f.csv").read_bytes()
     case("a metadata from a pipe", seen[0] == 1 and content == HEADER + b"t1,1,1,40,BadNumber,,,,\nt2,1,1,40,BadNumber,,,,\n", seen, content)

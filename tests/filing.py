@@ -2816,6 +2816,10 @@ def list_of_parameters(folder: Path) -> None:
         case(f"no parameter at all, {form}", listed(folder, {"report": REPORT, "taxonomies": [TAXONOMY]}, form), (0, [], ""))
         lost = listed(folder, {"report": {**REPORT, "reports/report.json": "{"}, "taxonomies": [TAXONOMY]}, form)
         case(f"--parameters of no report, {form}", (lost[0], lost[1], lost[2].startswith("xbrl-filing: r/reports/report.json: ")), (1, [], True))
+
+
+def list_that_is_told(folder: Path) -> None:
+    """The list of a plain metadata, whose lines are compared byte for byte, and one that cannot be written."""
     listed(folder, {"report": REPORT, "taxonomies": [TAXONOMY]}, "folder")
     (folder / "w/m.json").write_text(meta(INFO, dimensions={"unit": "$unit"}, tableTemplates={"t": TEMPLATE}, tables={"t": {"url": "t.csv"}}))
     seen = start(["m.json", "--parameters"], folder / "w")
@@ -3442,6 +3446,7 @@ PARTS = (
     facts_that_do_without_a_parameter,
     parameters_that_are_no_loss,
     list_of_parameters,
+    list_that_is_told,
     temporary_files,
     signals,
     a_signal_between_two_steps,
