@@ -3,6 +3,7 @@
 
     tests/wrong_bodies.py [--alone] [CRATE ..]
     tests/wrong_bodies.py --gate [CRATE ..]
+    tests/wrong_bodies.py --gate --beside COMMAND WORD ..
 
 Run it where the crates and those below them are checked (`rt check` in each crate's folder, or a first build): it begins with
 that kept work, in a copy, and sees first that each crate is proved as it stands. A round applies as many edits of a crate as
@@ -13,12 +14,16 @@ one that changes no function but a constant, and one that showed no reason of it
 each edit is. With --gate only those of crates/*/gate are tried, with nothing kept, and a round's check proves no more than the
 functions that it changes and what these call: so it is for a repository whose crates were just proved as they stand, as the gate does
 it, and wants no more than their built libraries, those of `rt ci` too. As many crates are audited at once as there are processors and memory
-(3 GiB each), the largest first. Each edit has a line, and the last line is 'N refused, M not'; the status is 0 only where all are refused. Python
-3.9 or later is needed.
+(3 GiB each), the largest first. Each edit has a line, and the last line is 'N refused, M not'; the status is 0 only where all are refused.
+
+With --beside a command proves the crates, as `rt ci` does, and what it prints is passed on. As soon as it says of a crate that it is proved, the
+crate's edits are tried beside it, at the lowest priority, so that they take what processors are idle. Their lines follow the
+command's last one. Where the command fails, nothing more is tried, and the status is the command's. Python 3.9 or later is needed.
 """
 from __future__ import annotations
 
 import importlib
+import io
 import os
 import re
 import shutil
@@ -26,11 +31,12 @@ import signal
 import subprocess
 import sys
 import tempfile
+import threading
 import time
 from concurrent.futures import ThreadPoolExecutor
 from dataclasses import dataclass
 from pathlib import Path
-from typing import Any
+from typing import Any, TextIO
 
 TOP = Path(__file__).resolve().parent.parent
 GATE = "gate"
@@ -46,6 +52,8 @@ NOT_PROVED = r"fn {}::\S+: (not proved|no proof)"
 OF_CRATE = re.compile(r"(?:fn|struct|enum|trait|impl) (\w+)::")
 # A proof file that names what the edit took away: such a refusal says little of the contract.
 LOST = re.compile(r"has no field|is not in scope|has no `|was not admitted|: (?:record|module) `\S+`(?: \(nearest: .*\))?$")
+# What rt ci says of a crate that is proved.
+PROVED = re.compile(r"rt: (\w+) (?:proved$|is kept: )")
 # What the check says once each function has its line: the search for what might be written into the proof files.
 AFTER = re.compile(r"offer|help: write|`search`|logic=|statements ")
 # The text could not be compiled or read, so no contract was tried.
@@ -59,6 +67,10 @@ Texts = dict[str, str]
 
 class BadEdit(Exception):
     """The edit cannot be applied."""
+
+
+class Stopped(Exception):
+    """Nothing more is to be tried."""
 
 
 @dataclass(frozen=True)
@@ -242,10 +254,43 @@ def lone_reason(crate: str, said: list[str]) -> str | None:
     return next((it for it in said if re.match(NOT_PROVED.format(crate), it)), None)
 
 
+class Checks:
+    """The checks that run, so that all can be ended. Beside a command they have the lowest priority."""
+
+    def __init__(self, beside: bool):
+        self.words = [*(["nice", "-n", "19"] if beside else []), "rt", "check", "--jobs", "1"]
+        self.is_over = False
+        self.running: set[int] = set()
+        self.lock = threading.Lock()
+
+    def begin(self, flags: list[str], folder: Path) -> subprocess.Popen[str]:
+        """A check in a folder, unless nothing more is to be tried."""
+        with self.lock:
+            if self.is_over:
+                raise Stopped
+            ran = subprocess.Popen([*self.words, *flags], cwd=folder, **QUIET)
+            self.running.add(ran.pid)
+        return ran
+
+    def end(self, ran: subprocess.Popen[str]) -> None:
+        """Ends a check, with what it runs."""
+        with self.lock:
+            self.running.discard(ran.pid)
+            if ran.poll() is None:
+                os.killpg(ran.pid, signal.SIGTERM)
+
+    def end_all(self) -> None:
+        with self.lock:
+            self.is_over = True
+            for it in self.running:
+                os.killpg(it, signal.SIGTERM)
+
+
 class Room:
     """A copy of the repository, where edits of one crate are applied and checked."""
 
-    def __init__(self, folder: Path):
+    def __init__(self, folder: Path, checks: Checks):
+        self.checks = checks
         self.crates = folder / "crates"
         shutil.copytree(TOP / "crates", self.crates, ignore=lambda at, names: ["out"] if Path(at).parent.name == "crates" else [])
         (folder / ".git").mkdir()
@@ -291,15 +336,19 @@ class Room:
         """What a check says up to the lines of the crate's functions, or to the first line of another crate, which it has to prove first."""
         lines: list[str] = []
         is_begun = False
-        with subprocess.Popen(["rt", "check", "--jobs", "1", *flags], cwd=folder, **QUIET) as ran:
-            for line in ran.stdout:
-                lines.append(line.rstrip("\n"))
-                is_begun = is_begun or line.startswith(f"fn {crate}::")
-                other = OF_CRATE.match(line)
-                if (is_begun and AFTER.match(line)) or (other and other[1] != crate):
-                    os.killpg(ran.pid, signal.SIGTERM)
-                    break
+        with self.checks.begin(flags, folder) as ran:
+            try:
+                for line in ran.stdout:
+                    lines.append(line.rstrip("\n"))
+                    is_begun = is_begun or line.startswith(f"fn {crate}::")
+                    other = OF_CRATE.match(line)
+                    if (is_begun and AFTER.match(line)) or (other and other[1] != crate):
+                        break
+            finally:
+                self.checks.end(ran)
             ran.stdout.read()
+        if self.checks.is_over:
+            raise Stopped
         return lines
 
 
@@ -328,17 +377,17 @@ def edits_of(crate: str, folders: tuple[str, ...]) -> list[Edit]:
 
 
 class Audit:
-    """The audit of one crate."""
+    """The audit of one crate, with where its lines go."""
 
-    def __init__(self, crate: str, way: Way):
-        self.crate, self.way = crate, way
+    def __init__(self, crate: str, way: Way, checks: Checks, out: TextIO):
+        self.crate, self.way, self.running, self.out = crate, way, checks, out
         self.checks = self.refused = self.others = 0
         self.before: set[str] = set()
 
     def tell(self, edit: Edit, why: str | None, otherwise: str = "NOT REFUSED") -> None:
         self.refused += why is not None
         self.others += why is None
-        print(f"{self.crate}/{edit.name}: {f'refused: {why}' if why else otherwise}", flush=True)
+        print(f"{self.crate}/{edit.name}: {f'refused: {why}' if why else otherwise}", file=self.out, flush=True)
 
     def applied(self, edits: list[Edit]) -> list[Edit]:
         """Those of these edits that can be applied; the others are told."""
@@ -355,7 +404,7 @@ class Audit:
         """Tries all edits, in a room of its own, and again alone those that showed no reason in company."""
         begun = time.time()
         with tempfile.TemporaryDirectory(prefix="wrong-bodies-") as name:
-            self.room = Room(Path(name))
+            self.room = Room(Path(name), self.running)
             self.room.furnish(libraries()[self.crate], self.way.gate)
             if not self.way.gate:
                 self.stands()
@@ -363,7 +412,7 @@ class Audit:
             again = self.rounds(self.applied(edits), self.way.alone)
             self.rounds(again, True)
         took = time.time() - begun
-        print(f"{self.crate}: {len(edits)} edits in {self.checks} checks, {took:.0f} seconds", flush=True)
+        print(f"{self.crate}: {len(edits)} edits in {self.checks} checks, {took:.0f} seconds", file=self.out, flush=True)
 
     def stands(self) -> None:
         """Ends the audit where the crate is not proved without any edit, since then a refusal says nothing."""
@@ -470,15 +519,47 @@ def run_all(audits: list[Audit]) -> None:
             raise
 
 
+def run_beside(audits: list[Audit], checks: Checks, command: list[str]) -> int:
+    """Runs a command that proves crates, and each audit once it has said that the crate is proved, half as many at once as else. Gives
+    its status, and where that is not 0 has ended the audits."""
+    left = {it.crate: it for it in audits}
+    few = (at_once() + 1) // 2
+    with ThreadPoolExecutor(few) as pool, subprocess.Popen(command, stdout=subprocess.PIPE, text=True, errors="replace") as ran:
+        begun = []
+        try:
+            for line in ran.stdout:
+                print(line, end="", flush=True)
+                said = PROVED.match(line)
+                if said and said[1] in left:
+                    begun.append(pool.submit(left.pop(said[1]).run))
+            if ran.wait() == 0:
+                begun += [pool.submit(it.run) for it in left.values()]
+                for it in begun:
+                    it.result()
+        finally:
+            checks.end_all()
+            pool.shutdown(wait=False, cancel_futures=True)
+    return ran.returncode
+
+
 def main(words: list[str]) -> int:
+    cut = words.index("--beside") if "--beside" in words else len(words)
+    words, command = words[:cut], words[cut + 1 :]
     way = Way("--gate" in words, "--alone" in words)
     crates = chosen([it for it in words if it not in ("--gate", "--alone")], way)
-    lacks = lacking(crates, way)
+    lacks = [] if command else lacking(crates, way)
     if lacks:
         print(*lacks, f"So nothing was tried: {BUILD}.", sep="\n")
         return 2
-    audits = [Audit(it, way) for it in crates]
-    run_all(audits)
+    checks = Checks(beside=bool(command))
+    audits = [Audit(it, way, checks, io.StringIO() if command else sys.stdout) for it in crates]
+    if command:
+        status = run_beside(audits, checks, command)
+        if status:
+            return status
+        print(*(it.out.getvalue() for it in audits), sep="", end="")
+    else:
+        run_all(audits)
     refused, others = sum(it.refused for it in audits), sum(it.others for it in audits)
     print(f"{refused} refused, {others} not")
     return 1 if others else 0

@@ -28,7 +28,7 @@ pub(crate) fn wrong_numeral(cell: &str) -> Option<&'static str> {
         return Some("behind the d of a numeral stands neither a whole number of 32 bits nor INF");
     }
     if matches!(text, "INF" | "+INF" | "-INF" | "NaN") {
-        return Some("INF and NaN are numbers that cannot be carried over");
+        return Some("INF and NaN are values that cannot be carried over");
     }
     if text.split_once(',').is_some() {
         return Some("a numeral has no separators of thousands, and its decimal sign is a point");

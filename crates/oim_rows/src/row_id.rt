@@ -93,7 +93,7 @@ impl<'a> Sought<'a> {
 
 impl RowId {
     /// A copy of a text. Fails where memory is short, which it is not for a text of up to 23 bytes.
-    #[inline]
+    #[inline(always)]
     pub fn new(alloc: Global, text: &str) -> Result<RowId, AllocError>
         ensures { IfOk result (λ id. id ≡ text.now) }
     {

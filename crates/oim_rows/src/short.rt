@@ -27,6 +27,7 @@ impl Model for ShortText {
 
 impl ShortText {
     /// A copy of a text, if it has up to 23 bytes.
+    #[inline(always)]
     pub(crate) fn of(text: &str) -> Option<ShortText>
         ensures text { IfSome result (λ short. short ≡ text.now) }
         ensures none { IfNone result (23 < length text.now) }

@@ -217,8 +217,8 @@ fn write_file(
 }
 
 /// Writes the file of the faults, if the words name one, for a run that ended so with status 0 or 1: its header, and a
-/// record for each refused table, or for the fault of the report's other files. The file has that once it is whole, and is else as it was. The answer is
-/// that it cannot be written, if that is so.
+/// record for each refused table, or for the fault of the report's other files. The file has that once it is
+/// whole, and is else as it was. The answer is that it cannot be written, if that is so.
 pub fn write_faults(
     rt: &HostRuntime,
     alloc: Global,
