@@ -10,7 +10,8 @@ from typing import Dict, List, Optional, Tuple
 from .cache import Cache, key_of
 from .catalog import CATALOG
 from .chain import Chain
-from .converter_lines import ConverterLines
+from .converter_lines import ConverterLines, put
+from .every_fault import Fault, Search, fault_list, read_faults
 from .final import check_final
 from .finding import Finder, Found
 from .kinds import REASONS, Kinds, kinds_of
@@ -31,6 +32,7 @@ from .types_table import types_table
 from .words import HELP, Settings, asked, read_words
 
 NAME = "xbrl-filing"
+FAULTS = "faults.csv"
 
 
 def main(words: List[str], program: str) -> int:
@@ -89,7 +91,10 @@ def put_out(text: str) -> int:
 
 
 def run(settings: Settings, program: str, progress: Progress, stopping: Stopping) -> int:
-    """Makes the two plain files, in the folder of `--prepare` or in a temporary one that xbrl-json reads; or tells of the parameters."""
+    """Makes the two plain files, in the folder of `--prepare` or in a temporary one that xbrl-json reads; or tells of the parameters, or of the faults."""
+    if settings.types is not None:
+        with temporary_folder(temporary_place(), f"{NAME}-", stopping) as folder:
+            return tell_faults(settings.report, settings.types, folder, None, program, progress, stopping)
     report, packages = open_inputs(settings)
     refuse_outputs(settings, packages, None)
     place = None if settings.prepare is None else place_of(settings.prepare)
@@ -114,6 +119,10 @@ def convert(origins: Origins, files: Files, types: bytes, settings: Settings, pr
     """Runs xbrl-json over a temporary folder, and answers its status. On a terminal, the line of its --progress is its own."""
     with temporary_folder(temporary_place(), f"{NAME}-", stopping) as folder:
         lines = ConverterLines(origins, folder, write_files(folder, files, types, copy=False))
+        if settings.every_fault:
+            below = os.path.join(folder, os.urandom(8).hex())
+            os.mkdir(below)
+            return tell_faults(os.path.join(folder, META), os.path.join(folder, TYPES), below, lines, program, progress, stopping)
         progress.clear()
         words = [program, os.path.join(folder, META), "--types", os.path.join(folder, TYPES), *settings.rest]
         heard = "--explain" in settings.rest or "--progress" not in settings.rest
@@ -122,6 +131,40 @@ def convert(origins: Origins, files: Files, types: bytes, settings: Settings, pr
         if more:
             tell(f"{NAME}: {printable(more)}")
         return status
+
+
+class Unread(Exception):
+    """A run of xbrl-json that tells of no faults: its status. What it has said is handed on."""
+
+    def __init__(self, status: int) -> None:
+        super().__init__(status)
+        self.status = status
+
+
+def tell_faults(meta: str, types: str, folder: str, lines: Optional[ConverterLines], program: str, progress: Progress, stopping: Stopping) -> int:
+    """Prints the faults of a report in plain form, looked for in a folder that holds nothing else. Status 1 where there are some."""
+    output = os.path.join(folder, FAULTS)
+
+    def refused(meta: str) -> List[Fault]:
+        said: List[bytes] = []
+        words = [program, meta, "--types", types, "--out", os.devnull, "--faults", output]
+        status = run_program(words, stopping, said.append)
+        if status > 1:
+            progress.clear()
+            (lines.hear if lines else put)(b"".join(said))
+            raise Unread(status)
+        return read_faults(output)
+
+    search = Search(meta, types, folder, refused)
+    try:
+        faults = search.all(progress.say)
+    except Unread as unread:
+        return unread.status
+    progress.clear()
+    put_out(fault_list(it._replace(place=lines.place(it.place)) if lines else it for it in faults))
+    for table, why in search.cut.items():
+        tell(f"{NAME}: table {printable(table)}: {why}")
+    return WRONG if faults else 0
 
 
 def tell_parameters(report: Found, packages: List[Package], progress: Progress) -> int:

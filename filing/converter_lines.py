@@ -45,14 +45,22 @@ class ConverterLines:
         """A line as it is handed on: byte for byte, but for the names of files and places."""
         text = line.decode("utf-8", "surrogateescape")
         self.of_metadata = self.of_metadata or text.startswith(FAULT_OF_METADATA)
-        before, *behind = text.split(self.folder)
-        text = before + "".join(self.named(it) for it in behind)
+        text = self.renamed(text)
         found = PLACE.fullmatch(text)
         place = self.origins.place(found[2]) if found else None
         if found and place:
             self.placed = True
             text = f"{found[1]}{place[0]}: {place[1]}"
         return (escaped(text) if self.for_terminal else text).encode("utf-8", "surrogateescape")
+
+    def place(self, text: str) -> str:
+        """A place in the file of `--faults`, as the filing names it."""
+        found = self.origins.place(text)
+        return f"{found[0]}: {found[1]}" if found else self.renamed(text)
+
+    def renamed(self, text: str) -> str:
+        before, *behind = text.split(self.folder)
+        return before + "".join(self.named(it) for it in behind)
 
     def named(self, rest: str) -> str:
         """What stands behind the folder's path in a line, with the file's name in the filing: it has the longest of the names that fit."""

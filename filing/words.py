@@ -14,6 +14,8 @@ Converts a filing to xBRL-JSON: a report package, whose metadata may extend what
     {USAGE}
     xbrl-filing REPORT --taxonomy PACKAGE.. --prepare FOLDER
     xbrl-filing REPORT --taxonomy PACKAGE.. --parameters
+    xbrl-filing REPORT --taxonomy PACKAGE.. --every-fault
+    xbrl-filing META --types FILE --every-fault
 
 It makes two plain files, a metadata file without `extends` and a types table, and hands them to xbrl-json.
 It is not proved: the guarantee of xbrl-json begins at the two plain files that it writes, which anyone can read.
@@ -22,6 +24,8 @@ REPORT                  a report package (a ZIP or an unpacked folder), or a met
 --taxonomy PACKAGE..    taxonomy packages (ZIPs or folders); all words up to the next one that begins with `--`
 --prepare FOLDER        only makes FOLDER, which is new or empty: meta.json, types.csv, and the report's tables and parameters
 --parameters            only prints each parameter that has a value or is referred to, as CSV: its value, and where it is referred to
+--every-fault           only prints the faults of xbrl-json, as CSV in the form of its --faults: of each row of a table that has one its first
+--types FILE            with --every-fault: the types table of META, a report in plain form, in the place of packages
 --cache FOLDER          keeps there what the schemas say, so that the next filing of the same taxonomy starts at once
 --unpacked-limit BYTES  how much one ZIP may unpack to ({DEFAULT_LIMIT})
 -h, --help              prints help
@@ -30,14 +34,15 @@ REPORT                  a report package (a ZIP or an unpacked folder), or a met
 All other words go to xbrl-json: --out FILE, --workers N, --ring K, --layout L, --progress .. (`xbrl-json --help` tells of them).
 Nothing is ever fetched: a URL that no package has is an error. Inputs are not changed.
 
-Status 0: the document is written. 1: the report or its taxonomy is wrong, or xbrl-json found a fault. 2: the words are no
+Status 0: the document is written, or there is no fault. 1: the report or its taxonomy is wrong, or xbrl-json found a fault. 2: the words are no
 command line. 3: a file is not there, or cannot be read or written. The variable XBRL_JSON may name another xbrl-json.
 """
 # The words of xbrl-json, also those that it is to have.
 OUTPUTS = ("--out", "--faults")
 WITH_VALUE = (*OUTPUTS, "--workers", "--ring", "--layout")
 WITHOUT_VALUE = ("--progress", "--explain", "--whole")
-OWN_WITH_VALUE = ("--prepare", "--cache", "--unpacked-limit")
+OWN_WITH_VALUE = ("--prepare", "--cache", "--types", "--unpacked-limit")
+OWN_WITHOUT_VALUE = ("--parameters", "--every-fault")
 # The words that ask for something in the place of a run, and what.
 ASKING = {"-h": "--help", "--help": "--help", "-V": "--version", "--version": "--version"}
 
@@ -50,6 +55,8 @@ class Settings:
         self.taxonomy: List[str] = []
         self.prepare: Optional[str] = None
         self.parameters = False
+        self.every_fault = False
+        self.types: Optional[str] = None
         self.cache: Optional[str] = None
         self.limit = DEFAULT_LIMIT
         self.rest: List[str] = []
@@ -93,10 +100,10 @@ def read_words(words: List[str]) -> Settings:
             if "" in packages or not packages:
                 raise misuse("--taxonomy names no package")
             settings.taxonomy += packages
-        elif name == "--parameters":
+        elif name in OWN_WITHOUT_VALUE:
             if equals:
-                raise misuse("--parameters has no value")
-            settings.parameters = True
+                raise misuse(f"{name} has no value")
+            setattr(settings, name[2:].replace("-", "_"), True)
         elif name in OWN_WITH_VALUE:
             if not equals:
                 value = words[at] if at < len(words) and not words[at].startswith("--") and words[at] not in ASKING else ""
@@ -128,8 +135,6 @@ def take_own(settings: Settings, name: str, value: str) -> None:
 def take_other(settings: Settings, words: List[str], at: int) -> int:
     """Takes a word of xbrl-json, and the one after it where that is its value. A word that is not known may have one, once REPORT is there."""
     word = words[at - 1]
-    if word == "--types" or word.startswith("--types="):
-        raise misuse("--types is made from the taxonomy and cannot be given")
     settings.rest.append(word)
     plain = at < len(words) and not words[at].startswith("--")
     may_have_one = bool(settings.report) and word not in WITHOUT_VALUE and "=" not in word
@@ -142,9 +147,14 @@ def take_other(settings: Settings, words: List[str], at: int) -> int:
 def checked(settings: Settings) -> Settings:
     if not settings.report:
         raise misuse("there is no REPORT" + (": all words behind --taxonomy are packages, so it stands before" if settings.taxonomy else ""))
-    if settings.parameters and settings.prepare is not None:
-        raise misuse("--prepare and --parameters stand together, and each is a run of its own")
-    word = "--prepare" if settings.prepare is not None else "--parameters" if settings.parameters else None
-    if word is not None and settings.rest:
-        raise misuse(f"with {word} nothing is converted, so '{settings.rest[0]}' means nothing")
+    runs = [word for word, given in (("--prepare", settings.prepare is not None), ("--parameters", settings.parameters), ("--every-fault", settings.every_fault)) if given]
+    if len(runs) > 1:
+        raise misuse(f"{runs[0]} and {runs[1]} stand together, and each is a run of its own")
+    if settings.types is not None:
+        if not settings.every_fault:
+            raise misuse("--types is made from the taxonomy and cannot be given, but with --every-fault")
+        if settings.taxonomy:
+            raise misuse("--types and --taxonomy stand together, and each is in the place of the other")
+    if runs and settings.rest:
+        raise misuse(f"with {runs[0]} nothing is converted, so '{settings.rest[0]}' means nothing")
     return settings

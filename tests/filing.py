@@ -2713,8 +2713,15 @@ def words(folder: Path) -> None:
         (["r", "--out=x", "yes"], "'yes' is one word too many"),
         (["r", "--explain", "yes"], "'yes' is one word too many"),
         (["r", "--whole", "yes"], "'yes' is one word too many"),
-        (["r", "--taxonomy", "t", "--types", "x"], "--types is made from the taxonomy and cannot be given"),
-        (["r", "--types=x"], "--types is made from the taxonomy and cannot be given"),
+        (["r", "--taxonomy", "t", "--types", "x"], "--types is made from the taxonomy and cannot be given, but with --every-fault"),
+        (["r", "--types=x"], "--types is made from the taxonomy and cannot be given, but with --every-fault"),
+        (["r", "--types", "x", "--every-fault", "--taxonomy", "t"], "--types and --taxonomy stand together, and each is in the place of the other"),
+        (["r", "--types", "x", "--types", "y", "--every-fault"], "--types stands twice"),
+        (["r", "--every-fault", "--types"], "--types needs a value"),
+        (["r", "--every-fault", "--out", "b"], "with --every-fault nothing is converted, so '--out' means nothing"),
+        (["r", "--every-fault", "--prepare", "b"], "--prepare and --every-fault stand together, and each is a run of its own"),
+        (["r", "--every-fault", "--parameters"], "--parameters and --every-fault stand together, and each is a run of its own"),
+        (["r", "--every-fault=b"], "--every-fault has no value"),
         (["r", "--prepare"], "--prepare needs a value"),
         (["r", "--prepare", "--out", "x"], "--prepare needs a value"),
         (["r", "--prepare", "a", "--prepare", "b"], "--prepare stands twice"),
@@ -2739,7 +2746,7 @@ def words(folder: Path) -> None:
             case(f"{word} after {before} and before {after}", start([*before, word, *after], folder), (0, help_text, ""))
     for given, wanted in ((["-V", "-h"], version), (["-h", "--version"], help_text), (["--out", "x", "-V"], version), (["--whole", "-h"], help_text)):
         case(f"the first of several words: {given}", start(given, folder), (0, wanted, ""))
-    for option in ("--prepare", "--cache", "--unpacked-limit"):
+    for option in ("--prepare", "--cache", "--types", "--unpacked-limit"):
         for word in ("-V", "-h", "--help", "--version"):
             case(f"{word} is no value of {option}", run(["r", option, word], folder), (2, f"xbrl-filing: {option} needs a value{usage}"))
     for option in ("--out", "--workers"):
