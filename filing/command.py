@@ -10,8 +10,8 @@ from typing import Dict, List, Optional, Tuple
 from .cache import Cache, key_of
 from .catalog import CATALOG
 from .chain import Chain
-from .converter_lines import ConverterLines, put
-from .every_fault import Fault, Search, fault_list, read_faults
+from .converter_lines import ConverterLines, for_terminal, put
+from .every_fault import Converter, Search, Unread, fault_list
 from .final import check_final
 from .finding import Finder, Found
 from .kinds import REASONS, Kinds, kinds_of
@@ -32,7 +32,6 @@ from .types_table import types_table
 from .words import HELP, Settings, asked, read_words
 
 NAME = "xbrl-filing"
-FAULTS = "faults.csv"
 
 
 def main(words: List[str], program: str) -> int:
@@ -133,38 +132,31 @@ def convert(origins: Origins, files: Files, types: bytes, settings: Settings, pr
         return status
 
 
-class Unread(Exception):
-    """A run of xbrl-json that tells of no faults: its status. What it has said is handed on."""
-
-    def __init__(self, status: int) -> None:
-        super().__init__(status)
-        self.status = status
-
-
 def tell_faults(meta: str, types: str, folder: str, lines: Optional[ConverterLines], program: str, progress: Progress, stopping: Stopping) -> int:
     """Prints the faults of a report in plain form, looked for in a folder that holds nothing else. Status 1 where there are some."""
-    output = os.path.join(folder, FAULTS)
-
-    def refused(meta: str) -> List[Fault]:
-        said: List[bytes] = []
-        words = [program, meta, "--types", types, "--out", os.devnull, "--faults", output]
-        status = run_program(words, stopping, said.append)
-        if status > 1:
-            progress.clear()
-            (lines.hear if lines else put)(b"".join(said))
-            raise Unread(status)
-        return read_faults(output)
-
-    search = Search(meta, types, folder, refused)
+    search = Search(meta, folder, Converter(program, types, folder, stopping))
     try:
-        faults = search.all(progress.say)
+        faults = search.faults_of_report(progress.say)
     except Unread as unread:
+        progress.clear()
+        hand_on(unread.said, lines)
         return unread.status
     progress.clear()
     put_out(fault_list(it._replace(place=lines.place(it.place)) if lines else it for it in faults))
-    for table, why in search.cut.items():
-        tell(f"{NAME}: table {printable(table)}: {why}")
+    for table in filter(search.cut.get, search.faults):
+        tell(f"{NAME}: table {printable(table)}: {search.cut[table]}")
     return WRONG if faults else 0
+
+
+def hand_on(said: bytes, lines: Optional[ConverterLines]) -> None:
+    """Hands on what xbrl-json has said to its end, in the names of a filing if it is one."""
+    if lines is None:
+        put(for_terminal(said))
+        return
+    lines.hear(said)
+    more = lines.end()
+    if more:
+        tell(f"{NAME}: {printable(more)}")
 
 
 def tell_parameters(report: Found, packages: List[Package], progress: Progress) -> int:

@@ -68,6 +68,13 @@ class ConverterLines:
         return self.names[name] + rest[len(name) :] if name else self.folder + rest
 
 
+def for_terminal(said: bytes) -> bytes:
+    """Lines as standard error gets them: with control characters as escapes, where it is a terminal."""
+    if not (sys.stderr and sys.stderr.isatty()):
+        return said
+    return "\n".join(escaped(it) for it in said.decode("utf-8", "surrogateescape").split("\n")).encode("utf-8", "surrogateescape")
+
+
 def put(text: bytes) -> None:
     """Writes to standard error as it is, where there is one."""
     with suppress(OSError):

@@ -3,22 +3,24 @@ copy is read again."""
 
 from __future__ import annotations
 
-import csv
-import io
 import json
 import os
-import shutil
-import sys
 from typing import Any, Callable, Dict, Iterable, List, NamedTuple, Optional
 
-from .refusals import cannot_read
+from .csv_text import record, records
+from .packages import pieces_of_disk
+from .prepared import fill
+from .stopping import Stopping, run_program
 from .table_copy import TableCopy
 
 # Of how many rows of a table the faults are told.
 MOST = 100
 # The faults of one row alone, as docs/FAULTS.md numbers them. All others end the table.
 OF_A_ROW = frozenset((*range(26, 41), 44))
-META, PARAMETERS = "meta.json", "parameters.csv"
+META, PARAMETERS, FAULTS = "meta.json", "parameters.csv", "faults.csv"
+TOO_MANY = f"{MOST} rows have a fault, and more may have one: mend these first"
+READ_ONCE = "more rows may have a fault: a file of the report cannot be read a second time"
+CHANGED = "more rows may have a fault: a file of the report has changed meanwhile"
 
 
 class Fault(NamedTuple):
@@ -34,103 +36,122 @@ class Fault(NamedTuple):
     cell: str
     place: str
 
-    def is_of_a_row(self) -> bool:
-        return self.number in OF_A_ROW
 
-
-# A run of xbrl-json over a metadata file: the first fault of each refused table, or the one of another file.
-Run = Callable[[str], List[Fault]]
+def fault_list(faults: Iterable[Fault]) -> str:
+    """A CSV file of faults, in the form of `--faults`."""
+    return record(Fault._fields) + "".join(map(record, faults))
 
 
 def read_faults(path: str) -> List[Fault]:
     """The records of a file of `--faults`."""
-    csv.field_size_limit(sys.maxsize)
     with open(path, newline="", encoding="utf-8") as file:
-        records = list(csv.reader(file))[1:]
-    return [Fault(table, int(row), int(column), int(number), *more) for table, row, column, number, *more in records]
+        _, *rest = records(file.read())
+    return [Fault(table, int(row), int(column), int(number), *more) for table, row, column, number, *more in rest]
 
 
-def fault_list(faults: Iterable[Fault]) -> str:
-    """A CSV file of faults, in the form of `--faults`."""
-    text = io.StringIO()
-    writer = csv.writer(text, lineterminator="\n")
-    writer.writerow(Fault._fields)
-    writer.writerows(faults)
-    return text.getvalue()
+class Unread(Exception):
+    """A run of xbrl-json that tells of no faults: its status, and what it has said."""
+
+    def __init__(self, status: int, said: bytes) -> None:
+        super().__init__(status)
+        self.status = status
+        self.said = said
+
+
+class Converter:
+    """xbrl-json with a types table, whose faults go into a folder."""
+
+    def __init__(self, program: str, types: str, folder: str, stopping: Stopping) -> None:
+        self.program, self.types, self.stopping = program, types, stopping
+        self.faults = os.path.join(folder, FAULTS)
+
+    def run(self, meta: str) -> List[Fault]:
+        """The first fault of each refused table of a report, or the one of another file."""
+        said: List[bytes] = []
+        words = [self.program, f"--types={self.types}", "--out", os.devnull, "--faults", self.faults, "--", meta]
+        status = run_program(words, self.stopping, said.append)
+        if status > 1:
+            raise Unread(status, b"".join(said))
+        return read_faults(self.faults)
 
 
 class Search:
     """Looks for the faults of a report in plain form, in a folder of its own."""
 
-    def __init__(self, meta: str, types: str, folder: str, run: Run) -> None:
-        self.meta, self.types, self.folder, self.run = meta, types, folder, run
+    def __init__(self, meta: str, folder: str, converter: Converter) -> None:
+        self.meta, self.folder, self.converter = meta, folder, converter
+        self.value: Optional[Dict[str, Any]] = None  # the metadata with the copies in place of the files, once a table is read again
         self.copies: Dict[str, TableCopy] = {}
         self.faults: Dict[str, List[Fault]] = {}
         self.cut: Dict[str, str] = {}  # tables of which more rows may have a fault, and why these are not told
 
-    def all(self, say: Callable[[str], None]) -> List[Fault]:
-        """The faults that are found: by table, and of a table by row. Each time that the tables are read again is said."""
-        refused = self.run(self.meta)
-        while refused:
-            again = [it.table for it in refused if self.takes(it)]
-            if not again:
-                break
+    def faults_of_report(self, say: Callable[[str], None]) -> List[Fault]:
+        """The faults that are found: by table, and of a table by row. Each time that tables are read again is said."""
+        again = [it.table for it in self.converter.run(self.meta) if self.keep(it)]
+        while again:
             say(f"reading the tables again: {sum(map(len, self.faults.values()))} faults so far")
-            refused = self.run(self.rest_of_report(again))
+            refused = self.converter.run(self.rest_of_report(again))
+            if any(it.table not in again for it in refused):  # the copies are of another report than the first run read
+                self.cut.update(dict.fromkeys(again, CHANGED))
+                break
+            left = [it.table for it in refused if self.keep(it)]
+            for table in set(again).difference(left):
+                os.unlink(self.copies[table].path)
+            again = left
         return [fault for of_table in self.faults.values() for fault in of_table]
 
-    def takes(self, fault: Fault) -> bool:
-        """Keeps a fault, and takes its row out of the copy. Whether the table is to be read again."""
+    def keep(self, fault: Fault) -> bool:
+        """Keeps a fault, and takes its row out of the table's copy. Answers whether the table is to be read again."""
         copy = self.copies.get(fault.table)
         told = self.faults.setdefault(fault.table, [])
         told.append(fault if copy is None else fault._replace(row=copy.own_row(fault.row), line=copy.own_line(fault.line)))
-        if not fault.is_of_a_row():
+        if fault.number not in OF_A_ROW:
             return False
-        if len(told) == MOST:
-            self.cut[fault.table] = f"{MOST} rows have a fault, and more may have one: mend these first"
+        why = TOO_MANY if len(told) == MOST else self.take_out(fault)
+        if why:
+            self.cut[fault.table] = why
+        return not why
+
+    def take_out(self, fault: Fault) -> str:
+        """Takes the row of a fault out of the copy, which is made for the first one. Answers why not, where it cannot."""
+        if fault.table not in self.copies:
+            try:
+                if not self.make_copy(fault.table):
+                    return READ_ONCE
+            except (ValueError, LookupError, TypeError):  # the metadata is not that of the first run
+                return CHANGED
+        return "" if self.copies[fault.table].take_out(fault.row) else CHANGED
+
+    def make_copy(self, table: str) -> bool:
+        """Copies a table's file, and before the first one the parameters file. Answers whether all is there that is to be read again."""
+        if not (os.path.isfile(self.meta) and os.path.isfile(self.converter.types)):
             return False
-        copy = copy or self.copy_of(fault.table)
-        if copy is None:
-            self.cut[fault.table] = "more rows may have a fault: a file of the report cannot be read a second time"
+        if self.value is None:
+            with open(self.meta, encoding="utf-8") as file:
+                value = json.load(file)
+            if "parameterURL" in value:
+                if not self.copied(value["parameterURL"], PARAMETERS):
+                    return False
+                value["parameterURL"] = PARAMETERS
+            self.value = value
+        name = f"{len(self.copies)}.csv"
+        if not self.copied(self.value["tables"][table]["url"], name):
             return False
-        copy.take_out(fault.row)
+        self.copies[table] = TableCopy(os.path.join(self.folder, name))
         return True
 
-    def copy_of(self, table: str) -> Optional[TableCopy]:
-        """A copy of a table's file; None where it, or what is read beside it, is no file that can be read twice."""
-        if not (os.path.isfile(self.meta) and os.path.isfile(self.types)):
-            return None
-        value = self.report()
-        source = self.beside(value["tables"][table]["url"])
-        if not all(map(os.path.isfile, [source, *([self.beside(value["parameterURL"])] if "parameterURL" in value else [])])):
-            return None
-        self.copies[table] = TableCopy(copied(source, os.path.join(self.folder, f"{len(self.copies)}.csv")))
-        return self.copies[table]
+    def copied(self, url: str, name: str) -> bool:
+        """Copies a file of the report, if it is one that can be read again."""
+        source = os.path.join(os.path.dirname(self.meta), *url.split("/"))
+        if not os.path.isfile(source):
+            return False
+        fill(os.path.join(self.folder, name), pieces_of_disk(source, source))
+        return True
 
     def rest_of_report(self, tables: List[str]) -> str:
-        """Writes the metadata of the copies of these tables alone, and gives its path."""
-        value = self.report()
-        names = {it: os.path.basename(self.copies[it].path) for it in tables}
-        value["tables"] = {it: {**value["tables"][it], "url": name} for it, name in names.items()}
-        if "parameterURL" in value:
-            copied(self.beside(value["parameterURL"]), os.path.join(self.folder, PARAMETERS))
-            value["parameterURL"] = PARAMETERS
+        """Writes metadata with the copies of these tables alone, and gives its path."""
+        value = self.value or {}
+        copies = {it: {**value["tables"][it], "url": os.path.basename(self.copies[it].path)} for it in tables}
         path = os.path.join(self.folder, META)
-        with open(path, "w", encoding="ascii") as file:
-            json.dump(value, file)
+        fill(path, iter([json.dumps({**value, "tables": copies}).encode("ascii")]))
         return path
-
-    def report(self) -> Dict[str, Any]:
-        """The report's own metadata, of which xbrl-json has found no fault."""
-        with open(self.meta, encoding="utf-8-sig") as file:
-            return json.load(file)
-
-    def beside(self, url: str) -> str:
-        return os.path.join(os.path.dirname(self.meta), *url.split("/"))
-
-
-def copied(source: str, target: str) -> str:
-    try:
-        return shutil.copyfile(source, target)
-    except OSError as error:
-        raise cannot_read(source, error) from None

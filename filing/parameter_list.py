@@ -2,10 +2,9 @@
 
 from __future__ import annotations
 
-import csv
-import io
 from typing import Dict, Iterator, List, Set, Tuple
 
+from .csv_text import record
 from .metadata import Merged, Path, objects
 from .origins import Origins
 from .parameters import ROW_NUMBER, columns_of, parameters_of_file, parameters_of_metadata, placed_references, template_without
@@ -16,11 +15,7 @@ HEADER = "parameter", "value", "file", "references", "first reference"
 
 def parameter_list(origins: Origins, files: Files) -> str:
     """A CSV file: a record for each value of a parameter, and for each parameter without one to which something refers, in order of their names."""
-    text = io.StringIO()
-    writer = csv.writer(text, lineterminator="\n")
-    writer.writerow(HEADER)
-    writer.writerows(rows(origins, files))
-    return text.getvalue()
+    return record(HEADER) + "".join(map(record, rows(origins, files)))
 
 
 def rows(origins: Origins, files: Files) -> Iterator[Tuple[str, str, str, int, str]]:

@@ -96,7 +96,8 @@ def run_program(words: List[str], stopping: Stopping, hear: Optional[Hear] = Non
         with woken_by_signals() as reader:
             try:
                 with stopping.held():
-                    child = subprocess.Popen(words, stderr=subprocess.PIPE if hear else None)
+                    # A shell's `<(..)` and `>(..)` are descriptors that go on to the program; Python's own do not.
+                    child = subprocess.Popen(words, stderr=subprocess.PIPE if hear else None, close_fds=False)
                 listen(child, reader, hear)
             except Stopped as stopped:
                 if child is not None:

@@ -2,7 +2,7 @@
 
 from __future__ import annotations
 
-from typing import Iterator, List, Optional
+from typing import Iterator, List, Optional, Set
 
 from .refusals import WORDS, Refusal
 from .zip_entries import DEFAULT_LIMIT
@@ -43,6 +43,10 @@ WITH_VALUE = (*OUTPUTS, "--workers", "--ring", "--layout")
 WITHOUT_VALUE = ("--progress", "--explain", "--whole")
 OWN_WITH_VALUE = ("--prepare", "--cache", "--types", "--unpacked-limit")
 OWN_WITHOUT_VALUE = ("--parameters", "--every-fault")
+# The words of which each is a run of its own, in which nothing is converted.
+RUNS = ("--prepare", "--parameters", "--every-fault")
+# What means nothing beside --types: it is of packages.
+OF_PACKAGES = ("--taxonomy", "--cache", "--unpacked-limit")
 # The words that ask for something in the place of a run, and what.
 ASKING = {"-h": "--help", "--help": "--help", "-V": "--version", "--version": "--version"}
 
@@ -60,6 +64,7 @@ class Settings:
         self.cache: Optional[str] = None
         self.limit = DEFAULT_LIMIT
         self.rest: List[str] = []
+        self.given: Set[str] = set()  # the options of this program that stand there
 
     def outputs(self) -> Iterator[str]:
         """The files that xbrl-json is told to write."""
@@ -92,6 +97,8 @@ def read_words(words: List[str]) -> Settings:
     while at < len(words):
         name, equals, value = words[at].partition("=")
         at += 1
+        if name in ("--taxonomy", *OWN_WITH_VALUE, *OWN_WITHOUT_VALUE):
+            settings.given.add(name)
         if name == "--taxonomy":
             packages = [value] if equals else []
             while at < len(words) and not words[at].startswith("--"):
@@ -147,14 +154,15 @@ def take_other(settings: Settings, words: List[str], at: int) -> int:
 def checked(settings: Settings) -> Settings:
     if not settings.report:
         raise misuse("there is no REPORT" + (": all words behind --taxonomy are packages, so it stands before" if settings.taxonomy else ""))
-    runs = [word for word, given in (("--prepare", settings.prepare is not None), ("--parameters", settings.parameters), ("--every-fault", settings.every_fault)) if given]
+    runs = [it for it in RUNS if it in settings.given]
     if len(runs) > 1:
         raise misuse(f"{runs[0]} and {runs[1]} stand together, and each is a run of its own")
     if settings.types is not None:
         if not settings.every_fault:
-            raise misuse("--types is made from the taxonomy and cannot be given, but with --every-fault")
-        if settings.taxonomy:
-            raise misuse("--types and --taxonomy stand together, and each is in the place of the other")
+            raise misuse("--types stands with --every-fault alone: else it is made from the taxonomy")
+        beside = next((it for it in OF_PACKAGES if it in settings.given), None)
+        if beside:
+            raise misuse(f"--types is of a report without packages, so {beside} means nothing")
     if runs and settings.rest:
         raise misuse(f"with {runs[0]} nothing is converted, so '{settings.rest[0]}' means nothing")
     return settings

@@ -13,7 +13,9 @@ import csv
 import io
 import json
 import os
+import pty
 import random
+import resource
 import subprocess
 import sys
 import tempfile
@@ -42,7 +44,7 @@ class Row(NamedTuple):
     column: int = 0
 
 
-GOOD = [Row(it) for it in (b'1,x', b'2,"a ""b"" c"', b'"3","one\r\ntwo\nthree\rfour"', b'4,a"b"c', b'5,"a"b', b'6,""', b',\xc3\xa4', b'7,"a,b"', b'8,a"b', b'9,"x"",\n""y"')]
+GOOD = [Row(it) for it in (b'1,x', b'2,"a ""b"" c"', b'"3","one\r\ntwo\nthree\rfour"', b'4,a"b"c', b'5,"a"b', b'6,""', b',\xc3\xa4', b'7,"a,b"', b'8,a"b', b'9,"x"",\n""y"', b'10,a""')]
 BAD = [
     Row(b"1x,y", 40, 2),
     Row(b'"1\n0","a\r\n\r\nb"', 40, 2),
@@ -55,28 +57,28 @@ BAD = [
 ]
 
 
-def report(folder: Path, tables: dict[str, bytes], row_ids: bool = False, **parts: Any) -> None:
-    """Writes a report of these tables, all of one template."""
+def report(folder: Path, texts: dict[str, bytes], row_ids: bool = False, types: str = TYPES, **parts: Any) -> None:
+    """Writes a report of these tables, all of one template, if the parts say no other."""
     template: dict[str, Any] = {"columns": COLUMNS, **({"rowIdColumn": "id"} if row_ids else {})}
     info = {"documentType": CSV, "namespaces": {"eg": EG, "iso4217": "http://www.xbrl.org/2003/iso4217"}, "taxonomy": ["t.xsd"]}
-    named = {it: {"url": f"{it}/{it}.csv", "template": "p"} for it in tables}
+    named = {it: {"url": f"{it}/{it}.csv", "template": "p"} for it in texts}
     value = {"documentInfo": info, "tableTemplates": {"p": template}, "tables": named, "dimensions": DIMENSIONS, "parameterURL": "q/p.csv", **parts}
     folder.mkdir()
-    for name, text in {"meta.json": json.dumps(value).encode(), "types.csv": TYPES.encode(), "q/p.csv": b"name,value\nunit,iso4217:EUR\n"}.items():
+    for name, text in {"meta.json": json.dumps(value).encode(), "types.csv": types.encode(), "q/p.csv": b"name,value\nunit,iso4217:EUR\n"}.items():
         (folder / name).parent.mkdir(exist_ok=True)
         (folder / name).write_bytes(text)
-    for name, text in tables.items():
+    for name, text in texts.items():
         (folder / name).mkdir()
         (folder / name / f"{name}.csv").write_bytes(text)
 
 
-def start(*words: object, folder: Path) -> Tuple[int, List[List[str]], str]:
-    """Status, the records behind the header, and standard error of a run. Nothing may change or be left."""
+def start(*words: object, folder: Path, program: str = "", changes: bool = False, **more: Any) -> Tuple[int, List[List[str]], str]:
+    """Status, the records behind the header, and standard error of a run. Nothing may be left, nor changed but by the program of the test."""
     before, temporary = listing(folder), folder.parent / "tmp"
     temporary.mkdir(exist_ok=True)
-    env = {**os.environ, "XBRL_JSON": PROGRAM, "TMPDIR": str(temporary)}
-    done = subprocess.run([FILING, *map(str, words)], cwd=folder, env=env, stdin=subprocess.DEVNULL, capture_output=True, timeout=120)
-    case(f"{words}: inputs stay, and nothing is left", (listing(folder), os.listdir(temporary)) == (before, []), os.listdir(temporary))
+    env = {**os.environ, "XBRL_JSON": program or PROGRAM, "TMPDIR": str(temporary)}
+    done = subprocess.run([FILING, *map(str, words)], cwd=folder, env=env, stdin=subprocess.DEVNULL, capture_output=True, timeout=60, **more)
+    case(f"{words}: inputs stay, and nothing is left", (changes or listing(folder) == before) and not os.listdir(temporary), os.listdir(temporary))
     header, *records = list(csv.reader(io.StringIO(done.stdout.decode(), newline=""), strict=True)) or [[""]]
     case(f"{words}: the header", not done.stdout or ",".join(header) == HEADER, header)
     return done.returncode, records, done.stderr.decode(errors="replace")
@@ -86,8 +88,16 @@ def listing(folder: Path) -> dict[str, bytes]:
     return {str(it.relative_to(folder)): it.read_bytes() for it in sorted(folder.rglob("*")) if it.is_file()}
 
 
-def plain(folder: Path) -> Tuple[int, List[List[str]], str]:
-    return start("meta.json", "--types", "types.csv", "--every-fault", folder=folder)
+def plain(folder: Path, **more: Any) -> Tuple[int, List[List[str]], str]:
+    return start("meta.json", "--types", "types.csv", "--every-fault", folder=folder, **more)
+
+
+def fake(path: Path, script: str) -> str:
+    """A program in the place of xbrl-json: a script in which `first` is 1 in the first run, `faults` the file of the faults, and `real` runs xbrl-json."""
+    begin = f'#!/bin/bash\nreal() {{ {PROGRAM} "$@"; }}\nfaults=$5; first=0; [[ $7 == meta.json ]] && first=1\n'
+    path.write_text(begin + script)
+    path.chmod(0o755)
+    return str(path)
 
 
 def line_ends(text: bytes) -> int:
@@ -100,6 +110,7 @@ def made(dice: random.Random) -> Tuple[bytes, List[Tuple[str, str, str, str]]]:
     ends = dice.choice([[b"\n"], [b"\r\n"], [b"\r"], [b"\n", b"\r\n", b"\n\n", b"\r\n\r\n"], [b"\r", b"\r\r"]])
     text = dice.choice([b"", b"\xef\xbb\xbf"]) + b"".join(dice.choices(ends, k=dice.choice([0, 0, 2]))) + b"cash,note"
     wanted = []
+    row = 0
     for row in range(1, dice.randrange(1, 30)):
         record = dice.choice(GOOD if dice.random() < 0.6 else BAD)
         if not record.text:  # a cell alone, since nothing at all would be no record
@@ -108,6 +119,10 @@ def made(dice: random.Random) -> Tuple[bytes, List[Tuple[str, str, str, str]]]:
         if record.number:
             wanted.append((str(row), str(record.column and record.column - 1), str(record.number), str(line_ends(text) + 1)))
         text += record.text
+    if dice.random() < 0.2:  # quotes that are not closed reach to the end
+        text += dice.choice(ends)
+        wanted.append((str(row + 1), "1", "40", str(line_ends(text) + 1)))
+        return text + b'1x,"open' + dice.choice([b"", b"\n", b',"" \n\n1,2']), wanted
     return text + dice.choice([b"", dice.choice(ends)]), wanted
 
 
@@ -169,6 +184,120 @@ def no_table_at_fault(folder: Path) -> None:
     case("a types table that is not there", seen == (3, [], "xbrl-json: cannot read none.csv\n"), seen)
 
 
+def as_the_converter_writes(folder: Path) -> None:
+    """Where each table has one fault, what is printed is byte for byte what xbrl-json writes, with cells of all kinds."""
+    cells = [b'"1\rx"', b'"1\r\nx"', b'"1\n"', b'"1,5"', b'"1""2"', b"1 2x", b"x\xc3\xa4", b"1\0x", b"9" * 200000 + b"x"]
+    report(folder / "r", {f"t{number}": b"cash,note\n1,a\n" + cell + b",b\n2,c\n" for number, cell in enumerate(cells)})
+    words = ["meta.json", "--types", "types.csv"]
+    subprocess.run([PROGRAM, *words, "--faults", folder / "f.csv"], cwd=folder / "r", stdout=subprocess.DEVNULL, stderr=subprocess.DEVNULL, timeout=60)
+    done = subprocess.run([FILING, *words, "--every-fault"], cwd=folder / "r", env={**os.environ, "XBRL_JSON": PROGRAM}, capture_output=True, timeout=60)
+    wanted = (folder / "f.csv").read_bytes()
+    case("as xbrl-json writes", (done.returncode, done.stderr, done.stdout) == (1, b"", wanted), done.stderr, done.stdout[:300], wanted[:300])
+
+
+def each_fault_of_a_row(folder: Path) -> None:
+    """Each fault of a row in two rows of a table of its own, with good rows between: both are told."""
+    fact = {"concept": "$c", "unit": "$u", "period": "$p"}
+    columns = {
+        "c": {},
+        "u": {},
+        "p": {},
+        "q": {},
+        "d": {},
+        "k": {"propertyGroups": {"g": {}}},
+        "cash": {"dimensions": fact, "decimals": "$d", "propertiesFrom": ["k"]},
+        "note": {"dimensions": {"concept": "eg:Note", "period": "$q@start"}},
+        "day": {"dimensions": {"concept": "eg:Day"}},
+    }
+    good = {"c": "eg:Cash", "u": "iso4217:EUR", "p": "2024", "q": "2024", "d": "2", "k": "g", "cash": "1", "note": "a", "day": "2024-02-29"}
+    bad = {
+        31: {"note": "#x"},
+        32: {"k": "h"},
+        33: {"c": ""},
+        34: {"c": "eg:Gold"},
+        35: {"c": "#nil"},
+        36: {"u": "E U R"},
+        37: {"p": "2024-13"},
+        38: {"q": "2024-01-01T00:00:00"},
+        39: {"d": "two"},
+        40: {"cash": "1x"},
+        44: {"day": "2023-02-29"},
+    }
+    rows = {number: [good, {**good, **change}, good, {**good, **change}] for number, change in bad.items()}
+    tables = {f"n{number}": "\n".join([",".join(good), *(",".join(it.values()) for it in of_table), ""]).encode() for number, of_table in rows.items()}
+    types = f"namespace,name,type2\n{EG},Cash,decimal\n{EG},Note,text\n{EG},Day,date\n"
+    report(folder / "r", tables, types=types, tableTemplates={"p": {"columns": columns}})
+    status, records, err = plain(folder / "r")
+    seen = [(table, row, number) for table, row, _, number, *_ in records]
+    wanted = [(f"n{number}", row, str(number)) for number in bad for row in ("2", "4")]
+    case("each fault of a row", (status, seen, err) == (1, wanted, ""), status, seen, err)
+
+
+def names_and_members(folder: Path) -> None:
+    """Tables whose names the folder of the copies could have, with what their metadata says of them alone, and metadata with letters beyond ASCII."""
+    names = ["meta", "parameters", "faults", "types", "x"]
+    template = {"columns": {"cash": {"dimensions": {"concept": "$c"}}, "note": {}}}
+    tables = {it: {"url": f"{it}/x.csv", "template": "p", "parameters": {"c": "eg:Cash"}} for it in names}
+    report(folder / "r", {}, tableTemplates={"p": template}, tables=tables, other="ä")
+    for it in names:
+        (folder / "r" / it).mkdir()
+        (folder / "r" / it / "x.csv").write_bytes(b"cash,note\n" + it.encode() + b" x,a\n1,b\n" + it.encode() + b" y,c\n")
+    text = json.dumps(json.loads((folder / "r/meta.json").read_text()), ensure_ascii=False)
+    (folder / "r/meta.json").write_text(text, encoding="utf-8")
+    status, records, err = plain(folder / "r")
+    seen = [(table, row, cell) for table, row, _, _, _, _, _, cell, _ in records]
+    wanted = [(it, row, f"{it} {cell}") for it in sorted(names) for row, cell in (("1", "x"), ("3", "y"))]
+    case("names and members", (status, seen, err) == (1, wanted, ""), status, seen, err)
+    (folder / "r/meta.json").rename(folder / "r/-m.json")
+    case("metadata that begins with a hyphen", start("-m.json", "--types=types.csv", "--every-fault", folder=folder / "r") == (status, records, err))
+
+
+def other_ends(folder: Path) -> None:
+    """What xbrl-json may answer besides: a later fault that is of no row, and an end without faults, whose lines are handed on."""
+    at = folder / "r"
+    report(at, {"t": b"cash,note\nx,a\n1,b\ny,c\n"})
+    header = "table,row,column,number,name,line,header,cell,place"
+    first = ["t", "1", "1", "40", "BadNumber", "2", "cash", "x", ""]
+    for record, wanted in (
+        ("t,0,0,42,Memory,,,,", ["t", "0", "0", "42", "Memory", "", "", "", ""]),
+        ("t,2,0,41,TooManyRows,9,,,", ["t", "3", "0", "41", "TooManyRows", "6", "", "", ""]),
+    ):
+        program = fake(folder / "fake", f'if ((first)); then real "$@"; exit; fi; printf "{header}\\n{record}\\n" > "$faults"; exit 1\n')
+        case(f"then {record}", plain(at, program=program) == (1, [first, wanted], ""), plain(at, program=program))
+    for end, wanted in (("exit 2", 2), ("exit 3", 3), ("exit 7", 7), ("kill -9 $$", 137)):
+        for begun in ("", 'if ((first)); then real "$@" 2>/dev/null; exit; fi\n'):
+            program = fake(folder / "fake", f"{begun}echo one >&2; sleep 0.1; printf two >&2; {end}\n")
+            case(f"{end} {begun}", plain(at, program=program) == (wanted, [], "one\ntwo"), plain(at, program=program))
+
+
+def files_that_change(folder: Path) -> None:
+    """A file that changes behind the first run: what was found is told, and that there may be more."""
+    wanted = "xbrl-filing: table t: more rows may have a fault: a file of the report has changed meanwhile\n"
+    for number, (what, text) in enumerate(
+        [("t/t.csv", b""), ("t/t.csv", b"cash"), ("meta.json", b"{}"), ("meta.json", b"{"), ("meta.json", b'{"tables": {"t": 1}}'), ("q/p.csv", b"x\n")]
+    ):
+        at = folder / str(number)
+        report(at, {"t": b"cash,note\nx,a\ny,b\n"})
+        (folder / "new").write_bytes(text)
+        program = fake(folder / "fake", f'real "$@" 2>/dev/null; status=$?; ((first)) && cp {folder}/new {at}/{what}; exit $status\n')
+        status, records, err = plain(at, program=program, changes=True)
+        case(f"{what} becomes {text!r}", (status, [it[:4] for it in records], err) == (1, [["t", "1", "1", "40"]], wanted), status, records, err)
+
+
+def where_it_cannot_write(folder: Path) -> None:
+    """Copies that cannot be written, and the words of xbrl-json on a terminal."""
+    report(folder / "r", {"t": b"cash,note\nx,a\n" + b"1,b\n" * 10000})
+    seen = plain(folder / "r", preexec_fn=lambda: resource.setrlimit(resource.RLIMIT_FSIZE, (20000, 20000)))
+    case("a copy that cannot be written", (seen[:2], seen[2].endswith("/0.csv: cannot write (File too large)\n")) == ((3, []), True), seen)
+    controller, terminal = pty.openpty()
+    words = [FILING, "meta.json", "--types", "no\x1b[31m.csv", "--every-fault"]
+    done = subprocess.run(words, cwd=folder / "r", env={**os.environ, "XBRL_JSON": PROGRAM}, stdout=subprocess.DEVNULL, stderr=terminal, timeout=60)
+    os.close(terminal)
+    shown = os.read(controller, 4096)
+    os.close(controller)
+    case("a line on a terminal", (done.returncode, shown) == (3, b"xbrl-json: cannot read no\\x1b[31m.csv\r\n"), done.returncode, shown)
+
+
 def many_faults(folder: Path) -> None:
     """Of a hundred rows of a table the faults are told, and a line says that there may be more. The table beside it is told whole."""
     report(folder / "r", {"a": b"cash,note\n" + b"x,y\n" * 150, "b": b"cash,note\n" + b"x,y\n" * 100, "c": b"cash,note\n" + b"1,y\nx,y\n" * 99})
@@ -190,9 +319,18 @@ def files_that_are_read_once(folder: Path) -> None:
         writer = threading.Thread(target=lambda: (at / what).write_bytes(text), daemon=True)
         writer.start()
         status, records, err = plain(at)
-        writer.join(60)
+        writer.join(20)
         wanted = "xbrl-filing: table t: more rows may have a fault: a file of the report cannot be read a second time\n"
         case(f"a {name} that is a pipe", (status, [it[:4] for it in records], err) == (1, [["t", "1", "1", "40"]], wanted), status, records, err)
+
+
+def files_of_a_shell(folder: Path) -> None:
+    """A types table that a shell gives as a descriptor."""
+    report(folder / "r", {"t": b"cash,note\nx,a\ny,b\n"})
+    line = f"{FILING} meta.json --types <(cat types.csv) --every-fault | cut -d, -f-4"
+    done = subprocess.run(["bash", "-c", line], cwd=folder / "r", env={**os.environ, "XBRL_JSON": PROGRAM}, capture_output=True, timeout=60)
+    wanted = b"xbrl-filing: table t: more rows may have a fault: a file of the report cannot be read a second time\n"
+    case("a types table of a shell", (done.stdout, done.stderr) == (b"table,row,column,number\nt,1,1,40\n", wanted), done.stdout, done.stderr)
 
 
 def filings(folder: Path) -> None:
@@ -211,6 +349,7 @@ def filings(folder: Path) -> None:
         for dimension, wanted in (
             ("eg:E", [["t", "1", "1", "40", "BadNumber", "2", "cash", "x", ""], ["t", "3", "1", "40", "BadNumber", "4", "cash", "y", ""]]),
             ("#x", [["", "0", "0", "11", "BadDimension", "", "", '"#x"', "t/reg/mod.json: /dimensions/entity"]]),
+            ("$e", [["", "0", "0", "13", "BadParameter", "", "", "(a record of 1)", "r/reports/p.csv, line 3"]]),
         ):
             module = {
                 "documentInfo": info,
@@ -219,13 +358,14 @@ def filings(folder: Path) -> None:
                 "dimensions": {"entity": dimension, "period": "2024", "unit": "iso4217:EUR"},
             }
             files = {
-                "r/reports/report.json": json.dumps({"documentInfo": {"documentType": CSV, "extends": ["http://reg.example/mod.json"]}}),
+                "r/reports/report.json": json.dumps({"documentInfo": {"documentType": CSV, "extends": ["http://reg.example/mod.json"]}, "parameterURL": "p.csv"}),
+                "r/reports/p.csv": "name,value\ne,eg:E\n" + ("b\n" if dimension == "$e" else ""),
                 "r/reports/t.csv": "cash,note\nx,a\n1,b\ny,c\n",
                 "t/META-INF/catalog.xml": catalog,
                 "t/reg/mod.json": json.dumps(module),
                 "t/reg/mod.xsd": schema,
             }
-            at = folder / f"{form}{len(wanted)}"
+            at = folder / f"{form}{dimension[:1].encode().hex()}"
             at.mkdir()
             for top in ("r", "t"):
                 parts = {it[2:]: text for it, text in files.items() if it.startswith(top)}
@@ -246,11 +386,18 @@ def main() -> int:
     parts = (
         tables_of_all_kinds,
         fields_of_a_record,
+        as_the_converter_writes,
+        each_fault_of_a_row,
+        names_and_members,
         identifiers,
         faults_of_whole_files,
         no_table_at_fault,
         many_faults,
         files_that_are_read_once,
+        files_that_change,
+        files_of_a_shell,
+        other_ends,
+        where_it_cannot_write,
         filings,
     )
     for part in parts:

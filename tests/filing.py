@@ -2713,9 +2713,11 @@ def words(folder: Path) -> None:
         (["r", "--out=x", "yes"], "'yes' is one word too many"),
         (["r", "--explain", "yes"], "'yes' is one word too many"),
         (["r", "--whole", "yes"], "'yes' is one word too many"),
-        (["r", "--taxonomy", "t", "--types", "x"], "--types is made from the taxonomy and cannot be given, but with --every-fault"),
-        (["r", "--types=x"], "--types is made from the taxonomy and cannot be given, but with --every-fault"),
-        (["r", "--types", "x", "--every-fault", "--taxonomy", "t"], "--types and --taxonomy stand together, and each is in the place of the other"),
+        (["r", "--taxonomy", "t", "--types", "x"], "--types stands with --every-fault alone: else it is made from the taxonomy"),
+        (["r", "--types=x"], "--types stands with --every-fault alone: else it is made from the taxonomy"),
+        (["r", "--types", "x", "--every-fault", "--taxonomy", "t"], "--types is of a report without packages, so --taxonomy means nothing"),
+        (["r", "--types", "x", "--every-fault", "--cache", "c"], "--types is of a report without packages, so --cache means nothing"),
+        (["r", "--types", "x", "--every-fault", "--unpacked-limit=1"], "--types is of a report without packages, so --unpacked-limit means nothing"),
         (["r", "--types", "x", "--types", "y", "--every-fault"], "--types stands twice"),
         (["r", "--every-fault", "--types"], "--types needs a value"),
         (["r", "--every-fault", "--out", "b"], "with --every-fault nothing is converted, so '--out' means nothing"),
@@ -2744,7 +2746,7 @@ def words(folder: Path) -> None:
             case(f"{word} after {before} and before {after}", start([*before, word, *after], folder), (0, version, ""))
         for word in ("-h", "--help"):
             case(f"{word} after {before} and before {after}", start([*before, word, *after], folder), (0, help_text, ""))
-    for given, wanted in ((["-V", "-h"], version), (["-h", "--version"], help_text), (["--out", "x", "-V"], version), (["--whole", "-h"], help_text)):
+    for given, wanted in ((["r", "--every-fault", "-V"], version), (["-V", "-h"], version), (["-h", "--version"], help_text), (["--out", "x", "-V"], version), (["--whole", "-h"], help_text)):
         case(f"the first of several words: {given}", start(given, folder), (0, wanted, ""))
     for option in ("--prepare", "--cache", "--types", "--unpacked-limit"):
         for word in ("-V", "-h", "--help", "--version"):
