@@ -7,7 +7,8 @@
 `rt ci` prints no times. So while the command runs, this script looks twice a second at the processes below it, and notes the
 processor time of each (user and system), with the crate that it is about and its kind: a crate's own proof, the check and the run
 of its tests, the tries of its wrong bodies, and the builds and the runs of a program. What the system says of the whole is the
-last row: what is more than the rows above is `rt` itself, and what ended between two looks. What `rt ci` takes from earlier runs
+last row: what is more than the rows above is `rt` itself, and what ended between two looks. The checks of wrong bodies that
+`tests/wrong_bodies.py` ends are not in that, so with many of them there is no such row. What `rt ci` takes from earlier runs
 costs nothing and is named under the table: for figures from nothing there must be no such crate (`rt ci --anew`). Processor times
 grow with the load, up to twice, so measure on a machine that does nothing else. Who ends this script by SIGTERM ends the command, and
 has the times so far. Linux and Python 3.9 or later are needed.
@@ -153,7 +154,8 @@ def table(text: str) -> list[str]:
     lines += [row(f"`{crate}`", [*seconds, sum(seconds)]) for crate, seconds in zip(crates, columns)]
     lines.append(row("all crates", [*totals, sum(totals)]))
     whole = times["whole", "run"]
-    lines.append(f"| with `rt` itself, and what ended between two looks | | | | | {whole / 60:.1f} |")
+    if whole > sum(totals):
+        lines.append(f"| with `rt` itself, and what ended between two looks | | | | | {whole / 60:.1f} |")
     return [*lines, "", f"{times['wall', 'run'] / 60:.1f} minutes of wall time.", *kept(text)]
 
 
