@@ -119,11 +119,13 @@ class Watch:
 
 
 def measure(log: Path, words: list[str]) -> int:
-    """Runs a command, writes its output and its times into a log, and gives its status. A SIGTERM ends the command: the log has its times so far."""
+    """Runs a command, writes its output and its times into a log, and gives its status. SIGTERM or Ctrl-C ends the command, with what it runs: the log
+    has its times so far."""
     watch, begun = Watch(), time.time()
     with log.open("w") as out:
-        ran = subprocess.Popen(words, stdin=subprocess.DEVNULL, stdout=out, stderr=subprocess.STDOUT)
-        signal.signal(signal.SIGTERM, lambda *_: ran.terminate())
+        ran = subprocess.Popen(words, stdin=subprocess.DEVNULL, stdout=out, stderr=subprocess.STDOUT, start_new_session=True)
+        for it in signal.SIGTERM, signal.SIGINT:
+            signal.signal(it, lambda *_: os.killpg(ran.pid, signal.SIGTERM))
         while True:
             watch.look(ran.pid)
             number, status, used = os.wait4(ran.pid, os.WNOHANG)

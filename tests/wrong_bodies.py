@@ -539,6 +539,8 @@ def run_beside(audits: list[Audit], checks: Checks, command: list[str]) -> int:
         finally:
             checks.end_all()
             pool.shutdown(wait=False, cancel_futures=True)
+            if ran.poll() is None:
+                ran.terminate()
     return ran.returncode
 
 
@@ -554,6 +556,7 @@ def main(words: list[str]) -> int:
     checks = Checks(beside=bool(command))
     audits = [Audit(it, way, checks, io.StringIO() if command else sys.stdout) for it in crates]
     if command:
+        signal.signal(signal.SIGTERM, lambda *_: sys.exit(128 + signal.SIGTERM))
         status = run_beside(audits, checks, command)
         if status:
             return status
