@@ -59,6 +59,7 @@ class ConverterLines:
         return f"{found[0]}: {found[1]}" if found else self.renamed(text)
 
     def renamed(self, text: str) -> str:
+        """A text with the names that the filing has for the files of the folder."""
         before, *behind = text.split(self.folder)
         return before + "".join(self.named(it) for it in behind)
 

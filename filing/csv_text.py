@@ -16,6 +16,7 @@ def record(fields: Iterable[object]) -> str:
 
 
 def field(value: object) -> str:
+    """A field, in quotes where it has to be."""
     text = str(value)
     return '"' + text.replace('"', '""') + '"' if QUOTED.search(text) else text
 

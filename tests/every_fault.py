@@ -325,60 +325,70 @@ def files_that_are_read_once(folder: Path) -> None:
 
 
 def files_of_a_shell(folder: Path) -> None:
-    """A types table that a shell gives as a descriptor."""
+    """A types table, and the document of a conversion, that a shell gives as a descriptor."""
     report(folder / "r", {"t": b"cash,note\nx,a\ny,b\n"})
     line = f"{FILING} meta.json --types <(cat types.csv) --every-fault | cut -d, -f-4"
     done = subprocess.run(["bash", "-c", line], cwd=folder / "r", env={**os.environ, "XBRL_JSON": PROGRAM}, capture_output=True, timeout=60)
     wanted = b"xbrl-filing: table t: more rows may have a fault: a file of the report cannot be read a second time\n"
     case("a types table of a shell", (done.stdout, done.stderr) == (b"table,row,column,number\nt,1,1,40\n", wanted), done.stdout, done.stderr)
+    example = TOP / "examples/filing"
+    line = f"exec 3>&1; {FILING} {example}/report --taxonomy {example}/taxonomy --out >(cat >&3) | cat"
+    done = subprocess.run(["bash", "-c", line], cwd=folder, env={**os.environ, "XBRL_JSON": PROGRAM}, capture_output=True, timeout=60)
+    case("a document to a shell", (done.stdout, done.stderr) == ((example / "expected.json").read_bytes(), b""), done.stdout[:200], done.stderr)
 
 
-def filings(folder: Path) -> None:
-    """A report package with its taxonomy: tables in a ZIP too, and places in the files that the metadata was joined of."""
+def filing(dimension: str) -> dict[str, str]:
+    """The files of a report package, `r`, and of its taxonomy, `t`, whose metadata gives the entity of all facts by this text."""
     schema = (
         '<xs:schema xmlns:xs="http://www.w3.org/2001/XMLSchema" xmlns:xbrli="http://www.xbrl.org/2003/instance" targetNamespace="{0}" xmlns:eg="{0}">'
         '<xs:element name="Cash" type="xbrli:integerItemType" substitutionGroup="xbrli:item"/>'
         '<xs:element name="Note" type="xbrli:stringItemType" substitutionGroup="xbrli:item"/></xs:schema>'
     ).format(EG)
-    info = {"documentType": CSV, "namespaces": {"eg": EG, "iso4217": "http://www.xbrl.org/2003/iso4217"}, "taxonomy": ["mod.xsd"]}
-    catalog = (
-        '<catalog xmlns="urn:oasis:names:tc:entity:xmlns:xml:catalog">'
-        '<rewriteURI uriStartString="http://reg.example/" rewritePrefix="../reg/"/></catalog>'
-    )
+    module = {
+        "documentInfo": {"documentType": CSV, "namespaces": {"eg": EG, "iso4217": "http://www.xbrl.org/2003/iso4217"}, "taxonomy": ["mod.xsd"]},
+        "tableTemplates": {"t": {"columns": COLUMNS}},
+        "tables": {"t": {"url": "t.csv"}},
+        "dimensions": {"entity": dimension, "period": "2024", "unit": "iso4217:EUR"},
+    }
+    return {
+        "r/reports/report.json": json.dumps({"documentInfo": {"documentType": CSV, "extends": ["http://reg.example/mod.json"]}, "parameterURL": "p.csv"}),
+        "r/reports/p.csv": "name,value\ne,eg:E\n" + ("b\n" if dimension == "$e" else ""),
+        "r/reports/t.csv": "cash,note\nx,a\n1,b\ny,c\n",
+        "t/META-INF/catalog.xml": '<catalog xmlns="urn:oasis:names:tc:entity:xmlns:xml:catalog">'
+        '<rewriteURI uriStartString="http://reg.example/" rewritePrefix="../reg/"/></catalog>',
+        "t/reg/mod.json": json.dumps(module),
+        "t/reg/mod.xsd": schema,
+    }
+
+
+def pack(at: Path, files: dict[str, str], form: str) -> None:
+    """Writes packages, each the files below one name, as folders or as ZIPs."""
+    at.mkdir()
+    for path, text in files.items():
+        top, _, name = path.partition("/")
+        if form == "zip":
+            with zipfile.ZipFile(at / top, "a") as package:
+                package.writestr(name, text)
+        else:
+            (at / path).parent.mkdir(parents=True, exist_ok=True)
+            (at / path).write_text(text)
+
+
+def filings(folder: Path) -> None:
+    """A report package with its taxonomy: tables in a ZIP too, and places in the files that the metadata was joined of."""
+    bad_rows = [["t", "1", "1", "40", "BadNumber", "2", "cash", "x", ""], ["t", "3", "1", "40", "BadNumber", "4", "cash", "y", ""]]
     for form in ("folder", "zip"):
-        for dimension, wanted in (
-            ("eg:E", [["t", "1", "1", "40", "BadNumber", "2", "cash", "x", ""], ["t", "3", "1", "40", "BadNumber", "4", "cash", "y", ""]]),
-            ("#x", [["", "0", "0", "11", "BadDimension", "", "", '"#x"', "t/reg/mod.json: /dimensions/entity"]]),
-            ("$e", [["", "0", "0", "13", "BadParameter", "", "", "(a record of 1)", "r/reports/p.csv, line 3"]]),
+        for number, (dimension, wanted) in enumerate(
+            [
+                ("eg:E", bad_rows),
+                ("#x", [["", "0", "0", "11", "BadDimension", "", "", '"#x"', "t/reg/mod.json: /dimensions/entity"]]),
+                ("$e", [["", "0", "0", "13", "BadParameter", "", "", "(a record of 1)", "r/reports/p.csv, line 3"]]),
+            ]
         ):
-            module = {
-                "documentInfo": info,
-                "tableTemplates": {"t": {"columns": COLUMNS}},
-                "tables": {"t": {"url": "t.csv"}},
-                "dimensions": {"entity": dimension, "period": "2024", "unit": "iso4217:EUR"},
-            }
-            files = {
-                "r/reports/report.json": json.dumps({"documentInfo": {"documentType": CSV, "extends": ["http://reg.example/mod.json"]}, "parameterURL": "p.csv"}),
-                "r/reports/p.csv": "name,value\ne,eg:E\n" + ("b\n" if dimension == "$e" else ""),
-                "r/reports/t.csv": "cash,note\nx,a\n1,b\ny,c\n",
-                "t/META-INF/catalog.xml": catalog,
-                "t/reg/mod.json": json.dumps(module),
-                "t/reg/mod.xsd": schema,
-            }
-            at = folder / f"{form}{dimension[:1].encode().hex()}"
-            at.mkdir()
-            for top in ("r", "t"):
-                parts = {it[2:]: text for it, text in files.items() if it.startswith(top)}
-                if form == "zip":
-                    with zipfile.ZipFile(at / top, "w") as package:
-                        for name, text in parts.items():
-                            package.writestr(name, text)
-                else:
-                    for name, text in parts.items():
-                        (at / top / name).parent.mkdir(parents=True, exist_ok=True)
-                        (at / top / name).write_text(text)
+            at = folder / f"{form}{number}"
+            pack(at, filing(dimension), form)
             seen = start("r", "--taxonomy", "t", "--every-fault", folder=at)
-            case(f"a filing, {form}", seen == (1, wanted, ""), seen)
+            case(f"a filing, {form}, {dimension}", seen == (1, wanted, ""), seen)
 
 
 def main() -> int:
