@@ -40,6 +40,8 @@ import tempfile
 from pathlib import Path
 from typing import List, Optional, Tuple
 
+from crates import crate_lines, crates_below
+
 TOP = Path(__file__).resolve().parent.parent
 PRELUDE = "Rattle.std.specs.Prelude"
 TOKEN = re.compile(r'"(?:\\.|[^"\\])*"|--[^\n]*|\.\d+\b|0x[0-9A-Fa-f_]+|\d[\d_]*|[A-Za-z_][\w₀-₉\']*(?:\.[A-Za-z_][\w₀-₉\']*)*|&&|\|\||==|\+\+|[-+*/%]')
@@ -240,15 +242,12 @@ class Copies:
 
     def copy(self) -> None:
         """Copies the crate and those below it, with their kept work."""
-        lines = [it for it in (TOP / "crates.txt").read_text().splitlines() if it.split("#")[0].strip()]
-        below = next(it.split(":")[1].split() for it in lines if it.split(":")[0].split()[0] == self.crate)
-        kept = [it for it in lines if it.split(":")[0].split()[0] in below + [self.crate]]
-        (self.folder / "crates.txt").write_text("\n".join(kept) + "\n")
+        kept = [*crates_below()[self.crate], self.crate]
+        (self.folder / "crates.txt").write_text("".join(f"{crate_lines()[it]}\n" for it in kept))
         if (TOP / "HANDLES").exists():
             shutil.copy(TOP / "HANDLES", self.folder / "HANDLES")
         subprocess.run(["git", "init", "-q"], cwd=self.folder, check=True)
-        for line in kept:
-            name = line.split(":")[0].split()[0]
+        for name in kept:
             shutil.copytree(TOP / "crates" / name, self.folder / "crates" / name, symlinks=True)
 
     def users(self, file: str) -> set[str]:

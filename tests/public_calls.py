@@ -13,21 +13,14 @@ import re
 import sys
 from pathlib import Path
 
+from crates import crates_below
+
 TOP = Path(__file__).resolve().parent.parent
 GIVEN = re.compile(r"^pub use ([\w:]+::)?(\{[^}]*\}|\w+);", re.M)
 # The crates of calls: of the libraries below oim_pieces and oim_places, of keyed, oim_pieces and oim_convert, and of the others.
 CALLERS = "public_calls", "conversion_tests", "run_tests"
 # Calls that need a scope of threads, which oim_convert makes.
 ELSEWHERE = {"start_crew", "join_crew"}
-
-
-def libraries() -> list[str]:
-    """The libraries of this repository that the program stands on."""
-    for line in (TOP / "crates.txt").read_text().splitlines():
-        name, _, below = line.partition(":")
-        if name.startswith("xbrl_json_cli"):
-            return [it for it in below.split() if (TOP / "crates" / it).is_dir()]
-    return []
 
 
 def names_of(page: str) -> set[str]:
@@ -46,7 +39,7 @@ def main() -> None:
     calls = "\n".join(file.read_text() for caller in CALLERS for file in sorted((TOP / "crates" / caller / "src").glob("*.rt")))
     words = set(re.findall(r"\w+", re.sub(r"//.*", "", calls)))
     right, wrong = 0, []
-    for library in libraries():
+    for library in crates_below()["xbrl_json_cli"]:
         page = (TOP / "crates" / library / "src/lib.rt").read_text()
         names, shown = names_of(page) - ELSEWHERE, calls_of(page)
         missing = sorted(names - words)

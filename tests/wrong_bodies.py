@@ -40,6 +40,8 @@ from dataclasses import dataclass
 from pathlib import Path
 from typing import Any, TextIO
 
+from crates import crates_below
+
 TOP = Path(__file__).resolve().parent.parent
 GATE = "gate"
 FOLDERS = "must-fail", GATE, "audit"
@@ -408,7 +410,7 @@ class Audit:
         begun = time.time()
         with tempfile.TemporaryDirectory(prefix="wrong-bodies-") as name:
             self.room = Room(Path(name), self.running)
-            self.room.furnish(libraries()[self.crate], self.way.gate)
+            self.room.furnish(crates_below()[self.crate], self.way.gate)
             if not self.way.gate and not is_proved(self.crate):
                 self.stands()
             edits = edits_of(self.crate, self.way.folders())
@@ -459,13 +461,6 @@ class Audit:
         return again
 
 
-def libraries() -> dict[str, list[str]]:
-    """The crates of crates.txt, each with the crates of this repository below it."""
-    rows = [it.split("#")[0].partition(":") for it in (TOP / "crates.txt").read_text().splitlines()]
-    uses = {head.split()[0]: rest.split() for head, _, rest in rows if head.strip()}
-    return {name: [it for it in below if it in uses] for name, below in uses.items()}
-
-
 @functools.lru_cache(maxsize=None)
 def kit() -> Any:
     """The part of the kit that knows of which sources a library was built. Here it sums each crate once: else it does so each time that a crate above
@@ -489,7 +484,7 @@ def is_built(crate: str, way: Way) -> bool:
 
 def lacking(crates: list[str], way: Way) -> list[str]:
     """What is not built, or is wanted and not checked, of these crates."""
-    below = libraries()
+    below = crates_below()
     needed = {it for crate in crates for it in below[crate]}
     lacks = [f"the library {it} is not built" for it in below if it in needed and not is_built(it, way)]
     if way.gate:
@@ -499,7 +494,7 @@ def lacking(crates: list[str], way: Way) -> list[str]:
 
 def chosen(words: list[str], way: Way) -> list[str]:
     """The crates that are to be audited: those that were named, or all that have edits."""
-    known = list(libraries())
+    known = list(crates_below())
     wrong = [it for it in words if it not in known]
     if wrong:
         sys.exit(f"no crate of crates.txt: {' '.join(wrong)}\n{__doc__}")

@@ -7,6 +7,7 @@ pub mod WriteLaws
 pub mod PlainNumerals
 pub mod ValueLaws
 pub mod StartLaws
+pub mod NextNumbers
 pub mod FactTextLaws
 pub mod LongValues
 pub mod ColumnLaws

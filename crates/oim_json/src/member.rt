@@ -29,11 +29,14 @@ impl Model for Member {
     ghost invariant = { λ m. m.bytes.items ≡ member_text m.fact.value };
 }
 
+/// How many bytes a member is given room for, so that most need not move as they grow.
+const MEMBER: usize = 512;
+
 /// The member of a fact (xBRL-JSON 1.0, the facts object). Where memory runs out it fails.
 pub fn member_of(alloc: Global, fact: &Fact) -> Result<Member, AllocError>
     ensures { IfOk result (λ m. m ≡ fact.now) }
 {
-    let mut bytes = Vec::new(alloc);
+    let mut bytes = Vec::with_capacity(alloc, MEMBER)?;
     push_member(alloc, &mut bytes, fact)?;
     Ok(Member {
         bytes,

@@ -9,7 +9,7 @@ use Rattle.csv.specs.declared.parser.State.TheVariants as state
 use Rattle.oim_records.specs.state.Bits.{differ, is_odd_below, is_set}
 use Rattle.oim_records.specs.state.Blocks.{block_scanned, but, cut_behind, cut_rows_behind, firsts, is_opener, led, may_open, rows_behind}
 use Rattle.oim_records.specs.Lines.{ends_line}
-use Rattle.oim_records.specs.state.Bytes.{begins_none, begins_pair, ends_field, is_quote, joins_field, is_unquoted, is_ascii, is_high}
+use Rattle.oim_records.specs.state.Bytes.{begins_none, begins_pair, ends_field, is_comma, is_quote, joins_field, is_unquoted, is_ascii, is_high}
 use Rattle.oim_records.specs.Cuts.{ended, is_between, state_after}
 use Rattle.oim_records.specs.state.Fields.{IsReadTo, IsWithin, ReadsFirst, fields_in}
 use Rattle.oim_records.specs.Grids.{Record, grid, records_left}
@@ -228,6 +228,9 @@ line_ends = (refl, refl)
 
 quotes : (map is_quote letters ≡ false ∷ true ∷ false ∷ false ∷ false ∷ []) × (map is_unquoted letters ≡ true ∷ false ∷ true ∷ true ∷ true ∷ [])
 quotes = (refl, refl)
+
+commas : map is_comma letters ≡ true ∷ false ∷ false ∷ false ∷ false ∷ []
+commas = refl
 
 -- UTF-8: bytes above 127 are no ASCII
 high_bytes : (map is_high (0 ∷ 127 ∷ 128 ∷ 255 ∷ []) ≡ false ∷ false ∷ true ∷ true ∷ []) × (map is_ascii (0 ∷ 127 ∷ 128 ∷ 255 ∷ []) ≡ true ∷ true ∷ false ∷ false ∷ [])

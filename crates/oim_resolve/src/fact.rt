@@ -162,7 +162,7 @@ impl CellFault {
             }
             CellFault::BadPeriod => "a period is not well-formed",
             CellFault::NotDuration => "the start or end of an instant is asked for",
-            CellFault::BadDecimals => "decimals are neither an integer nor INF",
+            CellFault::BadDecimals => "decimals are neither a whole number of 32 bits nor INF",
             CellFault::BadNumber => "the cell of a number is not a numeral",
             CellFault::Memory => "memory ran out",
             CellFault::BadFactValue => {

@@ -15,6 +15,7 @@ use crate::source::Source;
 use crate::table_row::TableRow;
 use crate::text_places::{TextPlaces, number_of};
 use ghost_value::{Denotes, GhostValue};
+use itoa::Buffer;
 use oim_names::Text;
 use oim_report::Report;
 use oim_resolve::Role;
@@ -211,7 +212,9 @@ impl<'a> Reference<'a> {
         if let Purpose::Dimension(Role::Typed, _) = self.purpose {
             return self.refresh_typed(alloc, row);
         }
-        let text = self.source.text_in(row);
+        let Some(text) = self.source.column_text(row) else {
+            return self.refresh_rare(alloc, row);
+        };
         let (place, read) = find_text(
             alloc,
             self.report,
@@ -249,7 +252,19 @@ impl<'a> Reference<'a> {
     fn refresh_rare(&mut self, alloc: Global, row: &TableRow<'a, '_>) -> Result<(), AllocError>
         ensures { self.new ≡ record self.old { text = source_text row.now self.old.key.source } }
     {
-        let text = self.source.text_in(row);
+        match self.source.column_text(row) {
+            Some(text) => self.read(alloc, text),
+            None => {
+                let mut digits = Buffer::new();
+                self.read(alloc, digits.format(row.number()))
+            }
+        }
+    }
+
+    /// Goes on to a text that is not looked for among those that are kept. Fails where memory is short, and then its answer says nothing.
+    fn read(&mut self, alloc: Global, text: &str) -> Result<(), AllocError>
+        ensures { self.new ≡ record self.old { text = text.now } }
+    {
         let (place, read) = read_text(
             alloc,
             self.report,

@@ -1,10 +1,10 @@
 //! What a reference names whose meaning each row of a table gives.
 
-ghost use Rattle.std.specs.Prelude.{◌≡◌, true};
+ghost use Rattle.std.specs.Prelude.{◌≡◌, MatchOption, true};
 ghost use Rattle.std.specs.List.{position_from};
 ghost use Rattle.std.specs.Option.{option_map};
 ghost use Rattle.oim_rows.specs.Header.{is_column};
-ghost use Rattle.oim_row.specs.Sources.{seen_source, source_decimals, source_named, source_text, source_written};
+ghost use Rattle.oim_row.specs.Sources.{RowNumber, seen_source, source_decimals, source_named, source_text, source_written};
 
 use crate::table_row::TableRow;
 use oim_report::{Written, WrittenDecimals};
@@ -34,20 +34,18 @@ impl<'a> Source<'a> {
         }
     }
 
-    /// The text of the reference in a row: empty where nothing is given.
+    /// The text of a column in a row, or of its parameter where the cell is empty. None for the number of the row.
     #[inline(always)]
-    pub(crate) fn text_in<'r>(self, row: &TableRow<'_, 'r>) -> &'r str
+    pub(crate) fn column_text<'r>(self, row: &TableRow<'_, 'r>) -> Option<&'r str>
     where
         'a: 'r,
-        ensures { result.now ≡ source_text row.now (seen_source self.entry) }
+        ensures { MatchOption result (seen_source self.entry ≡ RowNumber) (λ text. text.now ≡ source_text row.now (seen_source self.entry)) }
     {
-        match self {
-            Source::RowNumber => row.digits(),
-            Source::Column(place, parameter) => {
-                let cell = row.text_at(Some(place));
-                if cell.is_empty() { parameter } else { cell }
-            }
-        }
+        let Source::Column(place, parameter) = self else {
+            return None;
+        };
+        let cell = row.text_at(Some(place));
+        Some(if cell.is_empty() { parameter } else { cell })
     }
 }
 

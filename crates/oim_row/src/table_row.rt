@@ -1,6 +1,6 @@
 //! A row of a table.
 
-ghost use Rattle.std.specs.Prelude.{◌≡◌, ◌<◌, ◌≤◌, ◌^◌, Some, decimal, length, take};
+ghost use Rattle.std.specs.Prelude.{◌≡◌, ◌<◌, ◌≤◌, ◌^◌, Some, length, take};
 ghost use Rattle.oim_rows.specs.RowFacts.{field_or_empty};
 
 use oim_records::TextFields;
@@ -14,38 +14,30 @@ use std::marker::Model;
 pub struct TableRow<'a, 'r> {
     header: &'r TableHeader<'a>,
     number: u32,
-    /// The number in digits.
-    digits: &'r str,
     fields: &'r TextFields<'r>,
 }
 
 impl<'a, 'r> Model for TableRow<'a, 'r> {
-    ghost use Rattle.std.specs.Prelude.{◌≡◌, decimal};
     ghost use Rattle.oim_row.specs.Rows.{RowValue};
 
     ghost Value = { RowValue };
 
     ghost view = { λ a. record { header = a.header.now; number = a.number; fields = a.fields.now } };
-
-    ghost invariant = { λ a. a.digits.now ≡ decimal a.number };
 }
 
 impl<'a, 'r> TableRow<'a, 'r> {
-    /// The row of a number, which is given in digits too.
+    /// The row of a number.
     #[inline(always)]
     pub fn new(
         header: &'r TableHeader<'a>,
         number: u32,
-        digits: &'r str,
         fields: &'r TextFields<'r>,
     ) -> TableRow<'a, 'r>
-        requires { digits.now ≡ decimal number }
         ensures { result ≡ record { header = header.now; number = number; fields = fields.now } }
     {
         TableRow {
             header,
             number,
-            digits,
             fields,
         }
     }
@@ -78,20 +70,10 @@ impl<'a, 'r> TableRow<'a, 'r> {
     /// Its number.
     #[inline(always)]
     pub fn number(&self) -> u32
-        ensures { result ≡ self.now.number }
-    {
-        self.number
-    }
-
-    /// Its number in digits.
-    #[inline(always)]
-    pub fn digits(&self) -> &'r str
-        ensures value { result.now ≡ decimal self.now.number }
+        ensures value { result ≡ self.now.number }
         ensures within { self.now.number < 2 ^ 32 }
     {
-        // For the proof: the number is below 2^32.
-        let _number = self.number;
-        self.digits
+        self.number
     }
 
     /// The text at a place of the header, or the empty text.

@@ -1,6 +1,6 @@
 //! A text that grows, in room that is filled ahead of it.
 
-ghost use Rattle.std.specs.Prelude.{◌≡◌, ◌+◌, ◌<◌, ◌≤◌, ◌++◌, ◌∷◌, [], IfOk, OnOk, if◌then◌else◌, is_ok, length, take};
+ghost use Rattle.std.specs.Prelude.{◌≡◌, ◌+◌, ◌-◌, ◌<◌, ◌≤◌, ◌++◌, ◌∷◌, [], IfOk, OnOk, if◌then◌else◌, is_ok, length, take};
 
 use std::alloc::{AllocError, Global};
 use std::marker::Model;
@@ -176,6 +176,15 @@ impl TextBuffer {
         self.room[self.len] = byte;
         self.len += 1;
         Ok(())
+    }
+
+    /// Puts a byte in place of the last one.
+    #[inline(always)]
+    pub fn set_last(&mut self, byte: u8)
+        requires { 0 < length self.old.items }
+        ensures items { self.new.items ≡ take (length self.old.items - 1) self.old.items ++ byte ∷ [] }
+    {
+        self.room[self.len - 1] = byte;
     }
 
     /// The text as a vector, in the same memory.

@@ -14,7 +14,7 @@ fn first_texts(
     fields: &TextFields<'_>,
 ) -> Result<Option<TextBuffer>, AllocError> {
     let mut writer = RowWriter::new(alloc, header)?;
-    let row = TableRow::new(header, 1, "1", fields);
+    let row = TableRow::new(header, 1, fields);
     let mut texts = TextBuffer::new(alloc);
     let mut ends = Vec::new(alloc);
     if writer.put_row(alloc, &row, &mut texts, &mut ends)? {

@@ -96,7 +96,7 @@ fn answers_a_row(
         return false;
     }
     match records.text_fields() {
-        Some(fields) => answers(alloc, &TableRow::new(header, 1, "1", &fields)),
+        Some(fields) => answers(alloc, &TableRow::new(header, 1, &fields)),
         None => false,
     }
 }

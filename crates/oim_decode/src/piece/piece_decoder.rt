@@ -11,7 +11,6 @@ use crate::piece::first_records::FirstRecords;
 use crate::piece::piece_answer::PieceAnswer;
 use crate::piece::rooms::Rooms;
 use crate::table::row_texts::RowTexts;
-use itoa::Buffer;
 use oim_fast::TableRow;
 use oim_records::{Fields, PieceRecords, TextFields};
 use oim_rows::{RowIds, TableFault, TableHeader, TableKind, whole_fault};
@@ -201,8 +200,7 @@ impl PieceDecoder<'_> {
             return false;
         }
         let Some(texts) = texts else { unreachable!() };
-        let mut buffer = Buffer::new();
-        let row = TableRow::new(&self.header, number, buffer.format(number), &texts);
+        let row = TableRow::new(&self.header, number, &texts);
         answer.push_row(self.alloc, &mut self.texts, &row, &fields, &mut self.rooms)
     }
 }

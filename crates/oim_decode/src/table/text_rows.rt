@@ -15,7 +15,6 @@ ghost use Rattle.oim_decode.specs.state.RowTexts.{AddsFacts};
 
 use crate::table::pending_facts::PendingFacts;
 use crate::table::row_texts::RowTexts;
-use itoa::Buffer;
 use oim_fast::TableRow;
 use oim_records::{Fields, ReadFault, RecordReader};
 use oim_report::Report;
@@ -141,8 +140,7 @@ impl<R: Read + Drop> TextRows<'_, R> {
         let Some(texts) = self.records.text_fields() else {
             unreachable!()
         };
-        let mut buffer = Buffer::new();
-        let row = TableRow::new(&self.header, number, buffer.format(number), &texts);
+        let row = TableRow::new(&self.header, number, &texts);
         match add_row(
             self.alloc,
             &mut self.texts,
@@ -184,6 +182,7 @@ fn early_answer<R: Read + Drop>(
 
 /// Adds an identifier to those before it, if none of these is the same, and says whether it did. Fails where memory is short and none is the same,
 /// and then nothing is added.
+#[inline(never)]
 fn join_id(alloc: Global, text: &str, ids: &mut RowIds) -> Result<bool, AllocError>
     ensures added { IfOk result (λ added. added ≡ not (list_any (bytes_eq text.now) ids.old)) }
     ensures new { OnErr result (list_any (bytes_eq text.now) ids.old ≡ false) }
@@ -204,6 +203,7 @@ fn join_id(alloc: Global, text: &str, ids: &mut RowIds) -> Result<bool, AllocErr
 /// has no fault.
 ///
 /// Fails with RepeatedRowId where a row before it has the same, and else with Memory where memory is short. Then nothing is added.
+#[inline(always)]
 fn keep_id(alloc: Global, row: &TableRow<'_, '_>, ids: &mut RowIds) -> Result<(), TableFault>
     requires { row_fault row.now.header row.now.number [] row.now.fields ≡ None }
     ensures new { OnOk result (row_fault row.now.header row.now.number ids.old row.now.fields ≡ None) }
@@ -229,6 +229,7 @@ fn keep_id(alloc: Global, row: &TableRow<'_, '_>, ids: &mut RowIds) -> Result<()
 
 /// Adds the facts of a row to others. Apart from its cells and the rows before it the row has no fault. Where it is refused, its identifier may
 /// have joined those before it, and nothing else.
+#[inline(always)]
 fn add_row<'a>(
     alloc: Global,
     texts: &mut RowTexts<'a>,

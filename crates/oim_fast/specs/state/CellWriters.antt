@@ -1,12 +1,12 @@
 -- What is ready for the cells of a table's rows.
-use Rattle.std.specs.Prelude.{◌≡◌, ◌⊎◌, ◌<◌, ◌^◌, ℕ, true, Bool, List, [], ◌∷◌, ◌++◌, length, map, slice_index_or, take, Option, Result, Ok}
+use Rattle.std.specs.Prelude.{◌≡◌, ◌⊎◌, ◌<◌, ◌^◌, ℕ, true, Bool, List, [], ◌∷◌, ◌++◌, codes, decimal, length, map, slice_index_or, take, IfSome, None, Option, Result, Ok}
 use Rattle.std.specs.List.{All}
 use Rattle.std.specs.Option.{option_to_list}
 use Rattle.oim_cells.specs.Cells.{meaning_of}
 use Rattle.oim_json.specs.Blocks.{behind_commas, ends_from}
 use Rattle.oim_resolve.specs.FactParts.{FactParts as Fact}
 use Rattle.oim_resolve.specs.Facts.{cell_result, is_absent}
-use Rattle.oim_rows.specs.RowFacts.{TableHeaderValue}
+use Rattle.oim_rows.specs.RowFacts.{TableHeaderValue, id_place_of}
 use Rattle.oim_fast.specs.state.CellValues.{IsValue}
 use Rattle.oim_fast.specs.state.Columns.{AreFactColumns, fact_columns_in}
 use Rattle.oim_fast.specs.state.FactTexts.{AddsFact}
@@ -21,10 +21,15 @@ use Rattle.oim_fast.specs.declared.frame.fact_start.FactStart.{FactStart}
 use Rattle.oim_fast.specs.declared.frame.value.Value.{Value}
 use Rattle.oim_fast.specs.declared.table.cell_writer.CellWriter.{CellWriter}
 
+-- a text ends with a row's number, where that is its identifier
+abbrev pub IsNumbered : TableHeaderValue → List ℕ → ℕ → Type 0
+IsNumbered f text n = (id_place_of f ≡ None) × (text ≡ (lead_text f ++ codes "r_") ++ decimal n)
+
 -- a text begins with that of a fact under a header up to the row's identifier
 pub record IsStartOf (f : TableHeaderValue) (s : FactStart) : Type 0 where
   pub text : take s.lead s.start.items ≡ lead_text f
   pub size : s.lead ≡ length (lead_text f)
+  pub number : IfSome s.number (IsNumbered f s.start.items)
 
 -- it is ready for the rows under a header
 pub record IsCellWriter (f : TableHeaderValue) (w : CellWriter) : Type 0 where

@@ -1,12 +1,13 @@
 //! The text of a fact up to the identifier of its row.
 
-ghost use Rattle.std.specs.Prelude.{◌≡◌, ◌++◌, IfOk, OnOk, flat_map};
+ghost use Rattle.std.specs.Prelude.{◌≡◌, ◌++◌, IfOk, OnOk, flat_map, true};
 ghost use mathlib.Core.List.{IsPrefix};
 ghost use Rattle.oim_json.specs.JsonText.{escaped_byte};
 ghost use Rattle.oim_fast.specs.state.CellWriters.{IsStartOf};
 ghost use Rattle.oim_fast.specs.state.Facts.{start_text};
 ghost use Rattle.oim_row.specs.Rows.{row_in};
 
+use itoa::Buffer;
 use oim_row::TableRow;
 use oim_rows::TableHeader;
 use oim_text::{TextBuffer, put_escaped, put_escaped_front};
@@ -17,6 +18,8 @@ use std::alloc::{AllocError, Global};
 pub(crate) struct FactStart {
     pub(crate) lead: usize,
     pub(crate) start: TextBuffer,
+    /// The number of the row, where it is known that the text ends with its digits.
+    pub(crate) number: Option<u32>,
 }
 
 /// Appends the identifier of a row, escaped. Fails where memory is short.
@@ -30,8 +33,9 @@ fn put_id(out: &mut TextBuffer, row: &TableRow<'_, '_>) -> Result<(), AllocError
             put_escaped_front(out, bytes, len)
         }
         None => {
+            let mut digits = Buffer::new();
             out.put(b"r_")?;
-            out.put(row.digits().as_bytes())
+            out.put(digits.format(row.number()).as_bytes())
         }
     }
 }
@@ -48,7 +52,33 @@ impl FactStart {
         Ok(FactStart {
             lead: start.len(),
             start,
+            number: None,
         })
+    }
+
+    /// Goes on to a row, if only the last digit of its number is another than that of the row before. Else nothing is changed. Says
+    /// whether it did.
+    #[inline(always)]
+    fn step(&mut self, row: &TableRow<'_, '_>) -> bool
+        requires { IsStartOf row.now.header self.old }
+        ensures lead { IsStartOf row.now.header self.new }
+        ensures start { result ≡ true → self.new.start.items ≡ start_text row.now }
+    {
+        let Some(before) = self.number else {
+            return false;
+        };
+        let number = row.number();
+        let text = self.start.as_slice();
+        if text.is_empty() || number < before || number - before != 1 {
+            return false;
+        }
+        let digit = text[text.len() - 1];
+        if digit >= b'9' {
+            return false;
+        }
+        self.start.set_last(digit + 1);
+        self.number = Some(number);
+        true
     }
 
     /// Goes on to a row. Fails where memory is short.
@@ -58,8 +88,15 @@ impl FactStart {
         ensures lead { IsStartOf row.now.header self.new }
         ensures start { OnOk result (self.new.start.items ≡ start_text row.now) }
     {
+        if self.step(row) {
+            return Ok(());
+        }
+        self.number = None;
         self.start.truncate(self.lead);
         put_id(&mut self.start, row)?;
+        if row.header().id_place().is_none() {
+            self.number = Some(row.number());
+        }
         Ok(())
     }
 }

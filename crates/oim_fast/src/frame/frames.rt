@@ -260,7 +260,7 @@ impl Frames {
         ensures column { column.new ≡ record column.old { last_of_kind = column.new.last_of_kind } }
     {
         // For the proof: the number of a row is below 2^32.
-        let _digits = row.digits();
+        let _number = row.number();
         let Some(kind) = maker.references.at(reference).kind else {
             return Ok(None);
         };

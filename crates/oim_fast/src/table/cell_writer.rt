@@ -111,7 +111,7 @@ impl<'a> CellWriter<'a> {
         ensures row { OnOk result (IsInRow row.now self.new) }
     {
         // For the proof: the number of a row is below 2^32.
-        let _digits = row.digits();
+        let _number = row.number();
         self.maker.refresh(alloc, row)?;
         self.start.read(row)?;
         Ok(())

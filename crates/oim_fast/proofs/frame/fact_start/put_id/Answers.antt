@@ -21,9 +21,10 @@ returns-in_ok-put-in-None-clause-id c =
     let out = c.args.out.now.items in
     let mid = c.put.new.self.items in
     let place : id_place_of x.header ≡ None = sym (c.id_place.ensures ∙ ap (λ (f : TableHeaderValue). id_place_of f) c.header.ensures) ∙ c.in-None.is in
-    let whole : mid ++ c.digits.result.now ≡ out ++ flat_map escaped_byte (row_id_text (id_place_of x.header) x.number x.fields) =
-    ap (λ t. mid ++ t) c.digits.ensures.value ∙ ap (λ t. t ++ decimal x.number) c.in_ok-put-in-None.ensures.items
-    ∙ number_put out x.number (omega (arith, c.digits.ensures.within)) ∙ sym (ap (λ (o : Option ℕ). out ++ flat_map escaped_byte (row_id_text o x.number x.fields)) place) in
+    let digits : c.as_bytes.result.now ≡ decimal x.number = c.as_bytes.ensures.value ∙ c.format.ensures.text ∙ ap decimal c.number.ensures.value in
+    let whole : mid ++ c.as_bytes.result.now ≡ out ++ flat_map escaped_byte (row_id_text (id_place_of x.header) x.number x.fields) =
+    ap (λ t. mid ++ t) digits ∙ ap (λ t. t ++ decimal x.number) c.in_ok-put-in-None.ensures.items
+    ∙ number_put out x.number (omega (arith, c.number.ensures.within)) ∙ sym (ap (λ (o : Option ℕ). out ++ flat_map escaped_byte (row_id_text o x.number x.fields)) place) in
     search rules
 
 pub returns-in_ok-put-in-None-clause-stays : goal.returns-in_ok-put-in-None-clause-stays

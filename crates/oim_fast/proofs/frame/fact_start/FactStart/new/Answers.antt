@@ -16,4 +16,5 @@ returns c =
     record {
       text = ap (λ n. take n c.push.new.self.items) c.len.ensures ∙ take-length c.push.new.self.items ∙ whole;
       size = c.len.ensures ∙ ap length whole;
+      number = tt;
     }
