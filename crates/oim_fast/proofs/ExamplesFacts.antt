@@ -1,12 +1,15 @@
 -- Worked cases of what is written of one fact.
-use Rattle.std.proofs.Common.{◌≡◌, true, false, [], Some, None, codes, refl}
+use Rattle.std.proofs.Common.{◌≡◌, ◌∙◌, ◌++◌, ℕ, List, true, false, [], Some, None, get_or, codes, refl, sym, ap, arith}
+use Rattle.std.specs.Fmt.{decimal, digits}
 use Rattle.oim_cells.specs.declared.cells.Accuracy.TheVariants as accuracy
 use Rattle.oim_cells.specs.declared.cells.NumberKind.TheVariants as number
 use Rattle.oim_json.specs.JsonText.{decimals_text, value_text}
 use Rattle.oim_report.specs.declared.kind.Kind.{Kind}
 use Rattle.oim_report.specs.declared.kind.Kind.TheVariants as kind
+use Rattle.oim_rows.specs.RowFacts.{TableHeaderValue, id_place_of}
+use Rattle.oim_fast.specs.state.CellWriters.{IsNumbered}
 use Rattle.oim_fast.specs.state.FactTexts.{are_sound_decimals, cut, object_text, opening_decimals}
-use Rattle.oim_fast.specs.state.Facts.{fact_text}
+use Rattle.oim_fast.specs.state.Facts.{fact_text, lead_text}
 use Rattle.oim_fast.specs.state.FrameTexts.{FrameValue}
 use Rattle.oim_fast.specs.declared.frame.frame_decimals.FrameDecimals.{FrameDecimals}
 use Rattle.oim_fast.specs.declared.frame.frame_decimals.FrameDecimals.TheVariants as decimals
@@ -51,3 +54,20 @@ unknown_is_asked v some plain = rw (some, plain)
 nil_text : (v : Value) → v.is_nil ≡ true → object_text [] (frame kind.Text decimals.Settled) v ≡ codes ".c\":{\"dimensions\":{\"concept\":\"eg:A\"},\"value\":null}"
 unfolding value_text
 nil_text v nil = rw nil
+
+-- a text ends with the number of its row behind "r_", of no other row, and where no column gives identifiers
+abbrev numbered_text : List ℕ → ℕ → List ℕ
+numbered_text lead n = (lead ++ codes "r_") ++ decimal n
+
+numbered : (f : TableHeaderValue) → id_place_of f ≡ None → lead_text f ≡ codes ",\"t1." → IsNumbered f (codes ",\"t1.r_12") 12
+unfolding digits
+numbered f none lead = (none, sym (ap (λ t. numbered_text t 12) lead))
+
+number_of_another : (f : TableHeaderValue) → lead_text f ≡ codes ",\"t1." → IsNumbered f (codes ",\"t1.r_12") 13 → ⊥
+unfolding digits
+number_of_another f lead is =
+    let texts : codes ",\"t1.r_12" ≡ codes ",\"t1.r_13" = is.1 ∙ ap (λ t. numbered_text t 13) lead in
+    let last : 50 ≡ 51 = ap (λ (t : List ℕ). get_or t 8 0) texts in absurd (omega (arith, last))
+
+named_by_a_column : (f : TableHeaderValue) (place : ℕ) → id_place_of f ≡ Some place → IsNumbered f (codes ",\"t1.r_12") 12 → ⊥
+named_by_a_column f place named is = absurd (cc (sym named ∙ is.0))

@@ -1,7 +1,10 @@
 //! Writing the facts of a row cell by cell.
 
-ghost use Rattle.std.specs.Prelude.{◌≡◌, ◌<◌, ◌≤◌, ◌++◌, ◌∷◌, [], IfOk, OnOk, length, true};
+ghost use Rattle.std.specs.Prelude.{◌≡◌, ◌<◌, ◌≤◌, ◌++◌, ◌∷◌, [], IfOk, OnOk, Some, length, true};
 ghost use mathlib.Core.List.{IsPrefix};
+ghost use Rattle.oim_cells.specs.Cells.{meaning_of};
+ghost use Rattle.oim_resolve.specs.Facts.{is_absent};
+ghost use Rattle.oim_rows.specs.RowFacts.{field_or_empty};
 ghost use Rattle.oim_fast.specs.state.CellWriters.{IsCellWriter, IsInRow, PutsCell, PutsSaid, column_at};
 ghost use Rattle.oim_fast.specs.state.FactTexts.{IsOfReferences};
 ghost use Rattle.oim_fast.specs.Facts.{WritesFacts};
@@ -13,6 +16,7 @@ use crate::frame::frame_maker::FrameMaker;
 use crate::frame::frame_text::FrameText;
 use crate::frame::frames::Frames;
 use crate::frame::value::{CellValue, quick_value, rare_value};
+use oim_cells::{CellMeaning, meaning};
 use oim_row::{GroupCells, References, TableRow};
 use oim_rows::TableHeader;
 use oim_text::TextBuffer;
@@ -56,6 +60,15 @@ fn reserve_ends(ends: &mut Vec<usize>, count: usize) -> Result<(), AllocError>
         count
     };
     ends.reserve(more)
+}
+
+/// Whether the cell at a place says that it has no fact, so that nothing else of its column counts.
+#[cold]
+#[inline(never)]
+fn has_none(row: &TableRow<'_, '_>, place: usize) -> bool
+    ensures { result ≡ is_absent (meaning_of (field_or_empty row.now.fields (Some place))) }
+{
+    matches!(meaning(row.text_at(Some(place))), CellMeaning::Absent)
 }
 
 /// Appends the fact of a cell of any form in the column of a frame, whose text begins with `start`, where it has one. A value is copied
@@ -139,9 +152,15 @@ impl<'a> CellWriter<'a> {
             return Ok(true);
         }
         let Some(at) = self.frames.frame_for(alloc, row, column, &mut self.maker)? else {
+            if has_none(row, place) {
+                return Ok(true);
+            }
             return Ok(false);
         };
         let Some(frame) = self.frames.text(at) else {
+            if has_none(row, place) {
+                return Ok(true);
+            }
             return Ok(false);
         };
         let references = &self.maker.references;

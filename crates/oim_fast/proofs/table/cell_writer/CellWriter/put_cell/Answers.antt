@@ -48,6 +48,33 @@ returns-in_err-at-clause-row c =
       number = c.requires.row.number;
     }
 
+pub returns-then-has_none-clause-row : goal.returns-then-has_none-clause-row
+returns-then-has_none-clause-row c =
+    let x = c.args.row.now in
+    let old = c.args.self.now in
+    let k = c.index_mut-column.result.now in
+    let is : k ≡ get_or old.columns.items c.args.i k = c.index_mut-column.ensures.value in
+    record {
+      columns = column_set x.header old.maker.cells.list.items c.frame_for.new.maker.cells.list.items old.columns.items c.args.i k c.frame_for.new.column c.requires.row.columns c.requires.within is
+          (ap (λ (g : GroupCells). g.list.items) c.frame_for.ensures.cells) (ap (λ (q : FactColumn). q.column) c.frame_for.ensures.same) c.frame_for.ensures.column;
+      maker = c.frame_for.ensures.maker;
+      frames = c.frame_for.ensures.frames;
+      lead = c.requires.row.lead;
+      start = c.requires.row.start;
+      number = c.requires.row.number;
+    }
+
+pub returns-then-has_none-clause-cell : goal.returns-then-has_none-clause-cell
+returns-then-has_none-clause-cell c =
+    let x = c.args.row.now in
+    let old = c.args.self.now in
+    let k = c.index_mut-column.result.now in
+    let is : k ≡ get_or old.columns.items c.args.i k = c.index_mut-column.ensures.value in
+    let there : k.column ≡ column_at x.header c.args.i = column_there x.header old.maker.cells.list.items old.columns.items c.args.i k c.requires.row.columns c.requires.within is in
+    let column : IsFactColumn x.header old.maker.cells.list.items k = subst (IsFactColumn x.header old.maker.cells.list.items) (sym is) (c.requires.row.columns.are c.args.i k c.requires.within) in
+    let absent : is_absent (fact_meaning (cell_in x k.column)) ≡ true = ap is_absent (sym (cell_meaning x old.maker.cells.list.items k column)) ∙ sym c.has_none.ensures ∙ c.if-has_none.true in
+    subst (λ (n : ℕ). WritesFact (cell_result (cell_in x n)) c.args.out.now.items c.args.out.now.items) there (nothing_written x k.column c.args.out.now.items absent)
+
 pub returns-in_default-clause-row : goal.returns-in_default-clause-row
 returns-in_default-clause-row c =
     let x = c.args.row.now in
@@ -63,6 +90,33 @@ returns-in_default-clause-row c =
       start = c.requires.row.start;
       number = c.requires.row.number;
     }
+
+pub returns-then-has_none-2-clause-row : goal.returns-then-has_none-2-clause-row
+returns-then-has_none-2-clause-row c =
+    let x = c.args.row.now in
+    let old = c.args.self.now in
+    let k = c.index_mut-column.result.now in
+    let is : k ≡ get_or old.columns.items c.args.i k = c.index_mut-column.ensures.value in
+    record {
+      columns = column_set x.header old.maker.cells.list.items c.frame_for.new.maker.cells.list.items old.columns.items c.args.i k c.frame_for.new.column c.requires.row.columns c.requires.within is
+          (ap (λ (g : GroupCells). g.list.items) c.frame_for.ensures.cells) (ap (λ (q : FactColumn). q.column) c.frame_for.ensures.same) c.frame_for.ensures.column;
+      maker = c.frame_for.ensures.maker;
+      frames = c.frame_for.ensures.frames;
+      lead = c.requires.row.lead;
+      start = c.requires.row.start;
+      number = c.requires.row.number;
+    }
+
+pub returns-then-has_none-2-clause-cell : goal.returns-then-has_none-2-clause-cell
+returns-then-has_none-2-clause-cell c =
+    let x = c.args.row.now in
+    let old = c.args.self.now in
+    let k = c.index_mut-column.result.now in
+    let is : k ≡ get_or old.columns.items c.args.i k = c.index_mut-column.ensures.value in
+    let there : k.column ≡ column_at x.header c.args.i = column_there x.header old.maker.cells.list.items old.columns.items c.args.i k c.requires.row.columns c.requires.within is in
+    let column : IsFactColumn x.header old.maker.cells.list.items k = subst (IsFactColumn x.header old.maker.cells.list.items) (sym is) (c.requires.row.columns.are c.args.i k c.requires.within) in
+    let absent : is_absent (fact_meaning (cell_in x k.column)) ≡ true = ap is_absent (sym (cell_meaning x old.maker.cells.list.items k column)) ∙ sym c.has_none-in_default-text.ensures ∙ c.if-has_none-2.true in
+    subst (λ (n : ℕ). WritesFact (cell_result (cell_in x n)) c.args.out.now.items c.args.out.now.items) there (nothing_written x k.column c.args.out.now.items absent)
 
 pub returns-in_default-text-clause-row : goal.returns-in_default-text-clause-row
 returns-in_default-text-clause-row c =
