@@ -9,8 +9,8 @@ plain way. The reports are one of each shape of generate.py, and one of rows tha
 have a fault. FOLDER is one more report: its meta.json and types.csv, or the words of the first run in its case.json, where that
 run is to end with status 0.
 
-Prints a line for each report: its rows that went the plain way, and its name. The status is 1 where there is such a row. PROGRAM must have
-the names of its functions, as a program that was built here has and dist/xbrl-json has not. Needs Linux and valgrind.
+Prints a line for each report: its rows that went the plain way, and its name. The status is 1 where there is such a row, or where a report is
+not converted. PROGRAM must have the names of its functions, as a program that was built here has and dist/xbrl-json has not. Needs Linux and valgrind.
 """
 from __future__ import annotations
 
