@@ -1,14 +1,18 @@
 #!/usr/bin/env python3
-"""How near a run with four workers comes to four programs that share nothing, and what it takes beside them.
+"""Compares a run with four workers to four programs that share nothing.
 
     bench/apart.py PROGRAM [PLAIN] [--megabytes 48] [--rounds 11] [--real-time]
 
-PROGRAM is the program's file, PLAIN that of plain Rust (`plain`), which is left out where there is none. What a machine gives are four programs of
-one worker each, on a quarter of a report each, at once: that is the first line. The others are whole reports of the same shape and bytes:
-one table, eight, eight of which one has 40 % of the bytes, one with identifiers of its own, and tables of 200 columns. Each is made by `generate.py`
-and written to /dev/null, but where a file is named. A line has the median and the least of the rounds, which are made in turn, as a multiple of the line
-that it is measured by; the seconds of processor; and the most memory of one further run. With --real-time each run has real-time priority,
-which takes a privilege, and keeps other work of the machine away. Needs Linux, GNU time (/usr/bin/time) and Python 3.9 or later.
+PROGRAM is the program's file, PLAIN that of plain Rust (`plain`), if there is one. The first line
+is what the machine can give: four programs of one worker, each on a quarter of a report, at once.
+The others are whole reports of the same shape and size: one table, eight, eight of which one has
+40 % of the bytes, one with identifiers, and tables of 200 columns. Each is made by `generate.py`
+and written to /dev/null, unless a file is named.
+
+A line has the median and the least of the rounds, which take turns, both also as a multiple of the
+line that it is compared with; processor seconds; and the largest memory of one further run. With
+--real-time each run has real-time priority, which needs a privilege and keeps other work away.
+Needs Linux, GNU time (/usr/bin/time) and Python 3.9 or later.
 """
 from __future__ import annotations
 
@@ -26,7 +30,7 @@ HERE = Path(__file__).resolve().parent
 
 
 class Line(NamedTuple):
-    """What is run at once, where its output goes, and the line that it is measured by."""
+    """What is run at once, where its output goes, and the line that it is compared with."""
 
     commands: List[List[str]]
     output: str
@@ -41,7 +45,7 @@ class Seen(NamedTuple):
 
 
 def generate(folder: Path, megabytes: float, *words: str) -> List[str]:
-    """The words for a report that is made in a folder."""
+    """Makes a report in a folder, and returns the arguments that convert it."""
     subprocess.run([str(HERE / "generate.py"), str(folder), "--megabytes", str(megabytes), *words], check=True, stdout=subprocess.DEVNULL)
     return [str(folder / "meta.json"), "--types", str(folder / "types.csv")]
 
@@ -91,7 +95,10 @@ def run(line: Line, is_real_time: bool) -> Seen:
 
 
 def memory(line: Line) -> float:
-    """The most memory of one run of a line, in MB: of all that run at once. GNU time starts it, since what Python starts is charged with Python's memory."""
+    """Returns the largest memory of one run of a line, in MB, of all that run at once.
+
+    GNU time starts it, because what Python starts is charged with Python's memory.
+    """
     most = 0
     for command in line.commands:
         with tempfile.NamedTemporaryFile("r") as report, open(line.output, "wb") as output:
@@ -110,7 +117,8 @@ def main() -> None:
     parser.add_argument("--real-time", action="store_true")
     options = parser.parse_args()
     if options.real_time:
-        # Above the runs, or the first of four at once would keep this script from starting the others.
+        # Higher than the runs, or the first of four would keep this script from starting the
+        # others.
         os.sched_setscheduler(0, os.SCHED_FIFO, os.sched_param(11))
     with tempfile.TemporaryDirectory() as name:
         lines = lines_of(options.program, options.plain, Path(name), options.megabytes)

@@ -1,13 +1,17 @@
 #!/usr/bin/env python3
-"""How much processor time one worker takes beside plain Rust, on each shape of report.
+"""Measures the processor time of one worker and of plain Rust, on each shape of report.
 
     bench/beside.py PROGRAM PLAIN [FOLDER..] [--megabytes 4] [--rounds 25] [--real-time]
 
-PROGRAM is the program's file, PLAIN that of plain Rust (`plain`). Each FOLDER is a report of `generate.py`; without one, reports of the shapes positions,
-mixed and texts are made. On each report the two programs run in turn, once untimed and then in so many rounds, and write to /dev/null. A line has the
-milliseconds of processor (user and system) of both: the least of the rounds and the median, what the program's is of plain Rust's by either, and the
-median of what it is in each round, which a change of the machine's speed from minute to minute disturbs least. With --real-time each run has real-time
-priority, which takes a privilege, and keeps other work of the machine away. Needs Linux and Python 3.9 or later.
+PROGRAM is the program's file, PLAIN that of plain Rust (`plain`). Each FOLDER is a report of
+`generate.py`; without one, reports of the shapes positions, mixed and texts are made. The two
+programs take turns on each report, once untimed and then in the rounds, and write to /dev/null.
+
+A line has the processor milliseconds (user and system) of both, the least of the rounds and the
+median, and the program's as a multiple of plain Rust's. The last column is the median of the
+multiples in each round, which changes of the machine's speed disturb least. With --real-time each
+run has real-time priority, which needs a privilege and keeps other work away. Needs Linux and
+Python 3.9 or later.
 """
 from __future__ import annotations
 

@@ -1,30 +1,36 @@
 #!/usr/bin/env python3
-"""Writes a large valid xBRL-CSV report into a folder, the same bytes for the same words.
+"""Writes a large valid xBRL-CSV report into a folder, the same bytes for the same arguments.
 
-    generate.py FOLDER [--shape positions] [--megabytes 64] [--tables N] [--largest PERCENT] [--row-ids]
+    generate.py FOLDER [--shape positions] [--megabytes 64] [--tables N] [--largest PERCENT]
+                [--row-ids]
 
-FOLDER gets meta.json, types.csv, t01.csv and so on, and sizes.json (bytes of CSV, rows and facts). The tables are of one
-size, together just above the megabytes (of 1,000,000 bytes) asked for; with --largest the fourth, or the last of fewer, has so many percent of
-the bytes. There are eight, and three of the shapes `datapoints` and `wide`, where --tables does not say another number.
+FOLDER gets meta.json, types.csv, t01.csv and so on, and sizes.json (bytes of CSV, rows and facts).
+The tables have equal sizes, in sum just above the given megabytes (of 1,000,000 bytes). With
+--largest the fourth, or the last of fewer, has that share of the bytes. There are eight tables, or
+three for the shapes `datapoints` and `wide`, unless --tables gives another number.
 
-The shape `positions`: each row has five fact columns: an amount in the row's currency, a price with the unit of a property
-group, a count, a rate with an exponent and its own decimals, and a text with quotes and letters beyond ASCII. Its period is
-a reference to a cell, its counterparty a typed dimension and its region an explicit one. With --row-ids the rows have
-identifiers of their own, which the converter must keep in memory to see that none comes twice.
+The shape `positions`: each row has five fact columns: an amount in the row's currency, a price with
+the unit of a property group, a count, a rate with an exponent and its own decimals, and a text with
+quotes and letters beyond ASCII. The period is a reference to a cell, the counterparty a typed
+dimension, the region an explicit one. With --row-ids the rows have identifiers of their own, which
+the converter keeps in memory to find one that repeats.
 
-The shape `mixed`: rows have identifiers of their own; each has a description of 10 to 80 characters with quotes and umlauts
-now and then, amounts that are nil or empty now and then, typed and explicit dimensions by reference, three property groups,
-decimals by suffix and by reference. The last table is of another template, with 200 columns.
+The shape `mixed`: rows have identifiers; each has a description of 10 to 80 characters, some with
+quotes and umlauts, amounts, some of them nil or empty, typed and explicit dimensions by reference,
+three property groups, and decimals by suffix and by reference. The last table has another template,
+with 200 columns.
 
-The shape `texts`: rows have identifiers of their own; each has a title, a comment of 40 to 240 characters and a reply, most of them in
-quotes, with commas, doubled quotes, umlauts and letters of three and four bytes, and replies that are nil or empty now and then; an amount with
-the decimals of a property group, and an estimate with decimals by suffix or by reference. The author is a typed dimension.
+The shape `texts`: rows have identifiers; each has a title, a comment of 40 to 240 characters and a
+reply, most of them quoted, with commas, doubled quotes, umlauts and letters of three and four
+bytes. Some replies are nil or empty. There is an amount with the decimals of a property group, and
+an estimate with decimals by suffix or by reference. The author is a typed dimension.
 
-The shape `datapoints` is the form in which banking supervisors publish: a column with 10,000 property groups, one for each
-data point, and each row names another one. A group has the concept, two members, and the unit and decimals by parameters of
-the report; each row has a typed key, and one column has all values.
+The shape `datapoints` is the form in which banking supervisors publish: a column with 10,000
+property groups, one for each data point, and each row names another one. A group has the concept,
+two members, and the unit and decimals by parameters of the report. Each row has a typed key, and
+one column has all values.
 
-The shape `wide` has the template of 200 columns of `mixed` alone.
+The shape `wide` has only the template of 200 columns of `mixed`.
 """
 from __future__ import annotations
 
@@ -51,7 +57,8 @@ REMARKS = ["", "settled", "awaiting the broker's reply", "\"urgent\", see page 3
 
 
 class Numbers:
-    """A linear congruential generator of 64 bits, so that no version of Python changes the bytes."""
+    """A linear congruential generator of 64 bits, so that no version of Python changes the bytes.
+    """
 
     def __init__(self, seed: int) -> None:
         """Numbers that follow from a seed."""
@@ -151,7 +158,7 @@ def mixed_metadata(tables: list[str], is_wide: bool = False) -> dict[str, Any]:
 
 
 def description(numbers: Numbers) -> str:
-    """A text of some 10 to 80 characters, with quotes now and then."""
+    """Makes a text of about 10 to 80 characters, with quotes now and then."""
     text = WORDS[numbers.below(len(WORDS))]
     length = 10 + numbers.below(71)
     while len(text) < length:
@@ -228,7 +235,7 @@ def texts_metadata(tables: list[str]) -> dict[str, Any]:
 
 
 def said(numbers: Numbers, least: int, most: int) -> str:
-    """A text of so many characters, with commas and quotes now and then."""
+    """Makes a text of about `least` to `most` characters, with commas and quotes now and then."""
     words, length, wanted = [], 0, least + numbers.below(most - least + 1)
     while length < wanted:
         word = SAID[numbers.below(len(SAID))]
@@ -258,7 +265,7 @@ def texts_row(numbers: Numbers, n: int) -> tuple[str, int]:
 
 POINTS = 10_000
 BASES = 25
-STRIDE = 7919  # prime to POINTS: rows that follow each other name groups that are far apart
+STRIDE = 7919  # prime to POINTS: rows next to each other name groups that are far apart
 
 POINT_TYPES = """namespace,name,type
 https://example.org/bench,Amount,decimal
@@ -314,7 +321,7 @@ def datapoint_row(numbers: Numbers, n: int) -> tuple[str, int]:
 
 
 def cell(text: str) -> str:
-    """A text as a cell, in quotes where it needs them."""
+    """Returns a text as a cell, quoted if it needs that."""
     return '"' + text.replace('"', '""') + '"' if any(c in text for c in '",\n') else text
 
 
@@ -341,7 +348,7 @@ def row(numbers: Numbers, n: int, row_ids: bool) -> tuple[str, int]:
 
 
 def write_table(path: Path, numbers: Numbers, size: float, header: str, row_of: RowOf) -> dict[str, int]:
-    """Writes a table of at least so many bytes, and gives its bytes, rows and facts."""
+    """Writes a table of at least `size` bytes, and returns its bytes, rows and facts."""
     written, rows, facts = len(header), 0, 0
     with open(path, "wb") as file:
         file.write(header.encode())

@@ -1,12 +1,14 @@
 #!/usr/bin/env python3
-"""Writes a large taxonomy package and a report against it, the same bytes for the same words.
+"""Writes a large taxonomy package and two reports, the same bytes for the same arguments.
 
-    generate_taxonomy.py FOLDER [--megabytes 200] [--concepts 20000] [--zip]
+    generate_taxonomy.py FOLDER [--megabytes 200] [--concepts 20000] [--tables 1] [--filed 1] [--zip]
 
-FOLDER gets `taxonomy` (a folder, and with --zip also `taxonomy.zip`), and the reports `first` and `second`, which differ.
-The taxonomy is made as supervisors make theirs: a dictionary of concepts, dimensions and members in schemas of 2,000
-elements each, which the module's schema reaches through the definition linkbases of its tables alone. Tables are added until
-there are as many megabytes (of 1,000,000 bytes) as asked for; some two thirds of them are linkbases, and the rest is schemas.
+FOLDER gets `taxonomy` (a folder, and with --zip also `taxonomy.zip`), and the reports `first` and
+`second`, which differ. The taxonomy is made as supervisors make theirs: a dictionary of concepts,
+dimensions and members in schemas of 2,000 elements each. The module's schema reaches it only
+through the definition linkbases of its tables. Tables are added until the given megabytes (of
+1,000,000 bytes) are reached; about two thirds of them are linkbases, the rest schemas. The module's
+metadata has the given number of tables of 2,000 data points each. The reports file some of them.
 """
 from __future__ import annotations
 
@@ -47,7 +49,9 @@ def schema(kind: str, first: int, last: int) -> str:
 
 
 def linkbase(table: int, counts: dict[str, int]) -> str:
-    """A table's definition linkbase: it names 400 elements of the dictionary, and ties each to the one before."""
+    """Makes a table's definition linkbase: 400 elements of the dictionary, each tied to the one
+    before.
+    """
     out = [f'{XML}<link:linkbase xmlns:link="http://www.xbrl.org/2003/linkbase" xmlns:xlink="http://www.w3.org/1999/xlink">\n']
     out.append('  <link:definitionLink xlink:type="extended" xlink:role="http://www.xbrl.org/2003/role/link">\n')
     for place in range(400):
@@ -69,9 +73,22 @@ def module(tables: int) -> str:
     return f"{front}  <xs:annotation>\n    <xs:appinfo>\n{refs}    </xs:appinfo>\n  </xs:annotation>\n{INSTANCE}</xs:schema>\n"
 
 
-def metadata() -> dict[str, Any]:
-    """The metadata that the reports extend: one table, whose property groups are 2,000 data points."""
-    groups = {f"dp{it}": {"dimensions": {"concept": f"met:met{it * 5}", "dim:dim1": f"mem:mem{it}", "unit": "$currency"}, "decimals": 0} for it in range(2000)}
+def names(tables: int) -> list[str]:
+    """Returns the names of the tables of the metadata."""
+    return ["t", *(f"t{it}" for it in range(1, tables))]
+
+
+def metadata(tables: int) -> dict[str, Any]:
+    """Makes the metadata that the reports extend: tables, each with the property groups of 2,000
+    data points.
+    """
+    templates: dict[str, Any] = {}
+    for number, name in enumerate(names(tables)):
+        groups = {
+            f"dp{it}": {"dimensions": {"concept": f"met:met{it * 5}", "dim:dim1": f"mem:mem{it + number}", "unit": "$currency"}, "decimals": 0}
+            for it in range(2000)
+        }
+        templates[name] = {"columns": {"datapoint": {"propertyGroups": groups}, "factValue": {"dimensions": {}, "propertiesFrom": ["datapoint"]}}}
     return {
         "documentInfo": {
             "documentType": "https://xbrl.org/2021/xbrl-csv",
@@ -79,21 +96,23 @@ def metadata() -> dict[str, Any]:
             "taxonomy": ["mod.xsd"],
         },
         "dimensions": {"entity": "met:A1", "period": "$period"},
-        "tableTemplates": {"t": {"columns": {"datapoint": {"propertyGroups": groups}, "factValue": {"dimensions": {}, "propertiesFrom": ["datapoint"]}}}},
-        "tables": {"t": {"url": "t.csv"}},
+        "tableTemplates": templates,
+        "tables": {it: {"url": f"{it}.csv"} | ({"optional": True} if it != "t" else {}) for it in templates},
     }
 
 
-def report(folder: Path, first: int) -> None:
-    """Writes a report whose table begins with the data point of this number."""
+def report(folder: Path, first: int, filed: int) -> None:
+    """Writes a report whose tables begin with the data point of this number."""
     (folder / "reports").mkdir(parents=True)
     info = {"documentType": "https://xbrl.org/2021/xbrl-csv", "extends": [f"{HOST}mod/mod.json"]}
     parameters = {"currency": "iso4217:EUR", "period": "2025"}
     (folder / "reports/report.json").write_text(json.dumps({"documentInfo": info, "parameters": parameters}))
-    (folder / "reports/t.csv").write_text("datapoint,factValue\n" + "".join(f"dp{it},{it * first}\n" for it in range(first, 1000)))
+    for name in names(filed):
+        rows = "".join(f"dp{it},{it * first}\n" for it in range(first, 1000))
+        (folder / f"reports/{name}.csv").write_text("datapoint,factValue\n" + rows)
 
 
-def taxonomy(folder: Path, bytes_wanted: int, concepts: int) -> tuple[int, int]:
+def taxonomy(folder: Path, bytes_wanted: int, concepts: int, metadata_tables: int) -> tuple[int, int]:
     """Writes the taxonomy, and answers how many files and bytes it has."""
     written = files = 0
 
@@ -114,7 +133,7 @@ def taxonomy(folder: Path, bytes_wanted: int, concepts: int) -> tuple[int, int]:
         put(f"bench/mod/tab/t{tables}-def.xml", linkbase(tables, counts))
         tables += 1
     put("bench/mod/mod.xsd", module(tables))
-    put("bench/mod/mod.json", json.dumps(metadata()))
+    put("bench/mod/mod.json", json.dumps(metadata(metadata_tables)))
     return files, written
 
 
@@ -124,11 +143,13 @@ def main() -> None:
     parser.add_argument("folder", type=Path)
     parser.add_argument("--megabytes", type=int, default=200)
     parser.add_argument("--concepts", type=int, default=20_000)
+    parser.add_argument("--tables", type=int, default=1)
+    parser.add_argument("--filed", type=int, default=1)
     parser.add_argument("--zip", action="store_true")
     options = parser.parse_args()
-    files, written = taxonomy(options.folder / "taxonomy", options.megabytes * 1_000_000, options.concepts)
-    report(options.folder / "first", 1)
-    report(options.folder / "second", 2)
+    files, written = taxonomy(options.folder / "taxonomy", options.megabytes * 1_000_000, options.concepts, options.tables)
+    report(options.folder / "first", 1, options.filed)
+    report(options.folder / "second", 2, options.filed)
     if options.zip:
         with zipfile.ZipFile(options.folder / "taxonomy.zip", "w", zipfile.ZIP_DEFLATED) as archive:
             for path in sorted((options.folder / "taxonomy").rglob("*")):

@@ -1,26 +1,34 @@
 #!/usr/bin/env python3
-"""Measures how the converter's time grows with a report, in one direction after another, beside plain Rust.
+"""Measures how the converter's time grows with each kind of report, compared with plain Rust.
 
-    growth.py PROGRAM [PLAIN] [KIND..] [--fault table|metadata] [--runs 3] [--limit 60]
+    growth.py PROGRAM [PLAIN] [KIND..] [--hostile] [--fault table|metadata] [--runs 3] [--limit 60]
 
-PROGRAM is the built program's file, PLAIN that of plain Rust (`plain`, here), which is left out where there is none. Each
-kind of report is made twice, of the size n and of four times that, and grows in one direction only; without a KIND all are
-taken, and `--list` names them. Both programs convert each report on one worker, and their documents of the smaller one must
-be the same JSON value.
+PROGRAM is the built program's file, PLAIN that of plain Rust (`plain`, here), if there is one. Each
+kind of report is made twice, of the size n and of 4 n, and grows in one direction only. Without a
+KIND all are taken, and `--list` names them. Both programs convert each report on one worker, and
+their documents of the smaller one must be the same JSON value.
 
-A kind's line has the size n; for the program and for plain Rust the seconds of processor (user and system) at n and at 4 n,
-the least of some rounds, and the second as a multiple of the first; and the program's seconds at 4 n as a multiple of plain
-Rust's. What grows with the size has a multiple of about 4, what grows with its square one of 16. A run that takes longer
-than the limit (in seconds of processor) is stopped, and one that takes more than a tenth of it is made once. The last column names the goals that are
-missed: `growth`, where 4 n takes more than 0.1 s and more than 5 times the time of n, and `plain`, where it takes more than
-0.9 of plain Rust's. Needs Linux.
+A line has the size n; then for both programs the processor seconds (user and system) at n and at
+4 n, the least of the rounds, and their quotient; then the program's seconds at 4 n as a multiple of
+plain Rust's. Linear growth has a quotient of about 4, quadratic growth one of 16. A run over the
+limit (in processor seconds) is stopped, and one over a tenth of it is made once.
 
-With --fault each report has one more thing, at its end: its last table a row of one cell too many, or its metadata a dimension that no
-taxonomy has. Then the run ends with that fault and explains it (`--explain`, `--faults`), and plain Rust has no part in it.
+The last column names missed goals: `growth`, if 4 n takes more than 0.1 s and more than 5 times the
+time of n, and `plain`, if it takes more than 0.9 of plain Rust's. Needs Linux.
+
+Some kinds are what a stranger would send to cost us time: names of one hash, two directions at
+once, or one fault in a large report. `--hostile` takes only these, in a few minutes. Their goals
+are 4.5 times the time of n, and 3 times that of plain Rust.
+
+With --fault each report has a fault at its end: a row with one cell too many in the last table, or
+a dimension that no taxonomy has in the metadata. Then the run ends with that fault and explains it
+(`--explain`, `--faults`), and plain Rust is left out.
 """
 from __future__ import annotations
 
 import argparse
+import functools
+import itertools
 import json
 import os
 import resource
@@ -38,7 +46,9 @@ TIMES = 4
 
 
 class Report(NamedTuple):
-    """A report's metadata, the records of its types table behind the namespace, and its other files by name."""
+    """A report's metadata, the records of its types table after the namespace, and its other files
+    by name.
+    """
 
     metadata: Json
     types: list[str]
@@ -46,10 +56,15 @@ class Report(NamedTuple):
 
 
 class Kind(NamedTuple):
-    """A direction: what makes a report of a size, and the smaller size."""
+    """A direction: what makes a report of a size, the smaller size, and the status.
+
+    `hostile` tells whether a stranger would make such a report to cost us time.
+    """
 
     make: Callable[[int], Report]
     size: int
+    hostile: bool
+    status: int
 
 
 KINDS: dict[str, Kind] = {}
@@ -58,18 +73,21 @@ COUNT = {"concept": "b:Count", "unit": "xbrli:pure"}
 LEVEL = {"entity": "e:BANK-1", "period": "2025"}
 
 
-def kind(size: int) -> Callable[[Callable[[int], Report]], Callable[[int], Report]]:
+def kind(size: int, hostile: bool = False, status: int = 0) -> Callable[[Callable[[int], Report]], Callable[[int], Report]]:
     """Makes a kind of the function below it, with the smaller size."""
 
     def keep(make: Callable[[int], Report]) -> Callable[[int], Report]:
-        KINDS[make.__name__] = Kind(make, size)
+        KINDS[make.__name__] = Kind(make, size, hostile, status)
         return make
 
     return keep
 
 
 def report(columns: Json, rows: Iterable[str], types: Iterable[str] = (), template: Json = {}, table: Json = {}, **other: Json) -> Report:
-    """A report of one table t with these columns and rows. What `other` has stands in the metadata."""
+    """Makes a report of one table t with these columns and rows.
+
+    `other` is added to the metadata.
+    """
     metadata = {**generate.metadata([], False), "parameters": {}, "dimensions": LEVEL, **other}
     metadata["tableTemplates"] = {"p": {"columns": columns, **template}, **other.get("tableTemplates", {})}
     metadata["tables"] = {"t": {"url": "t.csv", "template": "p", **table}, **other.get("tables", {})}
@@ -104,7 +122,9 @@ def identified(ids: Iterable[str]) -> Report:
 
 @kind(10_000)
 def datapoints(n: int) -> Report:
-    """n property groups in one column, two rows each, and each row names another group than the row before."""
+    """n property groups in one column, two rows each; each row names another group than the row
+    before.
+    """
     columns = {"datapoint": {"propertyGroups": {f"dp{i:06}": generate.data_point(i) for i in range(n)}}, "key": {}}
     columns["value"] = {"dimensions": {"b:Key": "$key"}, "propertiesFrom": ["datapoint"]}
     parameters = {"baseCurrency": "iso4217:EUR", "decimalsMonetary": "-3", "decimalsInteger": "0", "decimalsPercentage": "4"}
@@ -122,7 +142,9 @@ def group_columns(n: int) -> Report:
 
 @kind(2_000)
 def choices(n: int) -> Report:
-    """n rows that choose the groups of 60 columns each in another way: a group or none by the bits of its number."""
+    """n rows that choose the groups of 60 columns in different ways: a group or none, by the bits
+    of the row's number.
+    """
     columns: Json = {c: {"propertyGroups": {"g": {"dimensions": {"b:Key": c}}}} for c in names("o", 60)}
     columns["count"] = {**counts(), "propertiesFrom": names("o", 60)}
     bits = (f"{i * 0x9E3779B97F4A7C15 % 2**60:060b}" for i in range(n))
@@ -208,7 +230,7 @@ def block(n: int) -> Report:
 
 @kind(10_000)
 def templates(n: int) -> Report:
-    """n templates, of which the one table has the last."""
+    """n templates; the one table has the last."""
     others = {t: {"columns": {"count": counts()}} for t in names("a", n)}
     return report({"count": counts()}, ["1"], tableTemplates=others)
 
@@ -268,14 +290,14 @@ def many_sources(n: int) -> Report:
 
 @kind(100_000)
 def parameters(n: int) -> Report:
-    """n parameters of the report, of which 100 columns refer to one each."""
+    """n parameters of the report; 100 columns refer to one each."""
     columns = {c: counts(**{"b:Key": f"${p}"}) for c, p in zip(names("c", 100), names("p", 100))}
     return report(columns, [line(100)] * 2, parameters=dict.fromkeys(names("p", n), "x"))
 
 
 @kind(16_000)
 def parameter_file(n: int) -> Report:
-    """n records of the parameters file, of which 100 columns refer to one each."""
+    """n records of the parameters file; 100 columns refer to one each."""
     columns = {c: counts(**{"b:Key": f"${p}"}) for c, p in zip(names("c", 100), names("p", 100))}
     made = report(columns, [line(100)] * 2, parameterURL="parameters.csv")
     made.files["parameters.csv"] = "name,value\n" + "".join(f"{p},x\n" for p in names("p", n))
@@ -298,7 +320,7 @@ def like_texts(n: int) -> Report:
 
 @kind(100_000)
 def like_middles(n: int) -> Report:
-    """n rows whose texts, of a typed dimension, differ neither in length nor at both ends and the middle."""
+    """n rows whose texts, of a typed dimension, have the same length, ends and middle."""
     texts = (f"xx{i:07}xxxxxx{i:07}xx" for i in range(n))
     return report({"key": {}, "count": counts(**{"b:Key": "$key"})}, (f"{t},1" for t in texts))
 
@@ -329,6 +351,100 @@ def rows(n: int) -> Report:
     return Report(made, [record.split(",", 1)[1] for record in generate.TYPES.split("\n")[1:-1]], {"t.csv": header + "".join(lines)})
 
 
+def folded(a: int, b: int) -> int:
+    """One step of the kit's hash: both halves of a product."""
+    product = a * b
+    return product % 2**64 ^ product >> 64
+
+
+@functools.lru_cache(None)
+def one_hash() -> str:
+    """Return 24 letters and digits.
+
+    After these, any 8 bytes give the kit's hash of 32 bytes the value 0.
+    """
+    multiplier, start = 0x9E3779B97F4A7C15, 0x243F6A8885A308D3 + 32
+    allowed = frozenset(b"0123456789ABCDEFGHIJKLMNOPQRSTUVWXYZabcdefghijklmnopqrstuvwxyz")
+    for i in itertools.count():
+        block = f"N{i:015}".encode()
+        first, second = (int.from_bytes(block[at : at + 8], "little") for at in (0, 8))
+        state = folded(first ^ start, second ^ multiplier).to_bytes(8, "little")
+        if allowed.issuperset(state):
+            return (block + state).decode()
+    raise AssertionError
+
+
+def colliding(n: int) -> list[str]:
+    """n names of one hash."""
+    return [f"{one_hash()}{i:08}" for i in range(n)]
+
+
+@kind(15_000, hostile=True)
+def hash_ids(n: int) -> Report:
+    """n rows whose identifiers have one hash."""
+    return identified(colliding(n))
+
+
+@kind(16_000, hostile=True)
+def hash_types(n: int) -> Report:
+    """n records of the types table whose names have one hash."""
+    return report({"count": counts()}, ["1"], [f"{t},decimal" for t in colliding(n)])
+
+
+@kind(16_000, hostile=True)
+def hash_parameters(n: int) -> Report:
+    """n records of the parameters file whose names have one hash."""
+    made = report({"count": counts()}, ["1"], parameterURL="parameters.csv")
+    made.files["parameters.csv"] = "name,value\n" + "".join(f"{p},x\n" for p in colliding(n))
+    return made
+
+
+@kind(1_000, hostile=True, status=1)
+def bad_row(n: int) -> Report:
+    """n columns of facts under n / 4 dimensions of the report; the last fact of one row is bad."""
+    level, types = keys(n // 4)
+    return report({c: counts() for c in names("c", n)}, [line(n - 1) + ",x"], types, dimensions={**LEVEL, **level})
+
+
+@kind(1_024, hostile=True, status=1)
+def bad_tables(n: int) -> Report:
+    """n tables of one file of n columns, with four written dimensions, and a bad fact in each."""
+    level, types = keys(4)
+    tables = {t: {"url": "t.csv", "template": "p"} for t in names("t", n)}
+    return report({c: counts() for c in names("c", n)}, ["," * (n - 1) + "x"], types, dimensions={**LEVEL, **level}, tables=tables)
+
+
+@kind(16_384, hostile=True)
+def reference_cells(n: int) -> Report:
+    """n dimensions of the report, each with a reference to one column, on each of eight facts."""
+    level, types = keys(n, "$key")
+    return report({"key": {}, "count": counts()}, ["1,1"] * 8, types, dimensions={**LEVEL, **level})
+
+
+@kind(16_000, hostile=True)
+def falling_levels(n: int) -> Report:
+    """n dimensions of the report, and as many before them by name over 16 columns of facts."""
+    level, types = keys(n)
+    own = [f"b:J{i:07}" for i in range(n)]
+    types += [f"{d[2:]},typed" for d in own]
+    columns = {c: counts(**dict.fromkeys(own[i::16], "x")) for i, c in enumerate(names("c", 16))}
+    return report(columns, [line(16)], types, dimensions={**LEVEL, **level})
+
+
+@kind(250_000, hostile=True)
+def empty_header(n: int) -> Report:
+    """A header of n empty cells and n / 250 columns, and no row."""
+    made = report({c: counts() for c in names("c", n // 250)}, [])
+    return made._replace(files={"t.csv": "," * n + made.files["t.csv"]})
+
+
+@kind(1_000, hostile=True)
+def good_facts(n: int) -> Report:
+    """n columns of facts under n written dimensions of the report, and one row of n / 8 facts."""
+    level, types = keys(n)
+    return report({c: counts() for c in names("c", n)}, [line(n // 8) + "," * (n - n // 8)], types, dimensions={**LEVEL, **level})
+
+
 def spoilt(made: Report, place: str) -> Report:
     """The report with a fault at its end, in its last table or in its metadata."""
     if place == "metadata":
@@ -340,7 +456,7 @@ def spoilt(made: Report, place: str) -> Report:
 
 
 def write(made: Report, folder: Path) -> list[str]:
-    """Writes a report into a folder, and answers the words that convert it."""
+    """Writes a report into a folder, and returns the arguments that convert it."""
     folder.mkdir()
     (folder / "meta.json").write_text(json.dumps(made.metadata, ensure_ascii=False), encoding="utf-8")
     records = "".join(f"{generate.NAMESPACE},{record}\n" for record in made.types)
@@ -350,9 +466,8 @@ def write(made: Report, folder: Path) -> list[str]:
     return [str(folder / "meta.json"), "--types", str(folder / "types.csv"), "--workers", "1"]
 
 
-def run(command: list[str], limit: int) -> Optional[float]:
-    """The seconds of processor of one run, or None where it took more than the limit and the system stopped it."""
-    wanted = 1 if "--explain" in command else 0
+def run(command: list[str], limit: int, wanted: int) -> Optional[float]:
+    """Returns the processor seconds of one run, or None if the system stopped it at the limit."""
     process = subprocess.Popen(command, stdin=subprocess.DEVNULL, stdout=subprocess.DEVNULL, stderr=subprocess.DEVNULL if wanted else None)
     resource.prlimit(process.pid, resource.RLIMIT_CPU, (limit, limit + 1))
     _, status, usage = os.wait4(process.pid, 0)
@@ -364,14 +479,17 @@ def run(command: list[str], limit: int) -> Optional[float]:
     return usage.ru_utime + usage.ru_stime
 
 
-def least(commands: list[list[str]], runs: int, limit: int) -> list[Optional[float]]:
-    """The least seconds of each command in some rounds, of which each runs all in turn, but once only what takes long."""
-    best = [run(command, limit) for command in commands]
+def least(commands: list[list[str]], runs: int, limit: int, wanted: int) -> list[Optional[float]]:
+    """Returns the least seconds of each command in some rounds, which take turns.
+
+    What takes long runs only once.
+    """
+    best = [run(command, limit, wanted) for command in commands]
     for _ in range(runs - 1):
         for i, command in enumerate(commands):
             before = best[i]
             if before is not None and before <= limit / 10:
-                best[i] = min(before, run(command, limit) or before)
+                best[i] = min(before, run(command, limit, wanted) or before)
     return best
 
 
@@ -389,34 +507,36 @@ def multiple(above: Optional[float], below: Optional[float]) -> str:
     return f"{above / below:.1f}" if above is not None and below else ""
 
 
-def missed(mine: list[Optional[float]], plain: list[Optional[float]]) -> str:
+def missed(mine: list[Optional[float]], plain: list[Optional[float]], hostile: bool) -> str:
     """The goals that are missed."""
+    times, of_plain = (4.5, 3.0) if hostile else (5.0, 0.9)
     small, large = mine
     if small is None or large is None:
         return "growth"
-    grows = large > 0.1 and large > 5 * small
-    behind = len(plain) == 2 and plain[1] is not None and large > 0.9 * plain[1]
+    grows = large > 0.1 and large > times * small
+    behind = len(plain) == 2 and plain[1] is not None and large > of_plain * plain[1]
     return ", ".join(name for name, is_missed in [("growth", grows), ("plain", behind)] if is_missed)
 
 
 def measured(name: str, programs: list[str], folder: Path, options: argparse.Namespace) -> str:
     """A kind's line."""
-    make, n = KINDS[name]
+    make, n, hostile, status = KINDS[name]
+    wanted = 1 if options.fault else status
     reports = [make(size) for size in (n, TIMES * n)]
     if options.fault:
         reports = [spoilt(it, options.fault) for it in reports]
     sizes = [write(it, folder / str(i)) for i, it in enumerate(reports)]
     if options.fault:
         sizes = [[*it, "--explain", "--faults", str(folder / "faults")] for it in sizes]
-    taken = least([[program, *words] for program in programs for words in sizes], options.runs, options.limit)
+    taken = least([[program, *words] for program in programs for words in sizes], options.runs, options.limit, wanted)
     mine, plain = taken[:2], taken[2:]
-    if mine[0] is not None and not options.fault and not same(programs, sizes[0]):
+    if mine[0] is not None and wanted == 0 and not same(programs, sizes[0]):
         sys.exit(f"{name}: the documents differ")
     cells = [name, f"{n:,}"]
     for figures in (mine, plain):
         cells += [seconds(each, options.limit) for each in figures] + [multiple(figures[1], figures[0])] if figures else []
     cells += [f"{mine[1] / plain[1]:.2f}" if plain and mine[1] is not None and plain[1] else ""] if plain else []
-    return "| " + " | ".join([*cells, missed(mine, plain)]) + " |"
+    return "| " + " | ".join([*cells, missed(mine, plain, hostile)]) + " |"
 
 
 def words() -> argparse.Namespace:
@@ -424,6 +544,7 @@ def words() -> argparse.Namespace:
     parser.add_argument("program", nargs="?")
     parser.add_argument("others", nargs="*", metavar="[PLAIN] [KIND..]")
     parser.add_argument("--fault", choices=("table", "metadata"))
+    parser.add_argument("--hostile", action="store_true", help="only the kinds that a stranger would make to cost us time")
     parser.add_argument("--runs", type=int, default=3)
     parser.add_argument("--limit", type=int, default=60)
     parser.add_argument("--list", action="store_true", help="only names the kinds")
@@ -448,7 +569,7 @@ def main() -> None:
     programs = [os.path.abspath(program) for program in [options.program, *plain]]
     columns = ["Kind", "n", "s", f"at {TIMES} n", "times"] + (["plain Rust s", f"at {TIMES} n", "times", "of plain Rust"] if plain else [])
     print("| " + " | ".join([*columns, "missed"]) + " |\n" + "|---" * (len(columns) + 1) + "|")
-    for name in chosen or KINDS:
+    for name in chosen or [name for name, each in KINDS.items() if each.hostile or not options.hostile]:
         with tempfile.TemporaryDirectory() as folder:
             print(measured(name, programs, Path(folder), options), flush=True)
 

@@ -1,16 +1,18 @@
 #!/usr/bin/env python3
-"""Counts the rows that go the plain way, and fails where a good report has any.
+"""Counts the good rows that miss the fast path, and fails if there is one.
 
     plain_rows.py PROGRAM [FOLDER..]
 
-A good row has the fast way, and no proof sees one that goes the plain way by mistake: it is right, and some fifteen times as slow. So
-this runs PROGRAM, with one worker, under valgrind on small reports, and counts the calls of the function that writes a row the
-plain way. The reports are one of each shape of generate.py, and one of rows that have `#none` in a column whose own literals
-have a fault. FOLDER is one more report: its meta.json and types.csv, or the words of the first run in its case.json, where that
-run is to end with status 0.
+No proof notices a good row that takes the slow path by mistake: it is right, but takes about
+fifteen times as long. So this script runs PROGRAM with one worker under valgrind on small reports,
+and counts the calls of the function that writes a row on the slow path. The reports are one of each
+shape of generate.py, and one with `#none` in a column whose own literals have a fault. FOLDER is
+one more report: its meta.json and types.csv, or the arguments of the first run in its case.json, if
+that run ends with status 0.
 
-Prints a line for each report: its rows that went the plain way, and its name. The status is 1 where there is such a row, or where a report is
-not converted. PROGRAM must have the names of its functions, as a program that was built here has and dist/xbrl-json has not. Needs Linux and valgrind.
+Each line has a report's rows on the slow path, and its name. The status is 1 if there is such a
+row, or if a report is not converted. PROGRAM must have the names of its functions: a program that
+was built here has them, dist/xbrl-json does not. Needs Linux and valgrind.
 """
 from __future__ import annotations
 
@@ -30,7 +32,7 @@ SHAPES: dict[str, list[str]] = {"positions": [], "positions with identifiers": [
 
 
 def plain_rows(program: Path, folder: Path, words: list[str]) -> int:
-    """The rows of a report that went the plain way. Ends the script where the run fails."""
+    """Counts the rows of a report on the slow path. Ends the script if the run fails."""
     with tempfile.TemporaryDirectory() as out:
         counts = Path(out) / "counts"
         command = ["valgrind", "--tool=callgrind", "--quiet", f"--callgrind-out-file={counts}", program, *words]
@@ -41,7 +43,7 @@ def plain_rows(program: Path, folder: Path, words: list[str]) -> int:
 
 
 def calls(counts: str) -> int:
-    """How often a file of counts says that the plain way was called."""
+    """Reads from a file of counts how often the slow path was called."""
     names, called, total = {}, "", 0
     for line in counts.splitlines():
         found = re.match(r"c?fn=(\(\d+\))(?: (.*))?$", line)
@@ -55,7 +57,7 @@ def calls(counts: str) -> int:
 
 
 def words_of(folder: Path) -> list[str] | None:
-    """The words that convert a report, or None where it has a fault."""
+    """Returns the arguments that convert a report, or None if it has a fault."""
     case = folder / "case.json"
     if not case.exists():
         return ["meta.json", "--types", "types.csv", "--workers", "1"]
@@ -71,7 +73,9 @@ def generate(folder: Path, shape: str, *more: str) -> Path:
 
 
 def add_column(report: Path) -> None:
-    """Gives the tables of a report one more column, of a unit whose prefix is not declared, and each row a cell `#none` in it."""
+    """Adds a column to the tables of a report, with a unit whose prefix is not declared, and a cell
+    `#none` in it to each row.
+    """
     meta = json.loads((report / "meta.json").read_text(encoding="utf-8"))
     for template in meta["tableTemplates"].values():
         template["columns"]["odd"] = {"dimensions": {"concept": "b:Amount", "unit": "undeclared:EUR"}}
@@ -84,7 +88,9 @@ def add_column(report: Path) -> None:
 
 
 def reports(options: argparse.Namespace, folder: Path) -> Iterator[tuple[str, Path]]:
-    """The reports to look at, each with its name: those that are made here, and those of the command line."""
+    """Yields the reports to look at, each with its name: those made here, and those of the command
+    line.
+    """
     for i, (name, more) in enumerate(SHAPES.items()):
         yield name, generate(folder / str(i), name.split()[0], *more)
     add_column(generate(folder / "none", "positions"))
@@ -94,7 +100,7 @@ def reports(options: argparse.Namespace, folder: Path) -> Iterator[tuple[str, Pa
 
 
 def main() -> None:
-    """Prints a line for each report, and ends with status 1 where a row went the plain way."""
+    """Prints a line for each report, and ends with status 1 if a row took the slow path."""
     parser = argparse.ArgumentParser(description=__doc__, formatter_class=argparse.RawDescriptionHelpFormatter)
     parser.add_argument("program", type=Path)
     parser.add_argument("folders", nargs="*", type=Path, metavar="FOLDER")

@@ -11,13 +11,14 @@
 # always the last line, the sum of the lines above it.
 
 program_crate=xbrl_json_cli
+library_crate=xbrl_json_c
 
-# lines_of_program TOP: the lines of crates.txt that the program stands on, without comments, in byte order.
+# lines_of_program TOP [CRATE]: the lines of crates.txt that the program, or another crate, is made from, without comments, in byte order.
 lines_of_program() {
     local row name
     local -i at
     local -A lines=() taken=()
-    local -a due=("$program_crate") below
+    local -a due=("${2-$program_crate}") below
     while IFS= read -r row || [[ -n $row ]]; do
         row=${row%%#*}
         row=${row#"${row%%[![:space:]]*}"}
@@ -32,15 +33,15 @@ lines_of_program() {
         IFS=$' \t,' read -ra below <<<"${lines[$name]#*:}"
         due+=("${below[@]}")
     done
-    [[ -n ${taken[$program_crate]-} ]] && printf '%s\n' "${taken[@]}" | LC_ALL=C sort
+    [[ -n ${taken[${2-$program_crate}]-} ]] && printf '%s\n' "${taken[@]}" | LC_ALL=C sort
 }
 
-# sources_sum TOP: the sum of the sources.
+# sources_sum TOP [CRATE]: the sum of the sources of the program, or of another crate.
 sources_sum() (
     shopt -s globstar nullglob dotglob
     set -o pipefail
     export LC_ALL=C
-    lines=$(lines_of_program "$1") && cd -- "$1" || exit
+    lines=$(lines_of_program "$@") && cd -- "$1" || exit
     files=(HANDLES)
     while read -r line; do
         for path in "crates/${line%%[[:space:]:]*}"/{src,specs,proofs}/**; do
@@ -105,4 +106,36 @@ is_shipped_of() {
 note_built() {
     local kit sum
     kit=$(rt version) && sum=$(sum_of "$1/$built") && write_note "$1/$built_note" "sources: $2" "kit: $kit" "program: $sum"
+}
+
+# The C library: the static library that was proved and built here, the folder of the one that is shipped, and their notes. dist/lib/SOURCES
+# has the lines `sources`, `kit`, `library` (the sum of the static library as it was built), one for each file of dist/lib, and `note`.
+#
+# library_required: whether dist/lib must be there, `yes` or `no`. With `yes` .ci/run also builds the library, and compares dist/lib with it.
+# shellcheck disable=SC2034
+library_required=no
+library_built=crates/$library_crate/out/lib$library_crate.a
+library_built_note=crates/$library_crate/out/SOURCES
+library_files="libxbrl_json.a libxbrl_json.so.0 xbrl_json.pc"
+library_shipped=dist/lib
+library_shipped_note=dist/lib/SOURCES
+
+# is_library_built_of TOP SUM: whether the static library that was proved here is of the sources of this sum.
+is_library_built_of() {
+    [[ -n $2 ]] && is_noted "$1/$library_built" library "$1/$library_built_note" && [[ $(noted "$1/$library_built_note" sources) == "$2" ]]
+}
+
+# is_library_whole TOP: whether each file of the shipped library is as it was made.
+is_library_whole() {
+    local file
+    for file in $library_files; do
+        is_noted "$1/$library_shipped/$file" "$file" "$1/$library_shipped_note" || return
+    done
+}
+
+# note_library TOP SUM: notes that the static library of TOP was proved and built from the sources of this sum.
+note_library() {
+    local kit sum
+    kit=$(rt version) && sum=$(sum_of "$1/$library_built") &&
+        write_note "$1/$library_built_note" "sources: $2" "kit: $kit" "library: $sum"
 }

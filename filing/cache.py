@@ -1,4 +1,7 @@
-"""What the schemas of a taxonomy say, kept from one run to the next under a digest of all that it rests on."""
+"""The kinds of a taxonomy, kept from one run to the next.
+
+Their key is a digest of all that they depend on.
+"""
 
 from __future__ import annotations
 
@@ -6,14 +9,14 @@ import json
 import os
 from typing import Iterable, List, Optional, Sequence
 
+from .cache_room import store, used
 from .digests import contents_of_disk, digest_of, digests_of
 from .kinds import Kinds
 from .packages import Package
-from .refusals import cannot_write
 
 
 def key_of(packages: Sequence[Package], entries: Sequence[str]) -> str:
-    """The name under which kinds are kept: by the bytes of the packages, the entry points, and this program's own text."""
+    """Return the key of kinds: a digest of the packages, the entry points and this program."""
     own = os.path.dirname(os.path.abspath(__file__))
     modules = [os.path.join(own, it) for it in sorted(os.listdir(own)) if it.endswith(".py")]
     program = [it.hex() for it in digests_of([contents_of_disk(it, os.path.getsize(it), it) for it in modules])]
@@ -22,7 +25,10 @@ def key_of(packages: Sequence[Package], entries: Sequence[str]) -> str:
 
 
 class Cache:
-    """A folder of kept kinds. The first line of an entry says where each namespace stands in it; all of it is under digests."""
+    """A folder of kept kinds.
+
+    The first line of an entry has the place of each namespace. Digests cover all of it.
+    """
 
     def __init__(self, folder: str) -> None:
         self.folder = folder
@@ -31,7 +37,7 @@ class Cache:
         return os.path.join(self.folder, f"{key}.kinds")
 
     def load(self, key: str, namespaces: Iterable[str]) -> Optional[Kinds]:
-        """The kept kinds of some namespaces, or None where they are not kept or not whole."""
+        """Return the kept kinds of some namespaces; None if they are not kept, or damaged."""
         found: Kinds = {}
         try:
             with open(self.path(key), "rb") as file:
@@ -50,10 +56,11 @@ class Cache:
                     found[namespace] = {name: kind for name, _, kind in lines if kind}
         except (OSError, ValueError, TypeError, RecursionError):
             return None
+        used(self.path(key))
         return found
 
     def store(self, key: str, kinds: Kinds) -> None:
-        """Keeps kinds: written aside and then renamed, so that no run sees half of an entry."""
+        """Keep kinds for the next filing of the taxonomy."""
         body: List[bytes] = []
         blocks = {}
         offset = 0
@@ -63,15 +70,4 @@ class Cache:
             offset += len(block)
             body.append(block)
         index = json.dumps(blocks).encode()
-        aside = f"{self.path(key)}.{os.urandom(8).hex()}"
-        try:
-            os.makedirs(self.folder, exist_ok=True)
-            try:
-                with open(aside, "xb") as file:
-                    file.writelines([digest_of(index).hex().encode(), b" ", index, b"\n", *body])
-                os.replace(aside, self.path(key))
-            finally:
-                if os.path.lexists(aside):
-                    os.unlink(aside)
-        except OSError as error:
-            raise cannot_write(self.folder, error) from None
+        store(self.path(key), [digest_of(index).hex().encode(), b" ", index, b"\n", *body])

@@ -1,18 +1,21 @@
-"""Catalogs: which file of which package stands for a URL (Taxonomy Packages 1.0, OASIS XML Catalogs)."""
+"""Catalogs: the file of a package for a URL (Taxonomy Packages 1.0, OASIS XML Catalogs)."""
 
 from __future__ import annotations
 
-from typing import Dict, List, Optional, Sequence, Tuple
+from bisect import bisect_right
+from typing import Dict, Iterator, List, Optional, Sequence, Tuple
 
-from .markup import XML_BASE, Content, parse
+from .markup import LONGEST_URL, XML_BASE, Content, parse
 from .packages import Package
 from .refusals import wrong
-from .urls import Place, decoded, joined
+from .urls import Place, decoded, joined, normal
 
 CATALOG = "META-INF/catalog.xml"
 NAMESPACE = "urn:oasis:names:tc:entity:xmlns:xml:catalog "
 REWRITE, EXACT = NAMESPACE + "rewriteURI", NAMESPACE + "uri"
 STANDARD_HOSTS = ("www.xbrl.org", "xbrl.org", "www.w3.org")
+MOST_IN_OTHER_CAPITALS = 4  # entries that are looked at for a line, each in a whole package
+MOST_ENTRIES = 100  # that are tried for one URL; packages of supervisors have one or two
 
 
 class Entries(Content):
@@ -24,7 +27,7 @@ class Entries(Content):
         self.exact: List[Tuple[str, str]] = []
 
     def start(self, name: str, attributes: Dict[str, str]) -> None:
-        self.depth += 1
+        self.enter()
         if XML_BASE in attributes:
             self.rebase(attributes[XML_BASE])
         if name == REWRITE and "uriStartString" in attributes:
@@ -36,7 +39,10 @@ class Entries(Content):
         self.leave()
 
     def target(self, reference: str) -> str:
-        """The path in the package that an entry names; an entry that leads outside is refused. Blanks round a URI are none of it."""
+        """Return the path in the package that an entry names.
+
+        Refuse an entry that leads outside. Blanks around a URI do not count.
+        """
         place = joined(self.base(), reference.strip())
         if not place.local or place.text.startswith("/") or ".." in place.path().split("/"):
             raise wrong(self.label, f"has an entry that leads outside of the package: '{reference}' (line {self.line()})")
@@ -44,41 +50,89 @@ class Entries(Content):
 
 
 class Catalogs:
-    """The catalogs of all packages: those of the report first, then as on the command line."""
+    """The catalogs of all packages: the report's own first, then in the order of the command line.
+
+    URLs and start strings are compared in their normal form.
+    """
 
     def __init__(self, packages: Sequence[Package]) -> None:
         self.exact: Dict[str, List[Tuple[Package, str]]] = {}
         self.rewrites: Dict[str, List[Tuple[Package, str]]] = {}
         for package in packages:
             self.take(package)
-        self.lengths = sorted({len(it) for it in self.rewrites}, reverse=True)
+        self.starts = sorted(it for it in self.rewrites if len(it) <= LONGEST_URL)
+        self.shorter = shorter_starts(self.starts)
 
     def take(self, package: Package) -> None:
+        """Add the entries of a package's catalog, if it has one."""
         if not package.has(CATALOG):
             return
         entries = Entries(package.shown(CATALOG))
         parse(package.pieces(CATALOG), entries)
         for url, path in entries.exact:
-            self.exact.setdefault(url, []).append((package, path))
+            self.exact.setdefault(normal(url), []).append((package, path))
         for start, prefix in entries.rewrites:
-            self.rewrites.setdefault(start, []).append((package, prefix))
+            self.rewrites.setdefault(normal(start), []).append((package, prefix))
 
-    def find(self, url: str) -> Optional[Tuple[Package, str]]:
-        """The first file that stands for a URL: exact entries, then the longest start string, then the order of the packages."""
-        for package, path in self.exact.get(url, ()):
-            name = name_in_package(path, url, package)
+    def find(self, place: Place) -> Optional[Tuple[Package, str]]:
+        """Return the package and the name of the first entry for a URL whose file exists.
+
+        Refuse a URL with too many entries without a file: each costs a look into a package.
+        """
+        for tried, (package, path) in enumerate(self.entries(place.known().text)):
+            if tried == MOST_ENTRIES:
+                why = f"has more than {MOST_ENTRIES} entries for {place.text[:200]}"
+                raise wrong(package.shown(CATALOG), why)
+            name = name_in_package(path, place.text, package)
             if package.has(name):
                 return package, name
-        for length in self.lengths:
-            for package, prefix in self.rewrites.get(url[:length], ()) if length <= len(url) else ():
-                name = name_in_package(prefix + url[length:], url, package)
-                if package.has(name):
-                    return package, name
         return None
+
+    def entries(self, url: str) -> Iterator[Tuple[Package, str]]:
+        """Yield the package and the path of each entry for a URL, in the order in which they count.
+
+        Exact entries come first, then the longest start string, then the order of the packages.
+        """
+        yield from self.exact.get(url, ())
+        at = bisect_right(self.starts, url)
+        start = self.starts[at - 1] if at else None
+        while start is not None:
+            if url.startswith(start):
+                for package, prefix in self.rewrites[start]:
+                    yield package, prefix + url[len(start) :]
+            start = self.shorter[start]
+
+
+    def entries_in_any_capitals(self, place: Place) -> Iterator[Tuple[Package, str]]:
+        """Yield the package and the path of each entry for a URL in other capitals, up to a few."""
+        url = place.known().text if place.is_web() else ""
+        few = 0
+        for start, entries in (*self.exact.items(), *self.rewrites.items()):
+            if few == MOST_IN_OTHER_CAPITALS:
+                return
+            whole = start in self.exact
+            if url and (url.lower() == start.lower() if whole else url.lower().startswith(start.lower())):
+                few += 1
+                yield from ((package, path if whole else path + url[len(start) :]) for package, path in entries[:1])
+
+
+def shorter_starts(starts: Sequence[str]) -> Dict[str, Optional[str]]:
+    """Return for each of the sorted start strings the longest other one with which it begins."""
+    shorter: Dict[str, Optional[str]] = {}
+    around: List[str] = []
+    for start in starts:
+        while around and not start.startswith(around[-1]):
+            around.pop()
+        shorter[start] = around[-1] if around else None
+        around.append(start)
+    return shorter
 
 
 def name_in_package(path: str, url: str, package: Package) -> str:
-    """The name of a file from a path whose percent signs are not decoded yet."""
+    """Return the name of a file from a path whose percent signs are still encoded.
+
+    Refuse a path that leads outside of the package.
+    """
     segments = [it for it in decoded(path).split("/") if it]
     if ".." in segments:
         raise wrong(package.shown(CATALOG), f"leads {url} outside of the package")

@@ -1,19 +1,23 @@
-"""The metadata files of a report: the report's own, and all that it extends, each once and in one order."""
+"""The metadata files of a report: its own, and all that it extends, each once, in one order."""
 
 from __future__ import annotations
 
+import re
 from typing import Dict, Iterator, List, Optional, Set, Tuple
 
 from .finding import Finder, Found
 from .refusals import wrong
-from .strict_json import Object, read_json
+from .strict_json import Object, Values, read_json
 from .urls import Place, joined
 
 DOCUMENT_TYPE = "https://xbrl.org/2021/xbrl-csv"
+# The document types of drafts of xBRL-CSV 1.0, which have the date of the draft.
+OF_A_DRAFT = re.compile(r"https?://(?:www\.)?xbrl\.org/(?:CR|PR|PWD|DPWD|IWD|WGWD)/[^/]+/xbrl-csv")
+MOST_FILES = 2000  # of a report; modules that were seen have 120 at most
 
 
 class Metadata:
-    """One metadata file: what it says, and the places of the files that it extends, in order."""
+    """One metadata file: its value, and the places of the files that it extends, in order."""
 
     def __init__(self, found: Found, value: Object) -> None:
         self.found = found
@@ -30,11 +34,11 @@ class Metadata:
         return value
 
     def part(self, name: str) -> Object:
-        """An object of the top, empty where it is absent."""
+        """Return an object at the top; an empty one if it is absent."""
         return self.object_of(self.value, name)
 
     def info_part(self, name: str) -> Object:
-        """An object of `documentInfo`, empty where it is absent."""
+        """Return an object of `documentInfo`; an empty one if it is absent."""
         return self.object_of(self.info, name)
 
     def object_of(self, owner: Object, name: str) -> Object:
@@ -44,7 +48,7 @@ class Metadata:
         return value
 
     def texts(self, name: str) -> List[str]:
-        """A list of texts of `documentInfo`, empty where it is absent."""
+        """Return a list of texts of `documentInfo`; an empty one if it is absent."""
         value = self.info.get(name, [])
         if not isinstance(value, list) or not all(isinstance(it, str) for it in value):
             raise wrong(self.label, f"'documentInfo.{name}' is not a list of texts")
@@ -59,7 +63,10 @@ class Metadata:
         return value
 
     def taxonomy(self) -> List[Tuple[str, Place]]:
-        """The taxonomy's entry points: each as it stands in the merged metadata, and its place (xBRL-CSV 1.0, documentInfo)."""
+        """Return the entry points: the text of each in the merged metadata, and its place.
+
+        See xBRL-CSV 1.0, `documentInfo`.
+        """
         own = self.base_url()
         base = self.found.place if own is None else joined(self.found.place, own)
         entries = []
@@ -69,13 +76,16 @@ class Metadata:
         return entries
 
 
-def read_metadata(found: Found) -> Metadata:
-    """One file, of whose shape no more is asked than joining it needs."""
-    value = read_json(found.package.text(found.name), found.label)
+def read_metadata(found: Found, values: Values) -> Metadata:
+    """Read one file, and check no more of its shape than joining it needs."""
+    value = read_json(found.package.pieces(found.name), found.label, values)
     info = value.get("documentInfo") if isinstance(value, dict) else None
     kind = info.get("documentType") if isinstance(info, dict) else None
     if kind != DOCUMENT_TYPE:
-        said = f"its document type is '{kind}'" if isinstance(kind, str) else "it has no 'documentInfo.documentType'"
+        said = "it has no 'documentInfo.documentType'"
+        if isinstance(kind, str):
+            draft = f", of a draft; that of xBRL-CSV 1.0 is '{DOCUMENT_TYPE}'"
+            said = f"its document type is '{kind}'{draft if is_of_a_draft(kind) else ''}"
         raise wrong(found.label, f"is no xBRL-CSV metadata file: {said}")
     metadata = Metadata(found, value)
     if metadata.part("links"):
@@ -84,11 +94,21 @@ def read_metadata(found: Found) -> Metadata:
     return metadata
 
 
+def is_of_a_draft(kind: object) -> bool:
+    """Return whether a document type is one of a draft of xBRL-CSV 1.0."""
+    return isinstance(kind, str) and bool(OF_A_DRAFT.fullmatch(kind))
+
+
 class Chain:
-    """All files in order: a file, then each that it extends in the order of its list, each followed by what it extends."""
+    """All metadata files of a report, in order.
+
+    Each file is followed by those that it extends, in the order of its list, and each of these by
+    those that it extends itself.
+    """
 
     def __init__(self, report: Found, finder: Finder) -> None:
         self.finder = finder
+        self.values = Values()
         self.files: Dict[Place, Metadata] = {}
         self.down: Dict[Place, List[Place]] = {}
         self.up: Dict[Place, List[Place]] = {}
@@ -98,47 +118,58 @@ class Chain:
         return iter(self.files.values())
 
     def read_from(self, report: Found) -> None:
-        """Walks depth first, without recursion; a file that comes back to itself is refused (xBRL-CSV 1.0, extends)."""
-        way: Dict[Place, Iterator[Place]] = {}  # the files from the report's own to the one that is looked at, with what is left of each
-        self.enter(report, way)
+        """Walk depth first, without recursion (xBRL-CSV 1.0, extends).
+
+        Refuse a file that extends itself, by whatever URL.
+        """
+        # The files from the report's own to the one that is looked at, with what is left of each.
+        way: Dict[Place, Iterator[Place]] = {}
+        files: Dict[object, Place] = {}  # the same files, by what they are known by
+        self.enter(report, way, files)
         while way:
             at = next(reversed(way))
             place = next(way[at], None)
             if place is None:
                 del way[at]
+                del files[self.files[at].found.file]
                 continue
-            asker, key = self.files[at].label, self.known(place)
-            if key in way:
-                raise wrong(asker, f"extends itself, by way of {self.files[key].label}" if key != at else "extends itself")
-            if key not in self.files:
-                self.enter(self.finder.find(place, asker, "extends"), way)
+            asker = self.files[at].label
+            if place.known() in self.files:
+                key: Optional[Place] = place.known() if place.known() in way else None
+            else:
+                found = self.finder.find(place, asker, "extends")
+                key = files.get(found.file)
+                if key is None:
+                    self.enter(found, way, files)
+            if key is not None:
+                by_way = "" if key == at else f", by way of {self.files[key].label}"
+                raise wrong(asker, f"extends itself{by_way}")
 
-    def enter(self, found: Found, way: Dict[Place, Iterator[Place]]) -> None:
-        metadata = read_metadata(found)
-        key = self.known(found.place)
+    def enter(self, found: Found, way: Dict[Place, Iterator[Place]], files: Dict[object, Place]) -> None:
+        """Read a file, and begin with those that it extends."""
+        if len(self.files) == MOST_FILES:
+            raise wrong(found.label, f"is one of more than {MOST_FILES} files that extend each other")
+        metadata = read_metadata(found, self.values)
+        key = found.place.known()
         self.files[key] = metadata
-        self.down[key] = [self.known(it) for it in metadata.extends]
+        self.down[key] = [it.known() for it in metadata.extends]
         for it in self.down[key]:
             self.up.setdefault(it, []).append(key)
         way[key] = iter(metadata.extends)
-
-    @staticmethod
-    def known(place: Place) -> Place:
-        """What a file is known by: its URL, or its path with percent signs decoded."""
-        return Place(place.path(), True) if place.local else place
+        files[found.file] = key
 
     def below(self, metadata: Metadata) -> List[Metadata]:
-        """A file and all that it extends, directly or through others."""
+        """Return a file and all that it extends, directly or through others."""
         return self.reached(metadata, self.down)
 
     def above(self, metadata: Metadata) -> List[Metadata]:
-        """A file and all that extend it, directly or through others."""
+        """Return a file and all that extend it, directly or through others."""
         return self.reached(metadata, self.up)
 
     def reached(self, metadata: Metadata, ways: Dict[Place, List[Place]]) -> List[Metadata]:
-        """A file and all to which ways lead from it, in the order of the files."""
+        """Return a file and all that `ways` lead to from it, in the order of the files."""
         found: Set[Place] = set()
-        waiting = [self.known(metadata.found.place)]
+        waiting = [metadata.found.place.known()]
         while waiting:
             key = waiting.pop()
             if key not in found:

@@ -1,19 +1,23 @@
-"""The run: from the words to the two plain files, and on to xbrl-json."""
+"""The run: from the command line to the two plain files, and on to xbrl-json."""
 
 from __future__ import annotations
 
 import os
 import sys
-from contextlib import suppress
+from contextlib import ExitStack, suppress
 from typing import Dict, List, Optional, Tuple
 
+from .batch import run_batch
+from .batch_words import is_of_many
 from .cache import Cache, key_of
+from .cache_room import claimed
 from .catalog import CATALOG
 from .chain import Chain
 from .converter_lines import ConverterLines, for_terminal, put
 from .every_fault import Converter, Search, Unread, fault_list
 from .final import check_final
 from .finding import Finder, Found
+from .kept_module import Joined, ModuleCache
 from .kinds import REASONS, Kinds, kinds_of
 from .metadata import check_parts, merge
 from .origins import Origins
@@ -27,15 +31,18 @@ from .progress import Progress
 from .refusals import FILES, WRONG, Refusal, cannot_write, printable, wrong
 from .report import find_report, report_by_itself
 from .schemas import Reference, read_schemas
+from .refused_faults import record_refusal
 from .stopping import Stopped, Stopping, end_by_signal, run_program, temporary_folder
 from .types_table import types_table
 from .words import HELP, Settings, asked, read_words
 
 NAME = "xbrl-filing"
+DEBUG = "XBRL_FILING_DEBUG"  # 1 lets the traceback of a fault of this program through
+NO_MEMORY = "there is not enough memory"
 
 
 def main(words: List[str], program: str) -> int:
-    """Runs the command; `program` is the path of xbrl-json. Answers the status."""
+    """Run the command, and return the status. `program` is the path of xbrl-json."""
     progress, stopping = Progress(), Stopping()
     try:
         stopping.heed()
@@ -53,33 +60,48 @@ def main(words: List[str], program: str) -> int:
 
 
 def attempt(words: List[str], program: str, progress: Progress, stopping: Stopping) -> Tuple[int, str]:
-    """The status of a run, and the line that says why it ended early, where it did."""
+    """Return the status of a run, and the line that says why it ended early, if it did."""
     try:
         wanted = asked(words)
         if wanted == "--help":
             return put_out(HELP), ""
         if wanted is not None:
             return run_program([program, wanted], stopping), ""
-        return run(read_words(words), program, progress, stopping), ""
+        if is_of_many(words):
+            return run_batch(words, program, lambda it: main(it, program), progress, stopping), ""
+        settings = read_words(words)
+        try:
+            return run(settings, program, progress, stopping), ""
+        except Refusal as refusal:
+            record_refusal(settings, refusal)
+            raise
     except Refusal as refusal:
         return refusal.status, refusal.line
     except MemoryError:
-        return FILES, "there is not enough memory"
+        return FILES, NO_MEMORY
     except OSError as error:
-        return FILES, f"{error.filename or 'the run'}: cannot read or write ({error.strerror or error})"
-    except Exception as error:  # a fault of this program is one line too
-        return WRONG, f"a fault of the program: {type(error).__name__}: {error}"
+        if os.environ.get(DEBUG) == "1":
+            raise
+        where = error.filename or "the run"
+        return FILES, f"{where}: cannot read or write ({error.strerror or error})"
+    except Exception as error:  # a fault of this program is one line too, and not the report's
+        if os.environ.get(DEBUG) == "1":
+            raise
+        return FILES, f"a fault of the program: {type(error).__name__}: {error}"
 
 
 def tell(line: str) -> None:
-    """Writes a line to standard error, where there is one."""
+    """Write a line to standard error, if there is one."""
     with suppress(OSError):
         if sys.stderr is not None:
             print(line, file=sys.stderr, flush=True)
 
 
 def put_out(text: str) -> int:
-    """Writes a text to standard output, without a buffer that would be written once more at the end where this fails."""
+    """Write a text to standard output, without a buffer.
+
+    Python would write a buffer a second time at the end of the run if this fails.
+    """
     left = text.encode(errors="surrogateescape")
     try:
         while left:
@@ -90,11 +112,31 @@ def put_out(text: str) -> int:
 
 
 def run(settings: Settings, program: str, progress: Progress, stopping: Stopping) -> int:
-    """Makes the two plain files, in the folder of `--prepare` or in a temporary one that xbrl-json reads; or tells of the parameters, or of the faults."""
+    """Make the two plain files and run xbrl-json over them, or print parameters or faults.
+
+    With `--prepare` the files go into its folder, else into a temporary one. Return the status.
+    """
     if settings.types is not None:
         with temporary_folder(temporary_place(), f"{NAME}-", stopping) as folder:
             return tell_faults(settings.report, settings.types, folder, None, program, progress, stopping)
+    open_packages = ExitStack()
+    try:
+        return run_opened(settings, open_packages, program, progress, stopping)
+    finally:
+        open_packages.close()
+
+
+def run_opened(
+    settings: Settings,
+    open_packages: ExitStack,
+    program: str,
+    progress: Progress,
+    stopping: Stopping,
+) -> int:
+    """Run over packages, which `open_packages` closes later."""
     report, packages = open_inputs(settings)
+    for package in packages:
+        open_packages.callback(package.close)
     refuse_outputs(settings, packages, None)
     place = None if settings.prepare is None else place_of(settings.prepare)
     if settings.parameters:
@@ -115,7 +157,10 @@ def run(settings: Settings, program: str, progress: Progress, stopping: Stopping
 
 
 def convert(origins: Origins, files: Files, types: bytes, settings: Settings, program: str, progress: Progress, stopping: Stopping) -> int:
-    """Runs xbrl-json over a temporary folder, and answers its status. On a terminal, the line of its --progress is its own."""
+    """Run xbrl-json over a temporary folder, and return its status.
+
+    With `--progress` xbrl-json writes to standard error itself, unless `--explain` is given too.
+    """
     with temporary_folder(temporary_place(), f"{NAME}-", stopping) as folder:
         lines = ConverterLines(origins, folder, write_files(folder, files, types, copy=False))
         if settings.every_fault:
@@ -133,7 +178,11 @@ def convert(origins: Origins, files: Files, types: bytes, settings: Settings, pr
 
 
 def tell_faults(meta: str, types: str, folder: str, lines: Optional[ConverterLines], program: str, progress: Progress, stopping: Stopping) -> int:
-    """Prints the faults of a report in plain form, looked for in a folder that holds nothing else. Status 1 where there are some."""
+    """Print the faults of a report in plain form, and return status 1 if there are some.
+
+    `folder` is empty, and is used to look for them. If xbrl-json cannot list faults, hand on its
+    lines and return its status.
+    """
     search = Search(meta, folder, Converter(program, types, folder, stopping))
     try:
         faults = search.faults_of_report(progress.say)
@@ -149,7 +198,7 @@ def tell_faults(meta: str, types: str, folder: str, lines: Optional[ConverterLin
 
 
 def hand_on(said: bytes, lines: Optional[ConverterLines]) -> None:
-    """Hands on what xbrl-json has said to its end, in the names of a filing if it is one."""
+    """Print all that xbrl-json has printed, in the names of a filing if it is one."""
     if lines is None:
         put(for_terminal(said))
         return
@@ -160,7 +209,10 @@ def hand_on(said: bytes, lines: Optional[ConverterLines]) -> None:
 
 
 def tell_parameters(report: Found, packages: List[Package], progress: Progress) -> int:
-    """Prints the list of the parameters. No schema is read for it, and what is missing or misspelt is no reason to end."""
+    """Print the list of the parameters.
+
+    No schema is read for it. A parameter that is missing or misspelt does not end the run.
+    """
     chain = Chain(report, Finder(report.package, packages))
     check_parts(chain)
     renaming = Renaming(lost_prefixes(chain), lambda name: False)
@@ -172,7 +224,10 @@ def tell_parameters(report: Found, packages: List[Package], progress: Progress) 
 
 
 def open_inputs(settings: Settings) -> Tuple[Found, List[Package]]:
-    """The report's own file, and all packages in the order in which their catalogs count."""
+    """Return the report's own file, and all packages.
+
+    The packages are in the order in which their catalogs count.
+    """
     packages: List[Package] = []
     package = open_package(settings.report, settings.limit)
     for label in settings.taxonomy:
@@ -185,8 +240,38 @@ def open_inputs(settings: Settings) -> Tuple[Found, List[Package]]:
     return find_report(package), [package, *packages]
 
 
-def join(report: Found, packages: List[Package], settings: Settings, progress: Progress) -> Tuple[Origins, Files, bytes]:
-    """Where the merged metadata comes from, the report's files with that metadata, and the types table."""
+def join(
+    report: Found, packages: List[Package], settings: Settings, progress: Progress
+) -> Joined:
+    """Return what `join_anew` does; with a cache, from what it keeps of the module."""
+    if settings.cache is None:
+        return join_anew(report, packages, settings, progress, None)
+    progress.say("looking into the cache")
+    module = ModuleCache(settings.cache, report, packages)
+
+    def anew(kept_by: Optional[ModuleCache] = None) -> Joined:
+        return join_anew(report, packages, settings, progress, kept_by)
+
+    if module.key is None:
+        return anew()
+    joined = module.join(anew)
+    if joined is None:
+        with claimed(settings.cache):
+            joined = module.join(anew) or anew(module)
+    return joined
+
+
+def join_anew(
+    report: Found,
+    packages: List[Package],
+    settings: Settings,
+    progress: Progress,
+    module: Optional[ModuleCache],
+) -> Joined:
+    """Join the metadata, and check it against the taxonomy.
+
+    Return the origins of its parts, the report's files, and the types table.
+    """
     finder = Finder(report.package, packages)
     chain = Chain(report, finder)
     check_parts(chain)
@@ -197,9 +282,12 @@ def join(report: Found, packages: List[Package], settings: Settings, progress: P
     renaming = Renaming(lost, lambda name: kind_of(name, namespaces, kinds) == "explicit")
     merged = merge(chain, renaming)
     origins = Origins(merged, chain, renaming)
+    if module is not None:
+        module.keep(chain, merged, renaming, namespaces, kinds)
+    files = Files(report, merged)
+    files.leave_out_absent()
     refuse_impossible_concepts(origins, namespaces, kinds)
     refuse_unknown_dimensions(origins, namespaces, kinds)
-    files = Files(report, merged)
     files.require_parameters()
     files.refuse_unread()
     check_parameters(merged, renaming, files)
@@ -209,19 +297,22 @@ def join(report: Found, packages: List[Package], settings: Settings, progress: P
 
 
 def namespaces_of(chain: Chain) -> Dict[str, str]:
-    """The prefixes of all files. Values that are no texts are left to xbrl-json."""
+    """Return the prefixes of all files. Leave values that are not texts to xbrl-json."""
     return {prefix: uri for it in chain for prefix, uri in it.info_part("namespaces").items() if isinstance(uri, str)}
 
 
 def read_kinds(chain: Chain, finder: Finder, packages: List[Package], settings: Settings, progress: Progress) -> Kinds:
-    """The kinds of the taxonomy's concepts and dimensions. They are kept where nothing of the report is among them."""
+    """Return the kinds of the taxonomy's concepts and dimensions.
+
+    Keep them in the cache, unless a file of the report may be among the schemas.
+    """
     entries = [Reference(place, it.label, "taxonomy", "") for it in chain for _, place in it.taxonomy()]
     own = any(it.place.local for it in entries) or (finder.report in packages and finder.report.has(CATALOG))
     if settings.cache is None or own:
         return kinds_of(read_schemas(entries, finder, progress))
     cache = Cache(settings.cache)
     progress.say("looking into the cache")
-    taxonomy, urls = [it for it in packages if it is not finder.report], list(dict.fromkeys(it.place.text for it in entries))
+    taxonomy, urls = [it for it in packages if it is not finder.report], list(dict.fromkeys(it.place.known().text for it in entries))
     key = key_of(taxonomy, urls)
     kinds = cache.load(key, namespaces_of(chain).values())
     if kinds is None:
@@ -232,13 +323,13 @@ def read_kinds(chain: Chain, finder: Finder, packages: List[Package], settings: 
 
 
 def kind_of(name: str, namespaces: Dict[str, str], kinds: Kinds) -> Optional[str]:
-    """The kind of a QName of the metadata."""
+    """Return the kind of a QName of the metadata, or None."""
     prefix, _, local = name.partition(":")
     return kinds.get(namespaces.get(prefix, ""), {}).get(local)
 
 
 def refuse_impossible_concepts(origins: Origins, namespaces: Dict[str, str], kinds: Kinds) -> None:
-    """Refuses metadata that names a concept of which the types table can say nothing."""
+    """Refuse metadata that names a concept which the types table cannot have."""
     for concept, path in origins.merged.concepts():
         reason = REASONS.get(kind_of(concept, namespaces, kinds) or "")
         if reason:
@@ -247,7 +338,10 @@ def refuse_impossible_concepts(origins: Origins, namespaces: Dict[str, str], kin
 
 
 def refuse_unknown_dimensions(origins: Origins, namespaces: Dict[str, str], kinds: Kinds) -> None:
-    """Refuses metadata that names a dimension of which the types table says nothing, as xbrl-json would, but by its name (Dimensions 1.0, section 2)."""
+    """Refuse metadata that names a dimension which the taxonomy does not have.
+
+    xbrl-json would refuse it too, but without its name. See Dimensions 1.0, section 2.
+    """
     if "taxonomy" not in origins.merged.value["documentInfo"]:
         return
     for dimension, path in origins.merged.taxonomy_dimensions():
@@ -259,7 +353,10 @@ def refuse_unknown_dimensions(origins: Origins, namespaces: Dict[str, str], kind
 
 
 def place_of(prepare: str) -> Tuple[str, str]:
-    """The folder in which a prepared folder is to stand, and its name there; one that holds something is refused."""
+    """Return the folder that is to hold a prepared folder, and the name there.
+
+    Refuse a prepared folder that has content, and one whose folder does not exist.
+    """
     path = os.path.realpath(prepare)
     if os.path.lexists(path):
         try:
@@ -274,12 +371,12 @@ def place_of(prepare: str) -> Tuple[str, str]:
 
 
 def temporary_place() -> str:
-    """Where temporary files stand: under TMPDIR, and nowhere else where that cannot be used."""
+    """Return the folder of temporary files. If TMPDIR is set, no other is tried."""
     return os.path.abspath(os.environ.get("TMPDIR") or "/tmp")
 
 
 def umask() -> int:
-    """The mask of new files, which the system gives only in exchange for another."""
+    """Return the mask of new files, which the system gives only in exchange for another."""
     mask = os.umask(0o077)
     os.umask(mask)
     return mask

@@ -1,5 +1,7 @@
-"""Records of CSV files that this tool writes and reads (RFC 4180, with LF behind each record). Python's own writer leaves CR without quotes, and its reader
-refuses NUL, up to 3.10."""
+"""Records of CSV files that this program writes and reads (RFC 4180, each with an LF).
+
+Python's own writer leaves CR without quotes, and its reader refuses NUL, up to 3.10.
+"""
 
 from __future__ import annotations
 
@@ -11,18 +13,18 @@ FIELD = re.compile(r'(?:"((?:[^"]+|"")*)"|([^,\n]*))([,\n])')
 
 
 def record(fields: Iterable[object]) -> str:
-    """A record with its line end."""
+    """Return a record with its line end."""
     return ",".join(map(field, fields)) + "\n"
 
 
 def field(value: object) -> str:
-    """A field, in quotes where it has to be."""
+    """Return a field, in quotes if it needs them."""
     text = str(value)
     return '"' + text.replace('"', '""') + '"' if QUOTED.search(text) else text
 
 
 def records(text: str) -> Iterator[List[str]]:
-    """The records of a text that is such a file."""
+    """Yield the records of a text that is such a file."""
     fields: List[str] = []
     for found in FIELD.finditer(text):
         fields.append(found[2] if found[1] is None else found[1].replace('""', '"'))

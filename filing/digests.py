@@ -1,4 +1,7 @@
-"""Digests of contents, by which the cache knows files: BLAKE2b, block by block, on several threads."""
+"""Digests of contents, by which the cache knows files.
+
+They are BLAKE2b, block by block, on several threads.
+"""
 
 from __future__ import annotations
 
@@ -16,7 +19,7 @@ MOST_THREADS = 8
 
 
 class Contents(NamedTuple):
-    """A file whose bytes are to be known: what opens it, how many bytes it had when it was looked at, and how lines name it."""
+    """A file to digest: what opens it, its size when it was looked at, and its name in lines."""
 
     opened: Callable[[], int]
     size: int
@@ -24,7 +27,7 @@ class Contents(NamedTuple):
 
 
 def digest_of(text: Union[bytes, memoryview]) -> bytes:
-    """The digest of bytes that are in memory."""
+    """Return the digest of bytes that are in memory."""
     return hashlib.blake2b(text, digest_size=32).digest()
 
 
@@ -33,7 +36,10 @@ def contents_of_disk(path: str, size: int, label: str) -> Contents:
 
 
 def digests_of(files: Sequence[Contents]) -> List[bytes]:
-    """The digest of each file, which is that of the digests of its blocks. The first file that cannot be read is refused."""
+    """Return the digest of each file: that of the digests of its blocks.
+
+    Refuse the first file that cannot be read.
+    """
     blocks = Blocks(files)
     blocks.work_on_threads()
     digests: List[List[bytes]] = [[] for _ in files]
@@ -47,7 +53,11 @@ def digests_of(files: Sequence[Contents]) -> List[bytes]:
 
 
 class Blocks:
-    """The blocks of some files. Each is read and digested by the thread that comes to it first; hashlib lets others run meanwhile."""
+    """The blocks of some files.
+
+    A thread that is free reads and digests the next block. hashlib lets other threads run
+    meanwhile.
+    """
 
     def __init__(self, files: Sequence[Contents]) -> None:
         self.files = files
@@ -57,7 +67,10 @@ class Blocks:
         self.stopped = False
 
     def work_on_threads(self) -> None:
-        """Works through all blocks, here and on as many threads as there are processors, or as the system gives."""
+        """Work through all blocks, on this thread and on others.
+
+        There is a thread for each processor, up to `MOST_THREADS`, or as many as the system gives.
+        """
         threads: List[Thread] = []
         try:
             with suppress(RuntimeError):  # the system gives no more threads
@@ -74,12 +87,12 @@ class Blocks:
                 thread.join()
 
     def help(self) -> None:
-        """The work of another thread. One that has no memory for it leaves it to the others."""
+        """Do the work of another thread. If it runs out of memory, leave the rest to the others."""
         with suppress(MemoryError):
             self.work()
 
     def work(self) -> None:
-        """Digests one block after the other, until none is left."""
+        """Digest one block after the other, until no more are left."""
         room = memoryview(bytearray(BLOCK))
         for turn in self.turns:
             if self.stopped or turn >= len(self.places):
@@ -90,7 +103,7 @@ class Blocks:
                 self.found[turn] = error
 
     def digest(self, number: int, at: int, room: memoryview) -> bytes:
-        """The digest of the block that begins at a byte of a file."""
+        """Return the digest of the block that begins at byte `at` of a file."""
         file = self.files[number].opened()
         try:
             filled = 0
@@ -105,5 +118,5 @@ class Blocks:
 
 
 def processors() -> int:
-    """How many processors this run may use."""
+    """Return how many processors this run may use."""
     return len(os.sched_getaffinity(0)) if hasattr(os, "sched_getaffinity") else os.cpu_count() or 1

@@ -1,5 +1,7 @@
-"""The faults of `--every-fault`: of each row that has one its first. Where xbrl-json refuses a table for a row, that row is taken out of a copy, and the
-copy is read again."""
+"""The faults of `--every-fault`: the first fault of each row that has one.
+
+If xbrl-json refuses a table for a row, that row is taken out of a copy, and the copy is read again.
+"""
 
 from __future__ import annotations
 
@@ -13,9 +15,9 @@ from .prepared import fill
 from .stopping import Stopping, run_program
 from .table_copy import TableCopy
 
-# Of how many rows of a table the faults are told.
+# The most rows of a table whose faults are printed.
 MOST = 100
-# The faults of one row alone, as docs/FAULTS.md numbers them. All others end the table.
+# The faults of only one row, by their numbers in docs/FAULTS.md. All others end the table.
 OF_A_ROW = frozenset((*range(26, 41), 44))
 META, PARAMETERS, FAULTS = "meta.json", "parameters.csv", "faults.csv"
 TOO_MANY = f"{MOST} rows have a fault, and more may have one: mend these first"
@@ -38,19 +40,19 @@ class Fault(NamedTuple):
 
 
 def fault_list(faults: Iterable[Fault]) -> str:
-    """A CSV file of faults, in the form of `--faults`."""
+    """Return a CSV file of faults, in the form of `--faults`."""
     return record(Fault._fields) + "".join(map(record, faults))
 
 
 def read_faults(path: str) -> List[Fault]:
-    """The records of a file of `--faults`."""
+    """Return the records of a file of `--faults`."""
     with open(path, newline="", encoding="utf-8") as file:
         _, *rest = records(file.read())
     return [Fault(table, int(row), int(column), int(number), *more) for table, row, column, number, *more in rest]
 
 
 class Unread(Exception):
-    """A run of xbrl-json that tells of no faults: its status, and what it has said."""
+    """A run of xbrl-json that lists no faults: its status, and what it has printed."""
 
     def __init__(self, status: int, said: bytes) -> None:
         super().__init__(status)
@@ -66,7 +68,10 @@ class Converter:
         self.faults = os.path.join(folder, FAULTS)
 
     def run(self, meta: str) -> List[Fault]:
-        """The first fault of each refused table of a report, or the one of another file."""
+        """Return the first fault of each refused table, or the fault of another file.
+
+        Raise `Unread` if the status is above 1.
+        """
         said: List[bytes] = []
         words = [self.program, f"--types={self.types}", "--out", os.devnull, "--faults", self.faults, "--", meta]
         status = run_program(words, self.stopping, said.append)
@@ -80,18 +85,24 @@ class Search:
 
     def __init__(self, meta: str, folder: str, converter: Converter) -> None:
         self.meta, self.folder, self.converter = meta, folder, converter
-        self.value: Optional[Dict[str, Any]] = None  # the metadata with the copies in place of the files, once a table is read again
+        # The metadata with copies instead of the files, once a table is read again.
+        self.value: Optional[Dict[str, Any]] = None
         self.copies: Dict[str, TableCopy] = {}
         self.faults: Dict[str, List[Fault]] = {}
-        self.cut: Dict[str, str] = {}  # tables of which more rows may have a fault, and why these are not told
+        # Tables of which more rows may have a fault, and why these are not printed.
+        self.cut: Dict[str, str] = {}
 
     def faults_of_report(self, say: Callable[[str], None]) -> List[Fault]:
-        """The faults that are found: by table, and of a table by row. Each time that tables are read again is said."""
+        """Return the faults that are found, by table and then by row.
+
+        Call `say` each time before tables are read again.
+        """
         again = [it.table for it in self.converter.run(self.meta) if self.keep(it)]
         while again:
             say(f"reading the tables again: {sum(map(len, self.faults.values()))} faults so far")
             refused = self.converter.run(self.rest_of_report(again))
-            if any(it.table not in again for it in refused):  # the copies are of another report than the first run read
+            # The copies are of another report than the first run read.
+            if any(it.table not in again for it in refused):
                 self.cut.update(dict.fromkeys(again, CHANGED))
                 break
             left = [it.table for it in refused if self.keep(it)]
@@ -101,7 +112,10 @@ class Search:
         return [fault for of_table in self.faults.values() for fault in of_table]
 
     def keep(self, fault: Fault) -> bool:
-        """Keeps a fault, and takes its row out of the table's copy. Answers whether the table is to be read again."""
+        """Keep a fault, and take its row out of the table's copy.
+
+        Return whether the table is to be read again.
+        """
         copy = self.copies.get(fault.table)
         told = self.faults.setdefault(fault.table, [])
         told.append(fault if copy is None else fault._replace(row=copy.own_row(fault.row), line=copy.own_line(fault.line)))
@@ -113,7 +127,10 @@ class Search:
         return not why
 
     def take_out(self, fault: Fault) -> str:
-        """Takes the row of a fault out of the copy, which is made for the first one. Answers why not, where it cannot."""
+        """Take the row of a fault out of the copy, which is made for the first one.
+
+        Return why it cannot be taken out, or `""`.
+        """
         if fault.table not in self.copies:
             try:
                 if not self.make_copy(fault.table):
@@ -123,7 +140,10 @@ class Search:
         return "" if self.copies[fault.table].take_out(fault.row) else CHANGED
 
     def make_copy(self, table: str) -> bool:
-        """Copies a table's file, and before the first one the parameters file. Answers whether all is there that is to be read again."""
+        """Copy a table's file, and before the first one the parameters file.
+
+        Return whether all files that are to be read again can be.
+        """
         if not (os.path.isfile(self.meta) and os.path.isfile(self.converter.types)):
             return False
         if self.value is None:
@@ -141,7 +161,7 @@ class Search:
         return True
 
     def copied(self, url: str, name: str) -> bool:
-        """Copies a file of the report, if it is one that can be read again."""
+        """Copy a file of the report. Return whether it is one that can be read again."""
         source = os.path.join(os.path.dirname(self.meta), *url.split("/"))
         if not os.path.isfile(source):
             return False
@@ -149,7 +169,7 @@ class Search:
         return True
 
     def rest_of_report(self, tables: List[str]) -> str:
-        """Writes metadata with the copies of these tables alone, and gives its path."""
+        """Write metadata that has only the copies of these tables, and return its path."""
         value = self.value or {}
         copies = {it: {**value["tables"][it], "url": os.path.basename(self.copies[it].path)} for it in tables}
         path = os.path.join(self.folder, META)

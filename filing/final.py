@@ -1,4 +1,7 @@
-"""What a metadata file declares final: files that extend it add nothing there (xBRL-CSV 1.0, documentInfo.final)."""
+"""What a metadata file declares final.
+
+Files that extend it add nothing there (xBRL-CSV 1.0, `documentInfo.final`).
+"""
 
 from __future__ import annotations
 
@@ -21,11 +24,14 @@ KEYS: Dict[str, Callable[[Metadata], Iterable[str]]] = {
 
 
 def check_final(chain: Chain, lost: Dict[str, str]) -> None:
-    """Refuses a file that adds a key, or a URL, to a part that a file below it declares final. A dimension is one key under all its prefixes."""
+    """Refuse a file that adds to a part which a file below it declares final.
+
+    That is a key or a URL. A dimension is one key under all its prefixes.
+    """
     renaming = Renaming(lost, lambda _: False)
     for metadata in chain:
         for part in final_parts(metadata):
-            one = renaming.qname if part == "dimensions" else str
+            one: Callable[[str], str] = renaming.qname if part == "dimensions" else as_written
             there = {one(key) for it in chain.below(metadata) for key in KEYS[part](it)}
             for above in chain.above(metadata):
                 for key in KEYS[part](above):
@@ -33,8 +39,15 @@ def check_final(chain: Chain, lost: Dict[str, str]) -> None:
                         raise wrong(above.label, f"adds '{key}' to '{part}', which is final in {metadata.label}")
 
 
+def as_written(key: str) -> str:
+    return key
+
+
 def final_parts(metadata: Metadata) -> List[str]:
-    """The parts that a file declares final, of those that are carried over."""
+    """Return the parts of `KEYS` that a file declares final.
+
+    Refuse a declaration that is neither true nor false.
+    """
     declared = metadata.info_part("final")
     for name, value in declared.items():
         if not isinstance(value, bool):

@@ -1,4 +1,7 @@
-"""The kind of each concept and dimension: substitution groups and types followed to what the standards name."""
+"""The kind of each concept and dimension.
+
+Substitution groups and types are followed to what the standards name.
+"""
 
 from __future__ import annotations
 
@@ -12,7 +15,7 @@ XBRLDT = "http://xbrl.org/2005/xbrldt"
 REGISTRY = "http://www.xbrl.org/dtr/type/"
 NUMERIC_REGISTRY = REGISTRY + "numeric"
 
-# What no fact can have, but metadata may name: each is told by what it says.
+# What no fact can have, though metadata may name it: a refusal has the words of `REASONS`.
 TUPLE, FRACTION, UNKNOWN = "!tuple", "!fraction", "!unknown"
 REASONS = {
     TUPLE: "is a tuple, which no table can have",
@@ -64,11 +67,12 @@ ENUMERATIONS = {
     ("http://xbrl.org/2020/extensible-enumerations-2.0", "enumerationSetItemType"): "other",
 }
 
-Kinds = Dict[str, Dict[str, str]]  # a word of the types table, or why there is none, by namespace and name
+# A word of the types table, or one of `REASONS`, by namespace and name.
+Kinds = Dict[str, Dict[str, str]]
 
 
 def known_word(name: Name) -> Optional[str]:
-    """The word of a type that the standards name, whatever a package's copy of them says."""
+    """Return the word of a type that the standards name, whatever a package's copy declares."""
     namespace, local = name
     if namespace == XBRLI:
         return INSTANCE_TYPES.get(local)
@@ -84,7 +88,10 @@ NOWHERE: Name = ("", "")
 def followed(
     start: Optional[Name], kept: Dict[Name, Known], known: Callable[[Name], Optional[Known]], above: Callable[[Name], Optional[Name]], none: Known
 ) -> Known:
-    """What is known of the first name of a chain of which anything is; `none` where it ends or runs in a ring. It is kept for all names on the way."""
+    """Follow `above` from `start` to the first name that `known` knows, and return what it knows.
+
+    Return `none` if the chain ends or loops. Cache the answer in `kept` for each name passed.
+    """
     way: Set[Name] = set()
     at, end = start, None
     while at is not None and at not in way:
@@ -98,7 +105,10 @@ def followed(
 
 
 class Chains:
-    """Follows the chains of substitution groups and of types. Answers are kept, since most elements say the same and chains may be long."""
+    """Follows the chains of substitution groups and of types.
+
+    Answers are cached, because most elements have the same ones and chains may be long.
+    """
 
     def __init__(self, declared: Declared) -> None:
         self.declared = declared
@@ -115,24 +125,33 @@ class Chains:
         return element.head if element else None
 
     def own_type(self, name: Name) -> Optional[Name]:
-        """The type that an element states; an element that is nowhere has none, and nothing is above it."""
+        """Return the type that an element states, if any.
+
+        An element that does not exist ends the chain: nothing is above it.
+        """
         element = self.element(name)
         return element.type if element else NOWHERE
 
     def known_head(self, start: Optional[Name]) -> Name:
-        """The head that the standards name, at the end of a chain of substitution groups."""
+        """Return the head that the standards name, at the end of a chain of substitution groups."""
         return followed(start, self.heads, lambda it: it if it in HEADS else None, self.head_of, NOWHERE)
 
     def type_of(self, element: Element) -> Name:
-        """An element's own type, else that of the head of its substitution group (XML Schema, part 1, section 3.3.2)."""
+        """Return an element's own type, else that of the head of its substitution group.
+
+        See XML Schema, part 1, section 3.3.2.
+        """
         return element.type or followed(element.head, self.types, self.own_type, self.head_of, NOWHERE)
 
     def word(self, start: Name) -> str:
-        """The word of a type: its derivations are followed to a type that is known."""
+        """Return the word of a type: that of the first known type it is derived from."""
         return followed(start, self.words, known_word, self.declared.types.get, UNKNOWN)
 
     def kind(self, element: Element) -> Optional[str]:
-        """What an element is, or None where no fact can have it (Dimensions 1.0, section 2; XBRL 2.1, section 5.1.1)."""
+        """Return what an element is; None if no fact can have it.
+
+        See Dimensions 1.0, section 2, and XBRL 2.1, section 5.1.1.
+        """
         if element not in self.kinds:
             self.kinds[element] = self.found_kind(element)
         return self.kinds[element]
@@ -149,7 +168,7 @@ class Chains:
 
 
 def kinds_of(declared: Declared) -> Kinds:
-    """The kinds of all elements that have one."""
+    """Return the kinds of all elements that have one."""
     chains = Chains(declared)
     found: Kinds = {}
     for namespace, elements in declared.elements.items():

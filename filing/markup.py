@@ -1,4 +1,4 @@
-"""XML as a stream: namespaces in scope, `xml:base`, any encoding, no document types and no entities."""
+"""XML as a stream: namespaces in scope, `xml:base`, encodings; no document types, no entities."""
 
 from __future__ import annotations
 
@@ -7,22 +7,57 @@ import re
 from typing import Dict, Iterable, Iterator, List, Optional, Tuple
 from xml.parsers import expat
 
-from .refusals import wrong
+from .refusals import Refusal, wrong
 from .urls import Place, joined
 
 Name = Tuple[str, str]  # a namespace (`""` for none) and a local name
 XML_BASE = "http://www.w3.org/XML/1998/namespace base"
 LONGEST_URL = 4096
 MOST_BASES = 100
+DEEPEST = 1000  # elements around one; schemas of supervisors have 20 at most
 LARGEST_TOKEN = 16 << 20  # of a tag, a comment or an instruction, which expat holds as a whole
 NO_MEMORY = expat.errors.codes[expat.errors.XML_ERROR_NO_MEMORY]
-BY_EXPAT = ("utf-8", "utf-16", "ascii", "iso8859-1")
-DECLARED = re.compile(r"""^<\?xml[^>]*?\sencoding\s*=\s*["']([A-Za-z][A-Za-z0-9._-]*)["']""")
-MARKS = ((b"\xff\xfe\0\0", "utf-32"), (b"\0\0\xfe\xff", "utf-32"), (b"\xff\xfe", "utf-16"), (b"\xfe\xff", "utf-16"), (b"\xef\xbb\xbf", "utf-8"))
+# The encodings that are taken, by Python's names: what expat calls those that it reads itself, or
+# None. Others are refused: some take quadratic time (punycode), some do not encode text.
+TAKEN: Dict[str, Optional[str]] = {
+    "utf-8": "utf-8",
+    "utf-16": "utf-16",
+    "ascii": "us-ascii",
+    "iso8859-1": "iso-8859-1",
+    **dict.fromkeys(
+        [
+            *("utf-32", "utf-16-be", "utf-16-le", "utf-32-be", "utf-32-le"),
+            *(f"iso8859-{it}" for it in (*range(2, 12), *range(13, 17))),
+            *(f"cp{it}" for it in range(1250, 1259)),
+            *("cp037", "cp273", "cp437", "cp500", "cp850", "cp852", "cp858", "cp866", "cp1140"),
+            *("cp874", "tis-620", "koi8-r", "koi8-u", "mac-roman"),
+            *("shift_jis", "cp932", "euc_jp", "iso2022_jp", "gb2312", "gbk", "gb18030"),
+            *("big5", "big5hkscs", "cp950", "euc_kr", "cp949", "johab"),
+        ]
+    ),
+}
+LONGEST_DECLARATION = 1024
+DECLARED = re.compile(
+    r"""<\?xml(?:\s[^>]*?)?\sencoding\s*=\s*["']([A-Za-z][A-Za-z0-9._-]*)["'][^>]*\?>"""
+)
+MARKS = (
+    (b"\xff\xfe\0\0", "utf-32"),
+    (b"\0\0\xfe\xff", "utf-32"),
+    (b"\xff\xfe", "utf-16"),
+    (b"\xfe\xff", "utf-16"),
+    (b"\xef\xbb\xbf", "utf-8"),
+    (b"<\0\0\0", "utf-32-le"),
+    (b"\0\0\0<", "utf-32-be"),
+    (b"<\0", "utf-16"),
+    (b"\0<", "utf-16"),
+)
 
 
 class Content:
-    """What is made of a file: `start` and `end` are called for its elements, whose names are `namespace local`."""
+    """The content of a file: `start` and `end` are called for its elements.
+
+    The names of elements are `namespace local`.
+    """
 
     def __init__(self, place: Place, label: str) -> None:
         self.label = label
@@ -31,6 +66,18 @@ class Content:
         self.scope: Dict[str, List[str]] = {"xml": ["http://www.w3.org/XML/1998/namespace"]}
         self.declarations = 0  # how often the prefixes in scope have changed
         self.parser: Optional[expat.XMLParserType] = None
+
+    def take(self, parser: expat.XMLParserType) -> None:
+        """Have the parser call this content from here on."""
+        self.parser = parser
+        parser.StartNamespaceDeclHandler = self.declare
+        parser.EndNamespaceDeclHandler = self.forget
+        parser.StartElementHandler = self.start
+        parser.EndElementHandler = self.end
+
+    def drop(self) -> None:
+        """Forget the parser: the two refer to each other, so neither would be freed at once."""
+        self.parser = None
 
     def start(self, name: str, attributes: Dict[str, str]) -> None:
         raise NotImplementedError
@@ -47,11 +94,14 @@ class Content:
         self.scope[prefix or ""].pop()
 
     def base(self) -> Place:
-        """The base of references where the parser stands (XML Base)."""
+        """Return the base of references where the parser is (XML Base)."""
         return self.bases[-1][1]
 
     def rebase(self, reference: str) -> None:
-        """Takes the `xml:base` of the element that has just begun. They grow from one to the next, so there is an end to it."""
+        """Take the `xml:base` of the element that has just begun.
+
+        Each is joined to the one around it, so their length and their number have bounds.
+        """
         base = joined(self.base(), reference.strip())
         if len(base.text) > LONGEST_URL:
             raise wrong(self.label, f"has an 'xml:base' of {len(base.text)} characters; more than {LONGEST_URL} are not taken (line {self.line()})")
@@ -59,14 +109,28 @@ class Content:
             raise wrong(self.label, f"has more than {MOST_BASES} elements with 'xml:base' inside of each other (line {self.line()})")
         self.bases.append((self.depth, base))
 
+    def enter(self) -> None:
+        """Enter an element, unless too many are around it."""
+        self.depth += 1
+        if self.depth > DEEPEST:
+            raise self.too_deep()
+
+    def too_deep(self) -> Refusal:
+        line = f"line {self.line()}"
+        return wrong(self.label, f"is nested more than {DEEPEST} levels deep ({line})")
+
     def leave(self) -> None:
-        """Leaves an element: its `xml:base` ends with it."""
+        """Leave an element: its `xml:base` ends with it."""
         if self.bases[-1][0] == self.depth:
             self.bases.pop()
         self.depth -= 1
 
     def name(self, text: str, unprefixed: str = "") -> Name:
-        """A QName of an attribute, by the prefixes in scope; the default namespace holds (XML Schema, part 2, section 3.2.18)."""
+        """Return a QName of an attribute, by the prefixes in scope.
+
+        The default namespace counts (XML Schema, part 2, section 3.2.18). Refuse a prefix that is
+        not declared.
+        """
         prefix, colon, local = text.strip().partition(":")
         if not colon:
             prefix, local = "", prefix
@@ -82,19 +146,20 @@ class Content:
 
 
 def parse(pieces: Iterable[bytes], content: Content) -> None:
-    """Reads a file to its end. One that is not well-formed, or has a document type (and so all that has an entity of its own), is refused."""
+    """Read a file to its end.
+
+    Refuse one that is not well-formed, that is in an encoding that is not taken, or that has a
+    document type, and so any that has an entity of its own.
+    """
     pieces = iter(pieces)
-    first = next(pieces, b"")
-    encoding = encoding_of(first, content.label)
-    parser = content.parser = expat.ParserCreate("utf-8" if encoding else None, " ")
+    first = start_of(pieces)
+    native, encoding = encoding_of(first, content.label)
+    parser = expat.ParserCreate(native or "utf-8", " ")
     parser.StartDoctypeDeclHandler = lambda *_: refuse(content, "has a document type")
-    parser.StartNamespaceDeclHandler = content.declare
-    parser.EndNamespaceDeclHandler = content.forget
-    parser.StartElementHandler = content.start
-    parser.EndElementHandler = content.end
+    content.take(parser)
     try:
         fed = 0
-        for piece in recoded(first, pieces, encoding) if encoding else chained(first, pieces):
+        for piece in chained(first, pieces) if native else recoded(first, pieces, encoding):
             parser.Parse(piece)
             fed += len(piece)
             if fed - parser.CurrentByteIndex > LARGEST_TOKEN:
@@ -103,11 +168,23 @@ def parse(pieces: Iterable[bytes], content: Content) -> None:
     except expat.ExpatError as error:
         if error.code == NO_MEMORY:
             raise MemoryError from None
-        raise wrong(content.label, f"is not well-formed XML: {expat.ErrorString(error.code)} (line {error.lineno})") from None
+        why = f"{expat.ErrorString(error.code)} (line {error.lineno})"
+        raise wrong(content.label, f"is not well-formed XML: {why}") from None
     except UnicodeError:
-        raise wrong(content.label, f"is not in its encoding, {encoding} (line {content.line()})") from None
+        where = f"{encoding} (line {content.line()})"
+        raise wrong(content.label, f"is not in its encoding, {where}") from None
     finally:
-        content.parser = None  # the parser knows the content, so without this neither would go at once
+        content.drop()
+
+
+def start_of(pieces: Iterator[bytes]) -> bytes:
+    """Return the first pieces, as many as the longest declaration needs."""
+    first = b""
+    for piece in pieces:
+        first += piece
+        if len(first) >= 4 * LONGEST_DECLARATION:
+            break
+    return first
 
 
 def refuse(content: Content, what: str) -> None:
@@ -120,24 +197,38 @@ def chained(first: bytes, pieces: Iterator[bytes]) -> Iterator[bytes]:
 
 
 def recoded(first: bytes, pieces: Iterator[bytes], encoding: str) -> Iterator[bytes]:
-    """The same text in UTF-8."""
+    """Yield the same text in UTF-8."""
     decoder = codecs.getincrementaldecoder(encoding)()
     for piece in chained(first, pieces):
         yield decoder.decode(piece).encode()
     yield decoder.decode(b"", True).encode()
 
 
-def encoding_of(first: bytes, label: str) -> Optional[str]:
-    """The encoding that a file declares, where expat does not read it by itself (XML 1.0, section 4.3.3 and appendix F)."""
-    for mark, encoding in MARKS:
-        if first.startswith(mark):
-            return None if encoding in BY_EXPAT else encoding
+def encoding_of(first: bytes, label: str) -> Tuple[Optional[str], str]:
+    """Return what expat is to read a file as, or None and what it is to be recoded from.
+
+    A mark at the file's beginning counts before what the file declares (XML 1.0, section 4.3.3 and
+    appendix F). Refuse an encoding that is not taken, and a declaration that is too long.
+    """
+    known = next((encoding for mark, encoding in MARKS if first.startswith(mark)), None)
+    return (TAKEN[known], known) if known else declared_encoding(first, label)
+
+
+def declared_encoding(first: bytes, label: str) -> Tuple[Optional[str], str]:
+    """Return the same for a file without a mark, by what it declares."""
     ebcdic = first.startswith(b"\x4c\x6f\xa7\x94")
-    found = DECLARED.match(first[:1024].decode("cp037" if ebcdic else "latin-1"))
+    start = first[:LONGEST_DECLARATION].decode("cp037" if ebcdic else "latin-1")
+    if start.startswith("<?xml") and "?>" not in start and len(first) > LONGEST_DECLARATION:
+        raise wrong(label, f"has an XML declaration of more than {LONGEST_DECLARATION} bytes")
+    found = DECLARED.match(start)
     if not found:
-        return None
+        return "utf-8", "utf-8"
     try:
-        b" ".decode(found[1], "replace")
-        return None if codecs.lookup(found[1]).name in BY_EXPAT else found[1]
-    except (LookupError, UnicodeError):
+        known = codecs.lookup(found[1]).name
+    except LookupError:
         raise wrong(label, f"is in an encoding that is not known: {found[1]}") from None
+    if known not in TAKEN:
+        raise wrong(label, f"is in an encoding that is not taken: {found[1]}")
+    if known.startswith(("utf-16", "utf-32")):
+        raise wrong(label, f"is not in its encoding, {found[1]} (line 1)")
+    return TAKEN[known], found[1]

@@ -1,4 +1,7 @@
-"""The merged metadata: all files of a chain as one, without `extends`, with the members that the converter reads."""
+"""The merged metadata: all files of a chain as one, without `extends`.
+
+It has only the members that the converter reads.
+"""
 
 from __future__ import annotations
 
@@ -19,14 +22,17 @@ GROUP_MEMBERS = ("dimensions", "decimals")
 
 
 class Merged:
-    """A metadata file as it grows, and from which file each part of it came."""
+    """A metadata file that is being joined, and the file that each part of it came from."""
 
     def __init__(self) -> None:
         self.value: Object = {}
         self.origins: Dict[Path, str] = {}
 
     def put(self, path: Path, value: Json, label: str) -> None:
-        """Puts a value at a path. A value that is there already must be equal (xBRL-CSV 1.0, extends)."""
+        """Put a value at a path.
+
+        A value that is there already must be equal (xBRL-CSV 1.0, `extends`).
+        """
         owner: Any = self.value
         for depth, name in enumerate(path[:-1], 1):
             if name not in owner:
@@ -44,13 +50,13 @@ class Merged:
         return wrong(label, f"'{'.'.join(path)}' has another value than in {self.origin(path)}")
 
     def origin(self, path: Path) -> str:
-        """The file that gave a part, or the part around it."""
+        """Return the file that gave a part, or the part around it."""
         while path not in self.origins and path:
             path = path[:-1]
         return self.origins.get(path, "the report")
 
     def put_table(self, name: str, table: Json, label: str) -> None:
-        """A table is joined member by member: what one file leaves open another may give."""
+        """Join a table member by member: one file may give what another leaves open."""
         there = self.value.get("tables", {}).get(name, {})
         if not isinstance(table, dict) or not isinstance(there, dict):
             self.put(("tables", name), table, label)
@@ -68,7 +74,7 @@ class Merged:
                 self.put(("tables", name, member), value, label)
 
     def concepts(self) -> Iterator[Tuple[str, Path]]:
-        """Each concept that is named by a literal, and where."""
+        """Yield each concept that is named by a literal, and where."""
         for path, level in levels(self.value):
             dimensions = level.get("dimensions")
             concept = dimensions.get("concept") if isinstance(dimensions, dict) else None
@@ -76,7 +82,7 @@ class Merged:
                 yield concept, path + ("dimensions", "concept")
 
     def taxonomy_dimensions(self) -> Iterator[Tuple[str, Path]]:
-        """Each dimension of the taxonomy that is named, and where."""
+        """Yield each dimension of the taxonomy that is named, and where."""
         for path, level in levels(self.value):
             dimensions = level.get("dimensions")
             for name in dimensions if isinstance(dimensions, dict) else ():
@@ -84,12 +90,12 @@ class Merged:
                     yield name, path + ("dimensions", name)
 
     def text(self) -> bytes:
-        """The file's bytes: compact, members in order of their names."""
+        """Return the file's bytes: compact, with members in the order of their names."""
         return (json.dumps(self.value, ensure_ascii=False, sort_keys=True, separators=(",", ":")) + "\n").encode()
 
 
 def merge(chain: Chain, renaming: Renaming) -> Merged:
-    """The merged metadata of a chain."""
+    """Return the merged metadata of a chain."""
     merged = Merged()
     for number, metadata in enumerate(chain):
         value, label = renaming.report(metadata), metadata.label
@@ -109,7 +115,7 @@ def merge(chain: Chain, renaming: Renaming) -> Merged:
 
 
 def put_info(merged: Merged, metadata: Metadata, is_report: bool) -> None:
-    """Joins what `documentInfo` says: its type, namespaces and entry points, and of the report its `baseURL`."""
+    """Join `documentInfo`: type, namespaces and entry points, and the report's `baseURL`."""
     label = metadata.label
     merged.put(("documentInfo", "documentType"), DOCUMENT_TYPE, label)
     put_namespaces(merged, metadata)
@@ -121,7 +127,7 @@ def put_info(merged: Merged, metadata: Metadata, is_report: bool) -> None:
 
 
 def put_entries(merged: Merged, metadata: Metadata) -> None:
-    """Adds a file's entry points to those that are there, each once."""
+    """Add a file's entry points to those that are there, each once."""
     entries = merged.value["documentInfo"].setdefault("taxonomy", [])
     merged.origins.setdefault(ENTRIES, metadata.label)
     known = set(entries)
@@ -138,7 +144,10 @@ def put_namespaces(merged: Merged, metadata: Metadata) -> None:
 
 
 def check_parts(chain: Chain) -> None:
-    """Refuses parts that cannot be joined: no objects, and prefixes of two namespaces."""
+    """Refuse parts that cannot be joined.
+
+    These are values that are not objects, and prefixes of two namespaces.
+    """
     merged = Merged()
     for metadata in chain:
         for part in ("tableTemplates", "tables", "dimensions", "parameters"):
@@ -147,7 +156,7 @@ def check_parts(chain: Chain) -> None:
 
 
 def prune(merged: Merged) -> None:
-    """Leaves out templates that no table uses, and members that the converter does not read."""
+    """Leave out templates that no table uses, and members that the converter does not read."""
     value = merged.value
     used = [it.get("template", name) for name, it in objects(value, "tables")]
     named = {it for it in used if isinstance(it, str)}
@@ -171,12 +180,12 @@ def pruned_column(column: Json) -> Json:
 
 
 def only(value: Json, members: Tuple[str, ...]) -> Json:
-    """An object with some of its members alone; any other value as it is."""
+    """Return an object with only some of its members. Return any other value unchanged."""
     return {it: value[it] for it in members if it in value} if isinstance(value, dict) else value
 
 
 def levels(report: Object) -> Iterator[Tuple[Path, Object]]:
-    """Each object of a metadata file that may have `dimensions`, with its path."""
+    """Yield each object of a metadata file that may have `dimensions`, with its path."""
     yield (), report
     for name, template in objects(report, "tableTemplates"):
         at: Path = ("tableTemplates", name)
@@ -189,7 +198,7 @@ def levels(report: Object) -> Iterator[Tuple[Path, Object]]:
 
 
 def objects(owner: Object, member: str) -> Iterator[Tuple[str, Object]]:
-    """The members of one of an object's objects that are objects themselves."""
+    """Yield the members of `owner[member]` that are objects, with their names."""
     inner = owner.get(member)
     for name, it in (inner.items() if isinstance(inner, dict) else ()):
         if isinstance(it, dict):

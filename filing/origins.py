@@ -14,7 +14,7 @@ POINTER = re.compile(r"(?:/(?:[^~/]|~[01])*)+")
 
 
 class Origins:
-    """Where the parts of a merged file stand in the files that it was made of."""
+    """The places that the parts of a merged file have in the files that it was made of."""
 
     def __init__(self, merged: Merged, files: Iterable[Metadata], renaming: Renaming) -> None:
         self.merged = merged
@@ -25,7 +25,10 @@ class Origins:
         return list(self.files)
 
     def place(self, pointer: str) -> Optional[Tuple[str, str]]:
-        """The file and the pointer there of a pointer of the merged file (RFC 6901); None for a text that is no pointer to a part of it."""
+        """Return the file and the pointer there for a pointer of the merged file (RFC 6901).
+
+        Return None for a text that does not point to a part of it.
+        """
         path = path_of(pointer)
         if not path or path[0] not in self.merged.value:
             return None
@@ -33,7 +36,7 @@ class Origins:
         return label, pointer_of(there)
 
     def own_path(self, path: Path) -> Tuple[str, Path]:
-        """The file that gave a part of the merged file, or the part around it, and the path of it there."""
+        """Return the file that gave a part, or the part around it, and the part's path there."""
         label = self.merged.origin(path)
         file = self.files[label]
         owner: Json = file.value
@@ -44,7 +47,10 @@ class Origins:
         return label, tuple(there)
 
     def own_name(self, file: Metadata, owner: Json, path: Path, name: str) -> str:
-        """What a file itself calls a member of one of its objects, or which of its entry points one is."""
+        """Return what a file itself calls a member of one of its objects.
+
+        For an entry point, return its number in the file's own list.
+        """
         if path == ENTRIES and name.isdecimal():
             entries = self.merged.value["documentInfo"]["taxonomy"]
             texts = [text for text, _ in file.taxonomy()]
@@ -55,7 +61,7 @@ class Origins:
 
 
 def path_of(pointer: str) -> Optional[Path]:
-    """The names that a JSON pointer has (RFC 6901, section 4)."""
+    """Return the names in a JSON pointer (RFC 6901, section 4); None for another text."""
     if not POINTER.fullmatch(pointer):
         return None
     return tuple(it.replace("~1", "/").replace("~0", "~") for it in pointer[1:].split("/"))

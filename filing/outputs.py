@@ -1,4 +1,7 @@
-"""Outputs that are inputs, by any of their names: refused before anything is written. `--out` is emptied in place, so links count."""
+"""Refuses outputs that are inputs, by any of their names, before anything is written.
+
+`--out` is emptied in place, so links count.
+"""
 
 from __future__ import annotations
 
@@ -13,7 +16,10 @@ from .words import Settings
 
 
 def refuse_outputs(settings: Settings, packages: List[Package], files: Optional[Files]) -> None:
-    """Refuses an output that is the report, a package, or a file of one. The files may be looked at later than the packages."""
+    """Refuse an output that is the report, a package, or a file of one.
+
+    `files` is None before they are known, so that the packages are checked earlier.
+    """
     outputs = list(settings.outputs()) + [it for it in (settings.prepare, settings.cache) if it is not None]
     folders = {it.top for it in packages if isinstance(it, FolderPackage)}
     inputs = [os.path.realpath(it) for it in input_files(settings, files)]
@@ -25,12 +31,13 @@ def refuse_outputs(settings: Settings, packages: List[Package], files: Optional[
             raise cannot_write(output, "it stands inside of a package that is an input of this run")
         if any(linked_into(path, it) for it in folders):
             raise cannot_write(output, "it is a link to a file of a package that is an input of this run")
-    if settings.prepare is not None and settings.cache is not None and stands_in(*map(os.path.realpath, (settings.cache, settings.prepare))):
-        raise cannot_write(settings.cache, "the cache stands inside of the folder to prepare")
+    if settings.prepare is not None and settings.cache is not None:
+        if stands_in(os.path.realpath(settings.cache), os.path.realpath(settings.prepare)):
+            raise cannot_write(settings.cache, "the cache stands inside of the folder to prepare")
 
 
 def input_files(settings: Settings, files: Optional[Files]) -> Iterator[str]:
-    """The files on the disk that the run reads: the words' own, and those beside the report."""
+    """Yield the files on the disk that the run reads: those of the options and of the report."""
     yield settings.report
     yield from settings.taxonomy
     if files is not None:
@@ -41,12 +48,12 @@ def input_files(settings: Settings, files: Optional[Files]) -> Iterator[str]:
 
 
 def stands_in(path: str, folder: str) -> bool:
-    """Whether a path is a folder's or leads into it; both are without links."""
+    """Return whether a path is a folder's or leads into it. Both are without links."""
     return os.path.commonpath([path, folder]) == folder
 
 
 def linked_into(path: str, folder: str) -> bool:
-    """Whether a file has another name in a folder: a hard link, which no path shows."""
+    """Return whether a file has another name in a folder: a hard link, which no path shows."""
     try:
         known = os.stat(path)
     except OSError:
@@ -57,7 +64,7 @@ def linked_into(path: str, folder: str) -> bool:
 
 
 def same_file(one: str, other: str) -> bool:
-    """Whether two paths are one file by two names."""
+    """Return whether two paths lead to one file."""
     try:
         return os.path.samefile(one, other)
     except OSError:

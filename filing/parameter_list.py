@@ -14,12 +14,15 @@ HEADER = "parameter", "value", "file", "references", "first reference"
 
 
 def parameter_list(origins: Origins, files: Files) -> str:
-    """A CSV file: a record for each value of a parameter, and for each parameter without one to which something refers, in order of their names."""
+    """Return a CSV file with a record for each value of a parameter, in order of the names.
+
+    A parameter without a value has a record too if something refers to it.
+    """
     return record(HEADER) + "".join(map(record, rows(origins, files)))
 
 
 def rows(origins: Origins, files: Files) -> Iterator[Tuple[str, str, str, int, str]]:
-    """Name, value, file, the number of references, and the first of them."""
+    """Yield name, value, file, the number of references, and the first of them."""
     given = [*parameters_of_metadata(origins.merged), *parameters_of_file(files)]
     references = references_by_name(origins.merged, {name for name, _, _ in given})
     missing = ((name, "", "") for name in references.keys() - {name for name, _, _ in given})
@@ -29,8 +32,11 @@ def rows(origins: Origins, files: Files) -> Iterator[Tuple[str, str, str, int, s
 
 
 def references_by_name(merged: Merged, given: Set[str]) -> Dict[str, List[Path]]:
-    """Where each parameter is referred to. A name that a column of the template has too is that column's where the table's file has it, so it is
-    one of a parameter that is given, and of none that is missing."""
+    """Return where each parameter is referred to.
+
+    If a column of the template has the same name, it counts only in tables whose file has it. So
+    the reference is listed for a parameter that is given, but makes no parameter missing.
+    """
     columns = {name: columns_of(template) for name, template in objects(merged.value, "tableTemplates")}
     places: Dict[str, List[Path]] = {}
     for name, path in placed_references(merged):
@@ -41,6 +47,6 @@ def references_by_name(merged: Merged, given: Set[str]) -> Dict[str, List[Path]]
 
 
 def shown(origins: Origins, path: Path) -> str:
-    """A place as lines name it: the file, and the keys there."""
+    """Return a place as lines name it: the file, and the keys there."""
     label, there = origins.own_path(path)
     return f"{label}: {'.'.join(there)}"

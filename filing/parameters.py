@@ -1,5 +1,8 @@
-"""Parameters that would be lost in silence: texts that need a prefix which the merged metadata does not have, names in other letters, and those that
-all facts take their entity or period from."""
+"""Checks for parameters that would otherwise be lost silently.
+
+Three cases: a value whose prefix the merged metadata lacks, a name that is wrong only in its
+capitals, and a missing value from which all facts take their entity or period.
+"""
 
 from __future__ import annotations
 
@@ -23,7 +26,7 @@ MOST_RECORDS = 65536  # of a parameters file that xbrl-json takes
 
 
 def check_parameters(merged: Merged, renaming: Renaming, files: Files) -> None:
-    """Refuses a parameter's text that has a lost prefix, as a name or in a unit."""
+    """Refuse a parameter whose text has a lost prefix, as a name or in a unit."""
     if not renaming.lost:
         return
     for name, text, label in (*parameters_of_metadata(merged), *parameters_of_file(files)):
@@ -34,7 +37,7 @@ def check_parameters(merged: Merged, renaming: Renaming, files: Files) -> None:
 
 
 def check_references(merged: Merged, files: Files) -> None:
-    """Refuses a parameter to which nothing refers, where a template refers to one that is not there and differs from it in capitals alone."""
+    """Refuse an unused parameter that differs only in capitals from one that a template needs."""
     given = {name: label for name, _, label in (*parameters_of_metadata(merged), *parameters_of_file(files))}
     named = dict.fromkeys(references(merged)) if given else {}
     used = {name for name, _ in named}
@@ -42,14 +45,19 @@ def check_references(merged: Merged, files: Files) -> None:
     columns = {name: columns_of(template) for name, template in objects(merged.value, "tableTemplates")}
     for name, owner in named:
         other = spelt.get(name.lower())
-        template = None if other is None or name in given else template_without(name, owner, columns)
+        if other is None or name in given:
+            continue
+        template = template_without(name, owner, columns)
         if template is not None:
             what = f"nothing refers to the parameter '{other}', and the template '{template}' refers to '${name}', which is no parameter"
             raise wrong(given[other], f"{what} and no column of it (names are compared exactly)")
 
 
 def require_parameters(merged: Merged, files: Files) -> None:
-    """Refuses a parameter without a value to which the report's own `entity` or `period` refers, where a fact would then have none."""
+    """Refuse a missing value to which the report's own `entity` or `period` refers.
+
+    Refuse it only if a fact would then have no entity or period.
+    """
     dimensions, parameters = merged.value.get("dimensions", {}), merged.value.get("parameters", {})
     if is_faulty(files):
         return
@@ -64,7 +72,11 @@ def require_parameters(merged: Merged, files: Files) -> None:
 
 
 def table_without(key: str, name: str, merged: Merged, files: Files) -> Optional[str]:
-    """The first table whose file is there and of which a fact takes a dimension from the report's own level, where nothing of it gives the parameter."""
+    """Return the first table that lacks a dimension without the parameter, or None.
+
+    Its file exists, a fact of it takes the dimension from the report's own level, and nothing of
+    the table gives the parameter.
+    """
     templates = dict(objects(merged.value, "tableTemplates"))
     for table_name, table in objects(merged.value, "tables"):
         url, used = table.get("url"), table.get("template", table_name)
@@ -76,14 +88,17 @@ def table_without(key: str, name: str, merged: Merged, files: Files) -> Optional
 
 
 def takes_from_report(template: Object, key: str) -> bool:
-    """Whether a fact column of a template has a dimension from the report's own level: neither it, nor its property groups, nor the template has it."""
+    """Return whether a fact column takes a dimension from the report's own level.
+
+    It does if neither it, nor its property groups, nor the template has the dimension.
+    """
     columns = dict(objects(template, "columns"))
     facts = [it for it in columns.values() if "dimensions" in it and member(it, "dimensions", key) is None]
     return member(template, "dimensions", key) is None and not all(groups_give(it, columns, key) for it in facts)
 
 
 def groups_give(column: Object, columns: Object, key: str) -> bool:
-    """Whether a column takes property groups from one that gives a dimension in each of its groups."""
+    """Return whether a column takes property groups that all give a dimension."""
     places = column.get("propertiesFrom")
     givers = [columns.get(it, {}) for it in places if isinstance(it, str)] if isinstance(places, list) else []
     groups = [[member(group, "dimensions", key) for _, group in objects(it, "propertyGroups")] for it in givers]
@@ -91,7 +106,7 @@ def groups_give(column: Object, columns: Object, key: str) -> bool:
 
 
 def member(owner: Object, part: str, name: str) -> Json:
-    """A member of an object's object, or None."""
+    """Return a member of an object's object, or None."""
     inner = owner.get(part)
     return inner.get(name) if isinstance(inner, dict) else None
 
@@ -102,19 +117,28 @@ def columns_of(template: Object) -> Object:
 
 
 def template_without(name: str, owner: Optional[str], columns: Dict[str, Object]) -> Optional[str]:
-    """The first template of those that a reference stands in which has no column of the name, so that only a parameter can have it. `owner` is the
-    template that refers, or None for the report's own level, which all have."""
+    """Return the first template of a reference that has no column of the name, or None.
+
+    Then only a parameter can have the name. `owner` is the template that refers, or None for the
+    report's own level, which all templates have.
+    """
     return None if name == ROW_NUMBER else next((it for it in (columns if owner is None else [owner]) if name not in columns[it]), None)
 
 
 def references(merged: Merged) -> Iterator[Tuple[str, Optional[str]]]:
-    """Each name that is referred to, and the template that does; None for the report's own level, which all templates have."""
+    """Yield each name that is referred to, and the template that refers.
+
+    The template is None for the report's own level, which all templates have.
+    """
     for name, path in placed_references(merged):
         yield name, path[1] if path[0] == "tableTemplates" else None
 
 
 def placed_references(merged: Merged) -> Iterator[Tuple[str, Path]]:
-    """Each name of a column or parameter that the `dimensions` and `decimals` of an object refer to, and where."""
+    """Yield each name that `dimensions` and `decimals` refer to, and where.
+
+    It is the name of a column or a parameter.
+    """
     for path, level in levels(merged.value):
         dimensions = level.get("dimensions")
         for key, text in dimensions.items() if isinstance(dimensions, dict) else ():
@@ -127,14 +151,17 @@ def placed_references(merged: Merged) -> Iterator[Tuple[str, Path]]:
 
 
 def reference(key: str, text: Json) -> Optional[str]:
-    """The name of the column or parameter to which a dimension's text refers, if it does."""
+    """Return the name of the column or parameter to which a text refers, or None.
+
+    `key` is the dimension whose text it is.
+    """
     if not isinstance(text, str) or not text.startswith("$") or text.startswith("$$"):
         return None
     return SIDE.sub("", text[1:]) if key == "period" else text[1:]
 
 
 def parameters_of_metadata(merged: Merged) -> Iterator[Tuple[str, str, str]]:
-    """The name, text and file of each parameter of the report and of its tables."""
+    """Yield the name, text and file of each parameter of the report and of its tables."""
     owners = [((), merged.value)] + [(("tables", name), table) for name, table in objects(merged.value, "tables")]
     for path, owner in owners:
         parameters = owner.get("parameters")
@@ -144,20 +171,29 @@ def parameters_of_metadata(merged: Merged) -> Iterator[Tuple[str, str, str]]:
 
 
 def parameters_of_file(files: Files) -> Iterator[Tuple[str, str, str]]:
-    """The same of the parameters file, behind its header. What is wrong with it is left to xbrl-json."""
+    """Yield the same for the parameters file, after its header.
+
+    What is wrong with the file is left to xbrl-json.
+    """
     for record in islice(records_of_file(files), 1, None):
         if len(record) == 2:
             yield record[0], record[1], files.package.shown(files.name(files.parameters or ""))
 
 
 def is_faulty(files: Files) -> bool:
-    """Whether there is a parameters file that has another header, or a record of another length, than xbrl-json takes."""
+    """Return whether the parameters file has a header or a record that xbrl-json refuses.
+
+    That is another header, or a record that does not have two fields.
+    """
     records = list(records_of_file(files))
     return files.parameters is not None and (records[:1] != [["name", "value"]] or any(len(it) != 2 for it in records))
 
 
 def records_of_file(files: Files) -> Iterator[List[str]]:
-    """The records of the parameters file, its header first. An empty one stands for what is no CSV."""
+    """Yield the records of the parameters file, its header first.
+
+    An empty record means that the file is not CSV.
+    """
     data = files.parameter_text()
     if data is None:
         return

@@ -1,4 +1,7 @@
-"""One prefix for each namespace: where two files have two, the first stands and the other is replaced."""
+"""One prefix for each namespace.
+
+If two files have two, the first counts, and the other is replaced.
+"""
 
 from __future__ import annotations
 
@@ -14,7 +17,10 @@ MEASURE_PREFIX = re.compile(r"(?:^|(?<=[*/(]))[^*/():]+(?=:)")
 
 
 def lost_prefixes(files: Iterable[Metadata]) -> Dict[str, str]:
-    """The prefixes that are replaced, and what stands for each. Two of one URI in one file are left to the converter."""
+    """Return the prefixes that are replaced, and what replaces each.
+
+    Two prefixes of one URI in one file are left to the converter.
+    """
     first: Dict[str, str] = {}
     lost: Dict[str, str] = {}
     left: Set[str] = set()
@@ -28,7 +34,10 @@ def lost_prefixes(files: Iterable[Metadata]) -> Dict[str, str]:
 
 
 class Renaming:
-    """Replaces lost prefixes in metadata. It must be told which dimensions are explicit, by their names with the prefixes that stand."""
+    """Replaces lost prefixes in metadata.
+
+    `is_explicit` gets a dimension's name with its new prefix, and returns whether it is explicit.
+    """
 
     def __init__(self, lost: Dict[str, str], is_explicit: Callable[[str], bool]) -> None:
         self.lost = lost
@@ -42,11 +51,11 @@ class Renaming:
         return MEASURE_PREFIX.sub(lambda it: self.lost.get(it[0], it[0]), text)
 
     def lost_in(self, text: str) -> Optional[str]:
-        """A lost prefix that a text seems to need, as a name or as a unit."""
+        """Return a lost prefix that a text seems to need, as a name or as a unit."""
         return next((it for it in MEASURE_PREFIX.findall(text) if it in self.lost), None)
 
     def value(self, dimension: str, value: Json) -> Json:
-        """A dimension's value. References and special values have no prefix that could be lost."""
+        """Return a dimension's value. References and special values have no prefix to lose."""
         if not isinstance(value, str):
             return value
         if dimension == "unit":
@@ -54,7 +63,7 @@ class Renaming:
         return self.qname(value) if dimension in ("concept", "entity") or self.is_explicit(dimension) else value
 
     def dimensions(self, value: Json, label: str, where: str) -> Json:
-        """A `dimensions` object. Two keys that become one must have one value."""
+        """Return a `dimensions` object. Two keys that become one must have one value."""
         if not isinstance(value, dict):
             return value
         made: Object = {}
@@ -67,7 +76,7 @@ class Renaming:
         return made
 
     def level(self, level: Json, label: str, where: str) -> Json:
-        """A report, template, column or property group: all of it, with its `dimensions` replaced."""
+        """Return a report, template, column or property group with its `dimensions` replaced."""
         if not isinstance(level, dict) or "dimensions" not in level:
             return level
         return {**level, "dimensions": self.dimensions(level["dimensions"], label, where)}
@@ -81,16 +90,19 @@ class Renaming:
         return each(made, "propertyGroups", lambda name, it: self.level(it, label, f"{where}, group '{name}'"))
 
     def report(self, metadata: Metadata) -> Object:
-        """The whole of a metadata file."""
+        """Return the whole of a metadata file."""
         if not self.lost:
             return metadata.value
         label = metadata.label
         made: Object = self.level(metadata.value, label, "the report's dimensions")
-        return each(made, "tableTemplates", lambda name, it: self.template(it, label, f"template '{name}'"))
+        changed: Object = each(
+            made, "tableTemplates", lambda name, it: self.template(it, label, f"template '{name}'")
+        )
+        return changed
 
 
 def each(owner: Json, member: str, change: Callable[[str, Json], Json]) -> Any:
-    """An object in which each value of one of its objects is changed."""
+    """Return an object in which each value of one of its objects is changed."""
     if not isinstance(owner, dict) or not isinstance(owner.get(member), dict):
         return owner
     return {**owner, member: {name: change(name, it) for name, it in owner[member].items()}}

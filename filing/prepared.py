@@ -1,7 +1,11 @@
-"""The files that xbrl-json reads: the merged metadata, the types table, and the report's tables at the paths that it names."""
+"""The files that xbrl-json reads, at the paths that the metadata names.
+
+They are the merged metadata, the types table, and the report's tables and parameters.
+"""
 
 from __future__ import annotations
 
+import errno
 import os
 import re
 import shutil
@@ -11,24 +15,34 @@ from itertools import groupby
 from typing import Any, Dict, Iterable, Iterator, List, Optional, Set
 
 from .finding import Found
-from .metadata import Merged
+from .metadata import Merged, objects, prune
 from .packages import Package, mode_of, pieces_of_disk
-from .refusals import FILES, Refusal, cannot_write, wrong
+from .refusals import cannot_read, cannot_write, wrong
 from .report import REPORTS, reports_in
+from .strict_json import Json
 
 META, TYPES = "meta.json", "types.csv"
+LONGEST_NAME, LONGEST_PATH = 255, 4000  # bytes that a file system takes, with a folder before it
 # What xbrl-json takes as the path of a table; the segments are looked at besides.
 PLAIN = re.compile(r"[^\\:?#%\x00-\x1f]+")
 
 
 def is_plain(url: object) -> bool:
-    """Whether xbrl-json takes a URL as a path below the metadata's folder. Others are its fault, and are never looked at here."""
+    """Return whether xbrl-json takes a URL as a path below the metadata's folder.
+
+    Other URLs are a fault that xbrl-json names, so they are never looked at here.
+    """
     return isinstance(url, str) and bool(PLAIN.fullmatch(url)) and not {"", ".", ".."}.intersection(url.split("/"))
 
 
 def is_csv(path: str) -> bool:
-    """Whether a file is CSV by its name. What systems and editors leave (`._t.csv`, `.ipynb_checkpoints`) is none of the report."""
-    return path.lower().endswith(".csv") and not any(it.startswith(".") or it == "__MACOSX" for it in path.split("/"))
+    """Return whether a file is CSV by its name, and not one that a system or an editor leaves.
+
+    These are `._t.csv`, `.ipynb_checkpoints`, `__MACOSX`, and `~$t.csv` while Excel has a file
+    open.
+    """
+    left = (it.startswith((".", "~$")) or it == "__MACOSX" for it in path.split("/"))
+    return path.lower().endswith(".csv") and not any(left)
 
 
 class Files:
@@ -48,21 +62,31 @@ class Files:
         return sorted(self.tables | ({self.parameters} if self.parameters is not None else set()))
 
     def name(self, url: str) -> str:
-        """A file's name in the package. URLs of tables are relative to the report's own file, whichever file states them."""
+        """Return a file's name in the package.
+
+        URLs of tables are relative to the report's own file, whichever file has them.
+        """
         return self.folder + url
 
     def require_parameters(self) -> None:
-        """Refuses a parameters file that is not there, by the file that names it."""
+        """Refuse a parameters file that does not exist.
+
+        The line names the file that asks for it.
+        """
         if self.parameters is None:
             return
         name = self.name(self.parameters)
         if not self.package.has(name):
             asker = self.merged.origin(("parameterURL",))
-            raise Refusal(FILES, self.package.shown(name), f"cannot read (there is no such file; 'parameterURL' of {asker} names it)")
+            why = f"is missing: 'parameterURL' of {asker} names it"
+            raise wrong(self.package.shown(name), why)
 
     def refuse_unread(self) -> None:
-        """Refuses a CSV file of the report that nothing names, or that stands too high: its facts would be missing in silence. A URL that is not
-        plain, or a folder in the place of a table, is left to xbrl-json."""
+        """Refuse a CSV file of the report that nothing names, or that is in a folder above.
+
+        Its facts would be missing silently. A URL that is not plain, or a folder at a table's path,
+        is left to xbrl-json.
+        """
         tables = self.merged.value.get("tables", {}).values()
         urls = [it.get("url") if isinstance(it, dict) else None for it in tables]
         if not all(map(is_plain, urls)) or (self.parameters is None and "parameterURL" in self.merged.value):
@@ -74,8 +98,44 @@ class Files:
             raise wrong(self.package.shown(name), "is not read: no table of the joined metadata has this url (names are compared exactly)")
         raise wrong(self.package.shown(name), f"is not read: it stands above '{self.folder[:-1]}', the folder of the report, in which tables are looked for")
 
+    def leave_out_absent(self) -> None:
+        """Leave out optional tables without a file, and the templates that only they use.
+
+        They give no facts, so their metadata costs nothing then, and a slip in it does not stop a
+        filing that has no such table.
+        """
+        tables = self.merged.value.get("tables", {})
+        for name, table in list(objects(self.merged.value, "tables")):
+            url: Json = table.get("url")
+            if table.get("optional") is True and is_plain(url) and self.is_absent(url):
+                del tables[name]
+        prune(self.merged)
+
+    def is_absent(self, url: str) -> bool:
+        """Return whether nothing is at a table's path, not even a folder."""
+        name = self.name(url)
+        folders = [name[:at] for at, letter in enumerate(name) if letter == "/"]
+        too_long = any(len(os.fsencode(it)) > LONGEST_NAME for it in name.split("/"))
+        if too_long or len(os.fsencode(name)) > LONGEST_PATH:
+            return False  # xbrl-json refuses it, as the system does
+        path = self.package.path_on_disk(name)
+        if path is None:
+            inside = any(map(self.package.has, folders))  # of a file in a folder's place
+            there = self.package.has(name) or self.package.children(name) != ([], [])
+            return not (inside or there)
+        try:
+            os.stat(path)
+        except FileNotFoundError:
+            return True
+        except (OSError, ValueError):
+            return False
+        return False
+
     def unread(self) -> Iterator[str]:
-        """The CSV files that are neither a table nor the parameters file: those in the report's folder and in those inside of it, then those above."""
+        """Yield the CSV files that are neither a table nor the parameters file.
+
+        The files in and below the report's folder are first, then those above it.
+        """
         read = {self.package.identity(self.name(it)) for it in self.all()}
         found = (it for it in self.package.files_below(self.folder) if is_csv(it[len(self.folder) :]) and self.package.has(it))
         for folder, names in groupby((it for it in found if self.package.identity(it) not in read), self.part):
@@ -84,26 +144,29 @@ class Files:
         yield from (it for it in self.files_above() if is_csv(it) and self.package.has(it) and self.package.identity(it) not in read)
 
     def files_above(self) -> Iterator[str]:
-        """The files that stand directly in one of the folders from the package's root down to the one that holds the report's."""
+        """Yield the files that are directly in a folder above the report's, from the root down."""
         folder = ""
         for below in self.folder.split("/")[:-1]:
             yield from (folder + it for it in self.package.children(folder.rstrip("/"))[0])
             folder += below + "/"
 
     def part(self, name: str) -> str:
-        """The report's folder, or the one in it where a file stands in or below that."""
+        """Return the report's folder, or the folder directly in it that holds a file."""
         first, slash, _ = name[len(self.folder) :].partition("/")
         return f"{self.folder}{first}/" if slash else self.folder
 
     def is_of_another_report(self, folder: str) -> bool:
-        """Whether a folder inside of the report's own has a report by itself, which only one of `reports` can have."""
+        """Return whether a folder inside of the report's own has a report by itself.
+
+        Only a folder of `reports` can have one.
+        """
         return self.folder == REPORTS and folder != REPORTS and bool(reports_in(self.package, folder, []))
 
     def parameter_text(self) -> Optional[bytes]:
         return None if self.parameters is None else self.package.text(self.name(self.parameters))
 
     def new_names(self) -> Dict[str, str]:
-        """Another name for each file that would stand where the metadata or the types table does."""
+        """Return a new name for each file that has the name of the metadata or the types table."""
         urls = self.all()
         taken = {it.split("/")[0] for it in urls} | {META, TYPES}
         names = {}
@@ -115,7 +178,7 @@ class Files:
         return names
 
     def rename(self, names: Dict[str, str]) -> None:
-        """Writes the new names into the metadata."""
+        """Write the new names into the metadata."""
         value: Dict[str, Any] = self.merged.value
         for table in value.get("tables", {}).values():
             if isinstance(table, dict) and isinstance(table.get("url"), str):
@@ -125,7 +188,10 @@ class Files:
 
 
 def write_files(folder: str, files: Files, types: bytes, copy: bool) -> Dict[str, str]:
-    """Fills a folder, and answers how lines name what stands there. Files that stand on the disk are linked, or copied where the folder is kept."""
+    """Fill a folder, and return how lines name the files in it.
+
+    Files that are on the disk are linked; with `copy` they are copied.
+    """
     names = files.new_names()
     files.rename(names)
     shown: Dict[str, str] = {}
@@ -139,7 +205,10 @@ def write_files(folder: str, files: Files, types: bytes, copy: bool) -> Dict[str
 
 
 def put_file(target: str, package: Package, name: str, copy: bool) -> None:
-    """Puts one file of the report into a folder. One that is not there is left to xbrl-json, which knows whether it must be."""
+    """Put one file of the report into a folder.
+
+    A file that does not exist is left to xbrl-json, which knows whether it must exist.
+    """
     source = package.path_on_disk(name)
     if source is None:
         if package.has(name):
@@ -155,6 +224,8 @@ def put_file(target: str, package: Package, name: str, copy: bool) -> None:
     elif copy:
         fill(target, pieces_of_disk(source, package.shown(name)))
     else:
+        if stat.S_ISREG(mode) and not os.access(source, os.R_OK):
+            raise cannot_read(package.shown(name), PermissionError(errno.EACCES, os.strerror(errno.EACCES)))
         make_folder(os.path.dirname(target))
         with writing(target):
             os.symlink(source, target)
@@ -162,7 +233,7 @@ def put_file(target: str, package: Package, name: str, copy: bool) -> None:
 
 @contextmanager
 def writing(target: str) -> Iterator[None]:
-    """Tells of a file that cannot be written. What cannot be read is told by those who read."""
+    """Refuse a file that cannot be written. What cannot be read is refused by its reader."""
     try:
         yield
     except OSError as error:
@@ -182,7 +253,7 @@ def fill(target: str, pieces: Iterator[bytes]) -> None:
 
 
 def move_into(folder: str, made: str) -> None:
-    """Moves the prepared files to their place: all of them, or none."""
+    """Move the prepared files to their place: all of them, or no file."""
     moved: List[str] = []
     try:
         if not os.path.lexists(folder):

@@ -1,4 +1,4 @@
-"""How far a run is, on one line of standard error, where that is a terminal."""
+"""How far a run is, on one line of standard error, if that is a terminal."""
 
 from __future__ import annotations
 
@@ -20,7 +20,7 @@ class Progress:
         self.next = time.monotonic() + EVERY
 
     def counted(self, pieces: Iterator[bytes]) -> Iterator[bytes]:
-        """The pieces of a file, counted as they go by."""
+        """Yield the pieces of a file, and count them."""
         self.files += 1
         for piece in pieces:
             self.bytes += len(piece)

@@ -6,7 +6,7 @@ import os
 from typing import List, Tuple
 from urllib.parse import quote
 
-from .chain import DOCUMENT_TYPE
+from .chain import DOCUMENT_TYPE, is_of_a_draft
 from .finding import Found
 from .packages import Beside, Package
 from .refusals import WRONG, Refusal, wrong
@@ -26,17 +26,19 @@ def document_type(value: Json) -> object:
 
 
 def report_at(package: Package, name: str) -> Found:
-    """A file of the report, by its name in the package."""
+    """Return a file of the report, by its name in the package."""
     return Found(Place(quote(name, errors="surrogateescape"), True), package, name)
 
 
 def report_by_itself(label: str) -> Found:
-    """A metadata file that is in no package. One that is called as a package is not told as JSON alone where it is neither."""
+    """Return a metadata file that is in no package.
+
+    A file with a package's ending that is neither a ZIP nor JSON is refused as such.
+    """
     found = report_at(Beside(label), os.path.basename(label))
     if label.lower().endswith(PACKAGE_ENDINGS):
-        data = found.package.text(found.name)
         try:
-            read_json(data, label)
+            read_json(found.package.pieces(found.name), label)
         except RepeatedKey:
             raise
         except Refusal:
@@ -45,7 +47,7 @@ def report_by_itself(label: str) -> Found:
 
 
 def find_report(package: Package) -> Found:
-    """The one xBRL-CSV report of a package, in `reports` or else in the folders there."""
+    """Return the one xBRL-CSV report of a package, in `reports` or else in the folders there."""
     check_package_file(package)
     passed: List[Tuple[str, object]] = []
     levels = [[REPORTS], [f"{REPORTS}{it}/" for it in package.children("reports")[1]]]
@@ -58,30 +60,41 @@ def find_report(package: Package) -> Found:
     broken = next((it for _, it in passed if isinstance(it, Refusal)), None)
     if broken:
         raise broken
-    others = "".join(f"; {name} has the document type {kind!r}" for name, kind in passed if kind)
+    others = "".join(
+        f"; {name} has the document type {kind!r}{', of a draft' if is_of_a_draft(kind) else ''}"
+        for name, kind in passed
+        if kind
+    )
     others += "; it is a taxonomy package" if package.has(TAXONOMY_FILE) else ""
     others += "".join(f"; {name} is one, but does not stand there" for name in reports_in(package, "", []))
     raise wrong(package.label, f"has no xBRL-CSV report in 'reports' or a folder of it{others}")
 
 
 def check_package_file(package: Package) -> None:
-    """Refuses a package that says that it is of another kind. One that says nothing is taken: older forms did not."""
+    """Refuse a package that declares another kind.
+
+    One that declares nothing is taken, because older forms did not.
+    """
     if package.has(PACKAGE_FILE):
-        kind = document_type(read_json(package.text(PACKAGE_FILE), package.shown(PACKAGE_FILE)))
+        kind = document_type(read_json(package.pieces(PACKAGE_FILE), package.shown(PACKAGE_FILE)))
         if kind not in PACKAGE_TYPES:
             raise wrong(package.shown(PACKAGE_FILE), f"is of no report package: its document type is {kind!r}")
 
 
 def reports_in(package: Package, folder: str, passed: List[Tuple[str, object]]) -> List[str]:
-    """The names of the xBRL-CSV reports in a folder. Other JSON is passed over, and what is no JSON: it is told if there is no report. JSON with a
-    repeated key is not, since the one that is read may be another than the one that says that it is a report."""
+    """Return the names of the xBRL-CSV reports in a folder.
+
+    Other JSON is passed over, and so is what is not JSON: it is named if there is no report. JSON
+    with a repeated key is refused. The value that is read may not be the one that makes it a
+    report.
+    """
     found: List[str] = []
     for file in package.children(folder.rstrip("/"))[0]:
         if not file.lower().endswith(".json"):
             continue
         name = folder + file
         try:
-            kind = document_type(read_json(package.text(name), package.shown(name)))
+            kind = document_type(read_json(package.pieces(name), package.shown(name)))
         except Refusal as refusal:
             if refusal.status != WRONG or isinstance(refusal, RepeatedKey):
                 raise

@@ -1,13 +1,17 @@
-"""What the schemas of a taxonomy declare: read from its entry points, through imports and linkbases, as a stream."""
+"""What the schemas of a taxonomy declare.
+
+They are read as a stream from the entry points, through imports and linkbases.
+"""
 
 from __future__ import annotations
 
 import re
 from collections import deque
 from typing import Deque, Dict, List, NamedTuple, Optional, Set, Tuple
+from xml.parsers import expat
 
 from .finding import Finder, Found
-from .markup import XML_BASE, Content, Name, parse
+from .markup import DEEPEST, XML_BASE, Content, Name, parse
 from .progress import Progress
 from .refusals import wrong
 from .urls import Place, joined
@@ -31,6 +35,7 @@ FOLLOWED = {
     **{LINK + it: HREF for it in ("linkbaseRef", "loc", "roleRef", "arcroleRef")},
 }
 PASSED_OVER = frozenset(f"http://www.xbrl.org/2003/role/{it}LinkbaseRef" for it in ("label", "reference"))
+MOST_ENDED = 1 << 16  # elements of a linkbase that are counted together
 NCNAME = (
     "[A-Z_a-z\u00c0-\u00d6\u00d8-\u00f6\u00f8-\u02ff\u0370-\u037d\u037f-\u1fff\u200c\u200d\u2070-\u218f\u2c00-\u2fef\u3001-\ud7ff"
     "\uf900-\ufdcf\ufdf0-\ufffd\U00010000-\U000effff]"
@@ -40,7 +45,10 @@ NCNAME = (
 
 
 class Element(NamedTuple):
-    """What a global element says of itself: its head, its type (or the base of the type inside of it), and two truths."""
+    """What a global element declares: its head, its type, whether it is abstract and typed.
+
+    The type may be the base of the type inside of it.
+    """
 
     head: Optional[Name]
     type: Optional[Name]
@@ -49,7 +57,10 @@ class Element(NamedTuple):
 
 
 class Declared:
-    """The global elements of all schemas, by namespace and name, and the base of each global type."""
+    """The global elements of all schemas, and the base of each global type.
+
+    The elements are by namespace and name.
+    """
 
     def __init__(self) -> None:
         self.elements: Dict[str, Dict[str, Element]] = {}
@@ -57,7 +68,10 @@ class Declared:
 
 
 class Reference(NamedTuple):
-    """A file that another one asks for; `adopts` is the namespace that an `include` gives to a schema that has none."""
+    """A file that another one asks for.
+
+    `adopts` is the namespace that an `include` gives to a schema that has none.
+    """
 
     place: Place
     asker: str
@@ -65,37 +79,149 @@ class Reference(NamedTuple):
     adopts: str
 
 
-class SchemaFile(Content):
-    """The content of one schema or linkbase (XML Schema, part 1, sections 3.3, 3.4 and 4.2; XBRL 2.1, sections 3.5 and 5.1)."""
+class TaxonomyFile(Content):
+    """A schema or a linkbase, which its root tells (XBRL 2.1, section 3.2).
 
-    def __init__(self, found: Found, adopts: str, declared: Declared, shared: Dict[Element, Element]) -> None:
+    From its root on the file is read by a `SchemaFile` or a `LinkbaseFile`, which is `made`.
+    """
+
+    def __init__(self, found: Found, adopts: str, reading: Reading) -> None:
         super().__init__(found.place, found.label)
-        self.declared = declared
-        self.shared = shared
-        self.namespace = adopts
-        self.has_namespace = True
-        self.is_schema = False
-        self.references: List[Reference] = []
-        self.asked: Set[str] = set()
-        self.open: Optional[Tuple[bool, str, Dict[str, str]]] = None  # a global element or type whose content is still to come
-        self.astray = 0  # how many elements are open in it that are not on the way to its base
-        self.derived_from: Optional[Name] = None
-        self.is_ncname = re.compile(NCNAME).fullmatch
-        self.made: Dict[object, Element] = {}  # by what the attributes say, while the prefixes in scope are the same
+        self.adopts = adopts
+        self.reading = reading
+        self.made: Optional[Referring] = None
+
+    def start(self, name: str, attributes: Dict[str, str]) -> None:
+        if name == SCHEMA:
+            self.made = SchemaFile(self, self.reading, self.adopts, attributes)
+        elif name == LINKBASE:
+            self.made = LinkbaseFile(self, self.reading)
+        else:
+            root = name.rpartition(" ")[2]
+            raise wrong(self.label, f"is neither a schema nor a linkbase: its root is '{root}'")
+        if self.parser:
+            self.made.take(self.parser)
+        self.made.start(name, attributes)
+
+    def end(self, name: str) -> None:
+        """Do nothing: the root's end goes to the content that it made."""
+
+    def drop(self) -> None:
+        super().drop()
+        if self.made:
+            self.made.drop()
+
+    def has_namespace(self) -> bool:
+        """Return whether the file does not adopt the namespace of a schema that includes it."""
+        return not isinstance(self.made, SchemaFile) or self.made.has_namespace
+
+
+class Referring(Content):
+    """The content of a file that asks for others, from its root on."""
+
+    adopts = ""  # the namespace that an `include` gives
+
+    def __init__(self, file: TaxonomyFile, reading: Reading) -> None:
+        super().__init__(file.base(), file.label)
+        self.scope, self.declarations = file.scope, file.declarations
+        self.reading = reading
+        self.asked: Set[Tuple[Place, str, bool]] = set()
+
+    def follow(self, name: str, attributes: Dict[str, str]) -> None:
+        """Ask for the file to which an element refers (XBRL 2.1, section 3.2: discovery)."""
+        reference = attributes.get(FOLLOWED[name])
+        if reference is None:
+            return
+        if name == LINKBASE_REF and attributes.get(ROLE, "").strip() in PASSED_OVER:
+            return
+        includes = name == INCLUDE
+        key = (self.base(), reference.partition("#")[0], includes)
+        if key in self.asked:
+            return
+        self.asked.add(key)
+        how = f"{name.rpartition(' ')[2]}, line {self.line()}"
+        place = joined(self.base(), reference.strip())
+        self.reading.ask(Reference(place, self.label, how, self.adopts if includes else ""))
+
+
+class LinkbaseFile(Referring):
+    """A linkbase. Only its references count (XBRL 2.1, section 3.5).
+
+    Linkbases are most of a taxonomy, so no Python code runs at the end of an element: `ended` takes
+    the names. Each start learns from their count how many elements are open around it.
+    """
+
+    def __init__(self, file: TaxonomyFile, reading: Reading) -> None:
+        super().__init__(file, reading)
+        self.ended: List[str] = []
+
+    def take(self, parser: expat.XMLParserType) -> None:
+        super().take(parser)
+        parser.EndElementHandler = self.ended.append
 
     def start(self, name: str, attributes: Dict[str, str]) -> None:
         depth = self.depth = self.depth + 1
+        if depth - len(self.ended) > DEEPEST or len(self.ended) >= MOST_ENDED:
+            self.count_ended()
+        if len(self.bases) > 1:
+            self.leave_bases()
+        if XML_BASE in attributes:
+            self.count_ended()
+            self.rebase(attributes[XML_BASE])
+        if name in FOLLOWED:
+            self.follow(name, attributes)
+
+    def count_ended(self) -> None:
+        """Take the elements that have ended off the depth, and refuse one that is too deep."""
+        self.depth -= len(self.ended)
+        self.ended.clear()
+        if self.depth > DEEPEST:
+            raise self.too_deep()
+
+    def leave_bases(self) -> None:
+        """Leave each `xml:base` whose element has ended, before a new element takes its place."""
+        self.count_ended()
+        while self.bases[-1][0] >= self.depth:
+            self.bases.pop()
+
+
+class SchemaFile(Referring):
+    """A schema: its global elements, its types, and what it refers to.
+
+    See XML Schema, part 1, sections 3.3, 3.4 and 4.2.
+    """
+
+    def __init__(
+        self, file: TaxonomyFile, reading: Reading, adopts: str, attributes: Dict[str, str]
+    ) -> None:
+        super().__init__(file, reading)
+        self.declared, self.shared = reading.declared, reading.shared
+        own = attributes.get("targetNamespace", "").strip()
+        self.has_namespace: bool = own != ""
+        self.namespace = self.adopts = own or adopts
+        # A global element or type whose content is still to come.
+        self.open: Optional[Tuple[bool, str, Dict[str, str]]] = None
+        # How many elements are open in it that are not on the way to its base.
+        self.astray = 0
+        self.derived_from: Optional[Name] = None
+        self.is_ncname = re.compile(NCNAME).fullmatch
+        # By what the attributes say, while the prefixes in scope are the same.
+        self.made: Dict[object, Element] = {}
+
+    def start(self, name: str, attributes: Dict[str, str]) -> None:
+        depth = self.depth = self.depth + 1
+        if depth > DEEPEST:
+            raise self.too_deep()
         if XML_BASE in attributes:
             self.rebase(attributes[XML_BASE])
-        if depth == 1:
-            self.root(name, attributes)
-        elif name in FOLLOWED:
+        if name in FOLLOWED:
+            if self.open is not None and depth > 2:
+                self.astray += 1
             self.follow(name, attributes)
-        elif self.is_schema:
-            if depth == 2:
-                self.top(name, attributes)
-            elif self.open is not None:
-                self.inner(name, attributes)
+        elif depth == 2:
+            self.top(name, attributes)
+        elif self.open is not None:
+            self.inner(name, attributes)
 
     def end(self, name: str) -> None:
         if self.open is not None:
@@ -106,59 +232,9 @@ class SchemaFile(Content):
         if self.bases[-1][0] == self.depth:
             self.bases.pop()
         self.depth -= 1
-        if self.depth == 0 and not self.is_schema:
-            self.go_fast()
-
-    def go_fast(self) -> None:
-        """In a linkbase no depth is needed but for `xml:base`, so most of its elements, arcs above all, are passed over at once."""
-        if self.parser:
-            self.depth = 0
-            self.parser.StartElementHandler = self.start_in_linkbase
-            self.parser.EndElementHandler = None
-
-    def start_in_linkbase(self, name: str, attributes: Dict[str, str]) -> None:
-        if XML_BASE in attributes:
-            self.go_slowly(attributes[XML_BASE])
-        if name in FOLLOWED:
-            self.follow(name, attributes)
-
-    def go_slowly(self, reference: str) -> None:
-        """Counts the depth until the element that has an `xml:base` ends."""
-        if self.parser:
-            self.depth = 1
-            self.rebase(reference)
-            self.parser.StartElementHandler = self.start
-            self.parser.EndElementHandler = self.end
-
-    def root(self, name: str, attributes: Dict[str, str]) -> None:
-        if name not in (SCHEMA, LINKBASE):
-            raise wrong(self.label, f"is neither a schema nor a linkbase: its root is '{name.rpartition(' ')[2]}'")
-        self.is_schema = name == SCHEMA
-        if not self.is_schema:
-            self.go_fast()
-        own = attributes.get("targetNamespace", "").strip()
-        self.has_namespace = bool(own) or not self.is_schema
-        self.namespace = own or self.namespace
-
-    def follow(self, name: str, attributes: Dict[str, str]) -> None:
-        """Keeps what an element asks for (XBRL 2.1, section 3.2: discovery)."""
-        if self.open is not None and self.depth > 2:
-            self.astray += 1
-        reference = attributes.get(FOLLOWED[name])
-        if reference is None or (name == LINKBASE_REF and attributes.get(ROLE, "").strip() in PASSED_OVER):
-            return
-        if name != INCLUDE:
-            file = reference.partition("#")[0]
-            key = file if len(self.bases) == 1 else f"{self.base().text} {file}"
-            if key in self.asked:
-                return
-            self.asked.add(key)
-        how = f"{name.rpartition(' ')[2]}, line {self.line()}"
-        adopts = self.namespace if name == INCLUDE else ""
-        self.references.append(Reference(joined(self.base(), reference.strip()), self.label, how, adopts))
 
     def top(self, name: str, attributes: Dict[str, str]) -> None:
-        """A child of `schema`."""
+        """Take a child of `schema`."""
         if name == ELEMENT:
             self.open = (True, self.ncname(attributes), attributes)
             if "type" in attributes:
@@ -169,14 +245,20 @@ class SchemaFile(Content):
             raise wrong(self.label, f"has a '{name.rpartition(' ')[2]}', which is not taken (line {self.line()})")
 
     def inner(self, name: str, attributes: Dict[str, str]) -> None:
-        """What stands inside of a global element or type: its derivation is looked for, and not those of elements further inside."""
+        """Take an element inside of a global element or type, and look for the derivation.
+
+        Derivations of elements further inside do not count.
+        """
         if name not in WAY_TO_A_BASE:
             self.astray += 1
         elif name in DERIVATIONS and self.derived_from is None and not self.astray and "base" in attributes:
             self.derived_from = self.name(attributes["base"], self.adopted())
 
     def close(self) -> None:
-        """Keeps a global element or type. The first one of a name stands: a schema by two URLs gives its names once."""
+        """Keep a global element or type.
+
+        The first one of a name counts: a schema by two URLs gives its names once.
+        """
         assert self.open is not None
         is_element, name, attributes = self.open
         if is_element:
@@ -188,7 +270,10 @@ class SchemaFile(Content):
         self.open = self.derived_from = None
 
     def element(self, attributes: Dict[str, str]) -> Element:
-        """What an element says. Equal ones share one tuple, so that a large taxonomy takes little memory."""
+        """Return what an element declares.
+
+        Equal ones share one tuple, so that a large taxonomy takes little memory.
+        """
         head, type_name, abstract = attributes.get("substitutionGroup"), attributes.get("type"), attributes.get("abstract")
         key = (head, type_name, abstract, self.derived_from, TYPED_DOMAIN in attributes, self.declarations)
         made = self.made.get(key)
@@ -203,7 +288,10 @@ class SchemaFile(Content):
         return made
 
     def adopted(self) -> str:
-        """The namespace of unprefixed names: that of an including schema, where this one has none (XML Schema, part 1, section 4.2.1)."""
+        """Return the namespace of unprefixed names.
+
+        It is that of an including schema if this one has none (XML Schema, part 1, section 4.2.1).
+        """
         return "" if self.has_namespace else self.namespace
 
     def ncname(self, attributes: Dict[str, str]) -> str:
@@ -213,24 +301,44 @@ class SchemaFile(Content):
         return name
 
 
-def read_schemas(entries: List[Reference], finder: Finder, progress: Progress) -> Declared:
-    """Reads all schemas and linkbases that the entry points reach, each once, in the order in which they are found."""
-    declared = Declared()
-    shared: Dict[Element, Element] = {}
-    waiting: Deque[Reference] = deque(entries)
-    seen: Set[Tuple[Place, str]] = set()
-    with_namespace: Set[Place] = set()
-    while waiting:
-        place, asker, how, adopts = waiting.popleft()
-        if (place, adopts) in seen or place in with_namespace:
-            continue
-        seen.add((place, adopts))
-        found = finder.find_schema(place, asker, how)
+class Reading:
+    """The files of a taxonomy that are still to be read, and what those that were read declare."""
+
+    def __init__(self, finder: Finder) -> None:
+        self.finder = finder
+        self.declared = Declared()
+        self.shared: Dict[Element, Element] = {}
+        self.waiting: Deque[Reference] = deque()
+        self.asked: Set[Tuple[Place, str]] = set()
+        self.with_namespace: Set[Place] = set()
+
+    def ask(self, reference: Reference) -> None:
+        """Ask for a file, unless it was asked for before in the same way."""
+        key = (reference.place.known(), reference.adopts)
+        if key not in self.asked:
+            self.asked.add(key)
+            self.finder.count(reference.place, reference.asker)
+            self.waiting.append(reference)
+
+    def read(self, reference: Reference, progress: Progress) -> None:
+        """Read a file, unless it was read before and adopts no namespace."""
+        place, asker, how, adopts = reference
+        if place.known() in self.with_namespace:
+            return
+        found = self.finder.find_schema(place, asker, how)
         if found is None:
-            continue
-        content = SchemaFile(found, adopts, declared, shared)
-        parse(progress.counted(found.package.pieces(found.name)), content)
-        if content.has_namespace:
-            with_namespace.add(place)
-        waiting.extend(content.references)
-    return declared
+            return
+        content = TaxonomyFile(found, adopts, self)
+        parse(progress.counted(self.finder.pieces(found)), content)
+        if content.has_namespace():
+            self.with_namespace.add(place.known())
+
+
+def read_schemas(entries: List[Reference], finder: Finder, progress: Progress) -> Declared:
+    """Read all schemas and linkbases that the entry points reach, in the order of their finding."""
+    reading = Reading(finder)
+    for entry in entries:
+        reading.ask(entry)
+    while reading.waiting:
+        reading.read(reading.waiting.popleft(), progress)
+    return reading.declared

@@ -1,4 +1,4 @@
-"""An end that leaves nothing behind: temporary folders and the converter, on signals too."""
+"""An end without leftovers: no temporary folders and no converter, on signals too."""
 
 from __future__ import annotations
 
@@ -15,6 +15,7 @@ from .refusals import FILES, Refusal, cannot_write
 PIECE = 1 << 16
 LONGEST_WAIT = 1.0  # a caller may have blocked the signal that tells of the child's end
 SIGNALS = (signal.SIGINT, signal.SIGTERM, signal.SIGHUP)
+NOT_STARTED = (126, 127)  # of the system's loader, which has said why: too old a C library
 Hear = Callable[[bytes], None]
 
 
@@ -27,7 +28,10 @@ class Stopped(BaseException):
 
 
 class Stopping:
-    """Turns the first signal into an exception, at a moment when nothing is half done; later ones change nothing."""
+    """Turns the first signal into an exception, at a moment when nothing is half done.
+
+    Later signals change nothing.
+    """
 
     def __init__(self) -> None:
         self.holding = 0
@@ -36,13 +40,13 @@ class Stopping:
         self.folders: List[str] = []  # temporary ones that may be there
 
     def heed(self) -> None:
-        """Begins to take signals, but not those that the caller ignores."""
+        """Begin to take signals, but not those that the caller ignores."""
         for it in SIGNALS:
             if signal.getsignal(it) not in (signal.SIG_IGN, None):
                 signal.signal(it, lambda number, _: self.ask(number))
 
     def heed_no_more(self) -> None:
-        """Leaves signals to the system, once nothing is left that must be cleared."""
+        """Leave signals to the system, once nothing is left that must be removed."""
         for it in SIGNALS:
             if signal.getsignal(it) not in (signal.SIG_IGN, None):
                 signal.signal(it, signal.SIG_DFL)
@@ -58,7 +62,7 @@ class Stopping:
 
     @contextmanager
     def held(self) -> Iterator[None]:
-        """A step that signals do not cut in two."""
+        """Run a step that signals do not cut in two."""
         self.holding += 1
         try:
             yield
@@ -67,7 +71,10 @@ class Stopping:
         self.tell()
 
     def clear(self) -> None:
-        """Removes the temporary folders. One that a signal kept from being removed at its own end is removed at the run's."""
+        """Remove the temporary folders.
+
+        If a signal keeps one from being removed at its own end, the end of the run removes it.
+        """
         with self.held():
             while self.folders:
                 shutil.rmtree(self.folders[-1], ignore_errors=True)
@@ -76,7 +83,7 @@ class Stopping:
 
 @contextmanager
 def temporary_folder(parent: str, name: str, stopping: Stopping) -> Iterator[str]:
-    """A new folder, gone at every end."""
+    """Make a new folder, and remove it at every end."""
     path = os.path.join(parent, f"{name}{os.urandom(8).hex()}")
     stopping.folders.append(path)
     try:
@@ -90,13 +97,17 @@ def temporary_folder(parent: str, name: str, stopping: Stopping) -> Iterator[str
 
 
 def run_program(words: List[str], stopping: Stopping, hear: Optional[Hear] = None) -> int:
-    """Runs a program to its end and answers its status; a signal goes on to it. `hear` is told what it says on standard error."""
+    """Run a program to its end, and return its status. A signal goes on to it.
+
+    `hear` gets what it prints on standard error. Refuse a program that cannot start.
+    """
     child: Optional[subprocess.Popen[bytes]] = None
     try:
         with woken_by_signals() as reader:
             try:
                 with stopping.held():
-                    # A shell's `<(..)` and `>(..)` are descriptors that go on to the program; Python's own do not.
+                    # A shell's `<(..)` and `>(..)` are descriptors that the program needs;
+                    # Python's own do not go on to it.
                     child = subprocess.Popen(words, stderr=subprocess.PIPE if hear else None, close_fds=False)
                 listen(child, reader, hear)
             except Stopped as stopped:
@@ -110,11 +121,14 @@ def run_program(words: List[str], stopping: Stopping, hear: Optional[Hear] = Non
         if child is not None and child.returncode is None:  # only after a fault of this program
             child.kill()
             child.wait()
-    return child.returncode if child.returncode >= 0 else 128 - child.returncode
+    status = child.wait()  # it has ended
+    if status in NOT_STARTED:
+        raise Refusal(FILES, words[0], f"cannot run (status {status})")
+    return status if status >= 0 else 128 - status
 
 
 def listen(child: subprocess.Popen[bytes], reader: int, hear: Optional[Hear]) -> None:
-    """Waits until a program has ended, and all is heard that it has said."""
+    """Wait until a program has ended, and all that it has printed is heard."""
     said = [child.stderr.fileno()] if child.stderr else []
     ended = False
     while not ended:
@@ -129,7 +143,10 @@ def listen(child: subprocess.Popen[bytes], reader: int, hear: Optional[Hear]) ->
 
 @contextmanager
 def woken_by_signals() -> Iterator[int]:
-    """A pipe that has something to read after each signal, the end of a child among them: a wait on it misses none."""
+    """Yield a pipe that has something to read after each signal.
+
+    The end of a child is a signal too, so a wait on the pipe misses no end.
+    """
     reader, writer = os.pipe()
     os.set_blocking(writer, False)
     child_ends = signal.signal(signal.SIGCHLD, lambda *_: None)
@@ -144,6 +161,6 @@ def woken_by_signals() -> Iterator[int]:
 
 
 def end_by_signal(number: int) -> None:
-    """Ends as a program does that does not know the signal, so that the caller sees which it was."""
+    """End as a program that does not know the signal, so that the caller sees which it was."""
     signal.signal(number, signal.SIG_DFL)
     os.kill(os.getpid(), number)

@@ -17,25 +17,32 @@ PLAIN_RECORD = re.compile(rb"%b(?:,%b)*(?=[\r\n]|\Z)" % (PLAIN_FIELD, PLAIN_FIEL
 
 
 class TableCopy:
-    """The bytes of a row that is taken out become ends of lines, which are no records (README, "Inputs"). Rows are taken out in their order, so what
-    is not yet looked at stands as in the report's own file."""
+    """The copy, in which the bytes of a removed row become line ends.
+
+    Empty lines are not records. Rows are removed in their order, so what is not looked at yet is as
+    in the report's own file.
+    """
 
     def __init__(self, path: str) -> None:
         self.path = path
         self.taken = 0  # how many rows are taken out: all before those that are left to look at
-        self.more_lines = 0  # how many ends of lines the copy has more than the report's own file
-        self.next_row, self.place = 0, 0  # the first row that is not yet looked at, where row 0 is the header, and a place at or before it
+        self.more_lines = 0  # how many more line ends the copy has than the report's own file
+        # The first row that is not looked at yet, and a place at or before it. Row 0 is the header.
+        self.next_row, self.place = 0, 0
 
     def own_row(self, row: int) -> int:
-        """The number that a row behind those that are taken out has in the report's own file. Row 0 is the file."""
+        """Return the number that a row after the removed ones has in the report's own file.
+
+        Row 0 is the file.
+        """
         return row + self.taken if row else 0
 
     def own_line(self, line: str) -> str:
-        """The line that it begins at there, where it is known."""
+        """Return the line at which the row begins there, if it is known."""
         return str(int(line) - self.more_lines) if line else ""
 
     def take_out(self, row: int) -> bool:
-        """Takes a row out, by its number in the copy, and answers whether there is one."""
+        """Remove the row with this number in the copy. Return whether it exists."""
         if not os.path.getsize(self.path):
             return False
         with open(self.path, "r+b") as file, mmap.mmap(file.fileno(), 0) as data:
@@ -43,7 +50,8 @@ class TableCopy:
             if not found:
                 return False
             start, end = found
-            around = slice(start - 1, end + 1)  # a CR or LF on either side may be one line end with those that come between
+            # A CR or LF on either side may be one line end with those between.
+            around = slice(start - 1, end + 1)
             before = len(ONE_LINE_END.findall(data[around]))
             data[start:end] = b"\n" * (end - start)
             self.more_lines += len(ONE_LINE_END.findall(data[around])) - before
@@ -51,7 +59,10 @@ class TableCopy:
         return True
 
     def go_to(self, data: mmap.mmap, row: int) -> Optional[Tuple[int, int]]:
-        """Goes on to a row, by its number in the report's own file, and gives its beginning and its end; None where there is no such row."""
+        """Go on to a row, by its number in the report's own file.
+
+        Return its beginning and its end; None if there is no such row.
+        """
         if self.next_row == 0 and data[: len(MARK)] == MARK:
             self.place = len(MARK)
         while True:
@@ -66,7 +77,10 @@ class TableCopy:
 
 
 def record_end(data: mmap.mmap, start: int) -> int:
-    """Where the record ends that begins at a place: at the end of its line, or of the file (RFC 4180; what xbrl-json takes besides is in the README)."""
+    """Return where a record ends: at the end of its line or of the file (RFC 4180).
+
+    `start` is its first byte. Quotes count as they do for xbrl-json.
+    """
     plain = PLAIN_RECORD.match(data, start)
     if plain:
         return plain.end()
@@ -81,7 +95,10 @@ def record_end(data: mmap.mmap, start: int) -> int:
 
 
 def behind_quotes(data: mmap.mmap, at: int) -> int:
-    """The place behind the quote that closes those that open at a place, or the end of the file."""
+    """Return the place after the closing quote, or the end of the file.
+
+    `at` is the place of the opening quote.
+    """
     while True:
         at = data.find(b'"', at + 1)
         if at < 0:

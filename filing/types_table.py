@@ -10,7 +10,10 @@ HEADER = "namespace,name,type2\n"
 
 
 def types_table(kinds: Kinds, namespaces: Iterable[str]) -> bytes:
-    """The table's bytes, in byte order of namespace and then name. What no fact can have is left out."""
+    """Return the table's bytes, in byte order of namespace and then name.
+
+    Names that no fact can have are left out.
+    """
     lines: List[str] = [HEADER]
     for namespace in sorted(set(namespaces)):
         front = quoted(namespace)
@@ -20,5 +23,5 @@ def types_table(kinds: Kinds, namespaces: Iterable[str]) -> bytes:
 
 
 def quoted(cell: str) -> str:
-    """A cell of a CSV file (RFC 4180, section 2)."""
+    """Return a cell of a CSV file (RFC 4180, section 2)."""
     return '"' + cell.replace('"', '""') + '"' if any(it in cell for it in ',"\r\n') else cell

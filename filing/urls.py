@@ -1,4 +1,7 @@
-"""Places of files: published URLs, and paths beside the report; how references lead from one to another."""
+"""Places of files: published URLs, and paths next to the report.
+
+`joined` follows a reference from one to another.
+"""
 
 from __future__ import annotations
 
@@ -10,39 +13,101 @@ from urllib.parse import unquote
 PARTS = re.compile(r"(?:([A-Za-z][A-Za-z0-9+.-]*):)?(?://([^/?#]*))?([^?#]*)(\?[^#]*)?(?:#.*)?", re.DOTALL)
 
 
+ESCAPE = re.compile(r"%([0-9A-Fa-f]{2})")
+UNRESERVED = frozenset("ABCDEFGHIJKLMNOPQRSTUVWXYZabcdefghijklmnopqrstuvwxyz0123456789-._~")
+NORMAL = re.compile(r"https?://[a-z0-9.-]+/[^%?#]*")  # what most URLs are, if no segment is a dot
+DEFAULT_PORTS = {"http": ":80", "https": ":443"}
+
+
 class Place(NamedTuple):
-    """Where a file stands: an absolute URL without fragment, or (`local`) a path relative to the root of the report."""
+    """Where a file is: a URL without fragment, or (`local`) a path relative to the report's root.
+
+    The text is what a document shows. Two places are one if `known` gives them one place.
+    """
 
     text: str
     local: bool = False
 
+    def known(self) -> Place:
+        """Return the one place of all spellings of this one (RFC 3986, section 6.2).
+
+        A local place has its percent signs decoded, a URL is in its normal form.
+        """
+        if self.local:
+            return Place(self.path(), True)
+        return Place(normal(self.text))
+
     def host(self) -> str:
-        """The host of a URL in lower case, without user and port."""
+        """Return the host of a URL in lower case, without user and port."""
         return (parts(self.text)[1] or "").rpartition("@")[2].partition(":")[0].lower()
 
     def is_web(self) -> bool:
-        """Whether it is a URL that a package may have: `http` or `https`."""
+        """Return whether it is a URL that a package may have: `http` or `https`."""
         return not self.local and (parts(self.text)[0] or "").lower() in ("http", "https")
 
     def path(self) -> str:
-        """The path of a local place as names of files, percent signs decoded."""
-        return decoded(self.text)
+        """Return the path of a local place as names of files.
+
+        Percent signs are decoded, and empty or `.` segments between others left out.
+        """
+        *folders, name = decoded(self.text).split("/")
+        kept = [it for at, it in enumerate(folders) if it not in ("", ".") or it == "" and at == 0]
+        return "/".join([*kept, name])
 
 
 def parts(reference: str) -> Tuple[Optional[str], Optional[str], str, str]:
-    """Scheme, authority, path and query of a reference; the fragment is left out (RFC 3986, section 3)."""
+    """Return scheme, authority, path and query of a reference (RFC 3986, section 3).
+
+    The fragment is left out.
+    """
     found = PARTS.fullmatch(reference)
     assert found is not None  # the expression takes any text
     return found[1], found[2], found[3], found[4] or ""
 
 
+def normal(url: str) -> str:
+    """Return the normal form of a URL, or of its start (RFC 3986, sections 6.2.2 and 6.2.3).
+
+    Scheme and host are in small letters, the scheme's own port is left out, an escape is decoded
+    if it needs none, and `.` segments are removed. A `..` that is written with escapes stays, so
+    that the catalogs refuse it.
+    """
+    if NORMAL.fullmatch(url) and "/." not in url:
+        return url
+    scheme, host, path, query = parts(url)
+    if scheme is None or host is None or "#" in url:
+        return url
+    scheme = scheme.lower()
+    user, at, host = host.rpartition("@")
+    host = host.lower().removesuffix(DEFAULT_PORTS.get(scheme, "\0")) if path else host.lower()
+    path = "/".join(map(normal_segment, path.split("/")))
+    return f"{scheme}://{user}{at}{host}{without_dots(path)}{query}"
+
+
+def normal_segment(segment: str) -> str:
+    """Return a segment of a path without needless escapes. One that would be `..` keeps them."""
+    made = ESCAPE.sub(normal_escape, segment)
+    return made if made != ".." else segment.upper()
+
+
+def normal_escape(found: re.Match[str]) -> str:
+    letter = chr(int(found[1], 16))
+    return letter if letter in UNRESERVED else found[0].upper()
+
+
 def decoded(path: str) -> str:
-    """A path whose percent signs are decoded (RFC 3986, section 2.1). Bytes that are not UTF-8 stay as in names of files."""
+    """Return a path with its percent signs decoded (RFC 3986, section 2.1).
+
+    Bytes that are not UTF-8 stay as in names of files.
+    """
     return unquote(path, errors="surrogateescape") if "%" in path else path
 
 
 def without_dots(path: str) -> str:
-    """A path without dot segments (RFC 3986, section 5.2.4). One that does not begin with a slash keeps the `..` at its start."""
+    """Return a path without dot segments (RFC 3986, section 5.2.4).
+
+    One that does not begin with a slash keeps the `..` at its start.
+    """
     rooted = path.startswith("/")
     kept: List[str] = []
     for segment in path.split("/"):
@@ -59,7 +124,7 @@ def without_dots(path: str) -> str:
 
 
 def joined(base: Place, reference: str) -> Place:
-    """The place that a reference names in a file at `base` (RFC 3986, section 5.2)."""
+    """Return the place that a reference names in a file at `base` (RFC 3986, section 5.2)."""
     scheme, host, path, query = parts(reference)
     if scheme is not None:
         return Place(f"{scheme}:{'' if host is None else '//' + host}{without_dots(path)}{query}")

@@ -1,58 +1,81 @@
-"""The words of the command line."""
+"""The command line."""
 
 from __future__ import annotations
 
-from typing import Iterator, List, Optional, Set
+from typing import Iterator, List, Optional, Sequence, Set
 
 from .refusals import WORDS, Refusal
 from .zip_entries import DEFAULT_LIMIT
 
-USAGE = "xbrl-filing REPORT --taxonomy PACKAGE.. [--out FILE] [words of xbrl-json]"
+USAGE = "xbrl-filing REPORT --taxonomy PACKAGE.. [--out FILE] [OPTIONS]"
 HELP = f"""\
-Converts a filing to xBRL-JSON: a report package, whose metadata may extend what a regulator publishes, and its taxonomy packages.
+Converts a filing to xBRL-JSON: a report package and its taxonomy packages.
 
     {USAGE}
     xbrl-filing REPORT --taxonomy PACKAGE.. --prepare FOLDER
     xbrl-filing REPORT --taxonomy PACKAGE.. --parameters
     xbrl-filing REPORT --taxonomy PACKAGE.. --every-fault
     xbrl-filing META --types FILE --every-fault
+    xbrl-filing REPORT.. --taxonomy PACKAGE.. --into FOLDER [OPTIONS]
 
-It makes two plain files, a metadata file without `extends` and a types table, and hands them to xbrl-json.
-It is not proved: the guarantee of xbrl-json begins at the two plain files that it writes, which anyone can read.
+It makes two plain files, a metadata file without `extends` and a types table,
+and starts xbrl-json on them. It is not proved: the proof of xbrl-json begins
+at the two plain files, which anyone can read.
 
-REPORT                  a report package (a ZIP or an unpacked folder), or a metadata file
---taxonomy PACKAGE..    taxonomy packages (ZIPs or folders); all words up to the next one that begins with `--`
---prepare FOLDER        only makes FOLDER, which is new or empty: meta.json, types.csv, and the report's tables and parameters
---parameters            only prints each parameter that has a value or is referred to, as CSV: its value, and where it is referred to
---every-fault           only prints the faults of xbrl-json, as CSV in the form of its --faults: of each row of a table that has one its first
---types FILE            with --every-fault: the types table of META, a report in plain form, in the place of packages
---cache FOLDER          keeps there what the schemas say, so that the next filing of the same taxonomy starts at once
+REPORT                  a report package (a ZIP or an unpacked folder), or a
+                        metadata file
+--taxonomy PACKAGE..    the taxonomy packages (ZIPs or folders), up to the next
+                        option
+--prepare FOLDER        only make FOLDER, which is new or empty: meta.json,
+                        types.csv, and the report's tables and parameters
+--parameters            only print each parameter as CSV: its value, and where
+                        the metadata refers to it
+--every-fault           only print the first fault of every bad row, as CSV in
+                        the form of --faults
+--types FILE            with --every-fault: the types table of META, a plain
+                        report without packages
+--cache FOLDER          keep there what was read from the taxonomy, for the
+                        next filing of it
 --unpacked-limit BYTES  how much one ZIP may unpack to ({DEFAULT_LIMIT})
--h, --help              prints help
--V, --version           prints the version of xbrl-json
+--into FOLDER           convert many reports, each in a process of its own:
+                        NAME.json, NAME.faults.csv, NAME.log and NAME.outcome
+--jobs N                with --into: how many reports at a time; as many as
+                        there are processors
+--outcomes FILE         with --into: a line for each report as it ends, as CSV,
+                        or as JSON lines if FILE ends with .jsonl
+--again                 with --into: also convert what was done before
+--time-limit SECONDS    with --into: end a report that takes longer
+--memory-limit BYTES    with --into: how much each process of a report may use
+-h, --help              print help
+-V, --version           print the version of xbrl-json
 
-All other words go to xbrl-json: --out FILE, --workers N, --ring K, --layout L, --progress .. (`xbrl-json --help` tells of them).
-Nothing is ever fetched: a URL that no package has is an error. Inputs are not changed.
+All other options go to xbrl-json: --out FILE, --whole, --workers N, --ring K,
+--layout LAYOUT, --explain, --faults FILE, --progress (see `xbrl-json --help`).
+Nothing is ever downloaded: a URL that no package has is an error. Inputs are
+not changed.
 
-Status 0: the document is written, or there is no fault. 1: the report or its taxonomy is wrong, or xbrl-json found a fault. 2: the words are no
-command line. 3: a file is not there, or cannot be read or written. The variable XBRL_JSON may name another xbrl-json.
+Status 0: the document is written, or there is no fault. 1: the report or its
+taxonomy is wrong, or xbrl-json found a fault. 2: the command line is wrong.
+3: a file does not exist, or cannot be read or written. 75: with --into, some
+reports are to be tried again, by the same command. The variable XBRL_JSON may
+name another xbrl-json.
 """
-# The words of xbrl-json, also those that it is to have.
+# The options of xbrl-json.
 OUTPUTS = ("--out", "--faults")
 WITH_VALUE = (*OUTPUTS, "--workers", "--ring", "--layout")
 WITHOUT_VALUE = ("--progress", "--explain", "--whole")
 OWN_WITH_VALUE = ("--prepare", "--cache", "--types", "--unpacked-limit")
 OWN_WITHOUT_VALUE = ("--parameters", "--every-fault")
-# The words of which each is a run of its own, in which nothing is converted.
+# The options that are each a run of its own, in which nothing is converted.
 RUNS = ("--prepare", "--parameters", "--every-fault")
-# What means nothing beside --types: it is of packages.
+# What means nothing with --types: it is of packages.
 OF_PACKAGES = ("--taxonomy", "--cache", "--unpacked-limit")
-# The words that ask for something in the place of a run, and what.
+# The options that ask for something instead of a run, and what.
 ASKING = {"-h": "--help", "--help": "--help", "-V": "--version", "--version": "--version"}
 
 
 class Settings:
-    """What the words say. `rest` goes to xbrl-json as it is."""
+    """The options of the command line. `rest` goes to xbrl-json unchanged."""
 
     def __init__(self) -> None:
         self.report = ""
@@ -64,23 +87,26 @@ class Settings:
         self.cache: Optional[str] = None
         self.limit = DEFAULT_LIMIT
         self.rest: List[str] = []
-        self.given: Set[str] = set()  # the options of this program that stand there
+        self.given: Set[str] = set()  # the options of this program that are given
 
-    def outputs(self) -> Iterator[str]:
-        """The files that xbrl-json is told to write."""
+    def outputs(self, names: Sequence[str] = OUTPUTS) -> Iterator[str]:
+        """Yield the files that xbrl-json is told to write, by these options."""
         for word, after in zip(self.rest, self.rest[1:] + [""]):
             name, equals, value = word.partition("=")
             output = value if equals else after
-            if name in OUTPUTS and output:
+            if name in names and output:
                 yield output
 
 
 def misuse(what: str) -> Refusal:
-    return Refusal(WORDS, "", f"{what}; the words are: {USAGE}")
+    return Refusal(WORDS, "", f"{what}; try --help")
 
 
 def asked(words: List[str]) -> Optional[str]:
-    """Which of `--help` and `--version` the words ask for, if they do: the first such word that is no option's value, wherever it stands."""
+    """Return which of `--help` and `--version` the command line asks for first, or None.
+
+    The value of an option does not count.
+    """
     left = iter(words)
     for word in left:
         if word in ASKING:
@@ -91,7 +117,7 @@ def asked(words: List[str]) -> Optional[str]:
 
 
 def read_words(words: List[str]) -> Settings:
-    """The settings that the words give; wrong words are refused with status 2."""
+    """Return the settings of a command line. Refuse a wrong one with status 2."""
     settings = Settings()
     at = 0
     while at < len(words):
@@ -126,7 +152,7 @@ def read_words(words: List[str]) -> Settings:
 
 
 def take_own(settings: Settings, name: str, value: str) -> None:
-    """Takes an option of this program."""
+    """Take an option of this program."""
     if value == "":
         raise misuse(f"{name} needs a value")
     if name == "--unpacked-limit":
@@ -140,7 +166,10 @@ def take_own(settings: Settings, name: str, value: str) -> None:
 
 
 def take_other(settings: Settings, words: List[str], at: int) -> int:
-    """Takes a word of xbrl-json, and the one after it where that is its value. A word that is not known may have one, once REPORT is there."""
+    """Take an option of xbrl-json, and the next word if that is its value.
+
+    An option that is not known may have a value, once there is a REPORT.
+    """
     word = words[at - 1]
     settings.rest.append(word)
     plain = at < len(words) and not words[at].startswith("--")

@@ -10,18 +10,26 @@ from typing import Dict, Iterable, Iterator, List, Optional, Set, Tuple
 from .refusals import wrong
 
 DEFAULT_LIMIT = 8 << 30
-SMALL = 16 << 20
-RATIO = 200
+SMALL = 16 << 20  # an entry that may be packed in any ratio
+SMALL_PACKAGE = 64 << 20  # a whole package that may
+RATIO = 200  # real packages have 20 at most
 ENCRYPTED = 0x1 | 0x40 | 0x2000
 
 
-def checked_entries(archive: zipfile.ZipFile, label: str, limit: int) -> Dict[str, zipfile.ZipInfo]:
-    """The files of a ZIP by their names; a ZIP that is hostile is refused by the entry's name."""
+def checked_entries(
+    archive: zipfile.ZipFile, size: int, label: str, limit: int
+) -> Dict[str, zipfile.ZipInfo]:
+    """Return the files of a ZIP of `size` bytes by their names.
+
+    Refuse a ZIP with a hostile entry by the entry's name, and one that unpacks to more bytes than
+    the limit or than its own size allows.
+    """
     files: Dict[str, zipfile.ZipInfo] = {}
     seen: Set[str] = set()
     unpacked = 0
     for entry in archive.infolist():
-        for given in (entry.orig_filename, entry.filename):  # newer Pythons take the second from an extra field
+        # Newer Pythons take the second name from an extra field.
+        for given in (entry.orig_filename, entry.filename):
             refuse(label, given, fault_of_name(given))
         name = entry.filename.rstrip("/")
         refuse(label, entry.orig_filename, fault_of_entry(entry) or ("stands twice" if name in seen else None))
@@ -31,6 +39,8 @@ def checked_entries(archive: zipfile.ZipFile, label: str, limit: int) -> Dict[st
             files[name] = entry
     if unpacked > limit:
         raise wrong(label, f"unpacks to {unpacked} bytes, more than {limit} (--unpacked-limit allows more)")
+    if unpacked > SMALL_PACKAGE and unpacked > RATIO * size:
+        raise wrong(label, f"unpacks to {unpacked} bytes from {size}")
     refuse_files_that_are_folders(files, seen, label)
     return files
 
@@ -41,7 +51,10 @@ def refuse(label: str, name: str, fault: Optional[str]) -> None:
 
 
 def fault_of_name(name: str) -> Optional[str]:
-    """Why an entry's name is refused (Report Packages 1.0 and Taxonomy Packages 1.0 both want plain relative names)."""
+    """Return why an entry's name is refused, or None.
+
+    Report Packages 1.0 and Taxonomy Packages 1.0 both want plain relative names.
+    """
     if "\0" in name:
         return "has a name that is cut short by a zero byte"
     if name.startswith("/"):
@@ -59,7 +72,7 @@ def fault_of_name(name: str) -> Optional[str]:
 
 
 def fault_of_entry(entry: zipfile.ZipInfo) -> Optional[str]:
-    """Why an entry is refused for what it is."""
+    """Return why an entry is refused for what it is, or None."""
     if stat.S_ISLNK(entry.external_attr >> 16):
         return "is a link"
     if entry.flag_bits & ENCRYPTED:
@@ -70,7 +83,7 @@ def fault_of_entry(entry: zipfile.ZipInfo) -> Optional[str]:
 
 
 def refuse_files_that_are_folders(files: Dict[str, zipfile.ZipInfo], seen: Set[str], label: str) -> None:
-    """Refuses a name that is both a file and the folder of another entry."""
+    """Refuse a name that is both a file and the folder of another entry."""
     names = Listing(seen).names
     for one, other in zip(names, names[1:]):
         name = one.replace("\0", "/")
@@ -79,13 +92,16 @@ def refuse_files_that_are_folders(files: Dict[str, zipfile.ZipInfo], seen: Set[s
 
 
 class Listing:
-    """Names in the order of their segments, so that all that stands in a folder stands together. No folder is kept by itself: names may be deep."""
+    """Names in the order of their segments, so that all in a folder is together.
+
+    No folder is kept by itself, because names may be deep.
+    """
 
     def __init__(self, names: Iterable[str]) -> None:
         self.names = sorted(it.replace("/", "\0") for it in names)
 
     def children(self, folder: str) -> Tuple[List[str], List[str]]:
-        """The names of the files and of the folders in a folder, in order."""
+        """Return the names of the files and of the folders in a folder, in order."""
         front = folder.replace("/", "\0") + "\0" if folder else ""
         files: List[str] = []
         folders: List[str] = []
@@ -97,7 +113,10 @@ class Listing:
         return files, folders
 
     def below(self, folder: str) -> Iterator[str]:
-        """The names of the files in a folder, whose name ends with a slash, and in those inside of it, in order."""
+        """Yield the names of the files in and below a folder, in order.
+
+        The name of the folder ends with a slash.
+        """
         front = folder.replace("/", "\0")
         for at in range(bisect_left(self.names, front), len(self.names)):
             if not self.names[at].startswith(front):

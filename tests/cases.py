@@ -1,4 +1,4 @@
-"""Counts the cases of a script of tests, and tells of those that do not hold."""
+"""Counts the cases of a test script, and prints those that fail."""
 from typing import List
 
 failed: List[str] = []
@@ -6,7 +6,7 @@ count = 0
 
 
 def case(name: str, holds: bool, *seen: object) -> None:
-    """Counts a case, with what was seen where it does not hold."""
+    """Counts a case, and prints what was seen if it fails."""
     global count
     count += 1
     if not holds:

@@ -1,31 +1,38 @@
 #!/usr/bin/env python3
-"""Changes the rules of a crate's definitions one at a time, and lists the changes that no worked case notices.
+"""Changes the rules of a crate's definitions one at a time, and lists changes that no case notices.
 
-    tests/change_rules.py CRATE [--only FILE] [--name NAME] [--every N] [--begin N] [--batch N] [--minutes N] [--list] [--all]
+    tests/change_rules.py CRATE [--only FILE] [--name NAME] [--every N] [--begin N]
+                          [--batch N] [--minutes N] [--list] [--all]
 
-A contract can say no more than the definitions that it cites, and a definition that is changed together with its code
-can still be proved. So each rule wants a worked case: a theorem by computation in `proofs/Examples*.antt` of the crate,
-whose answer comes from the standard. This script looks for rules that have none. It changes one thing at a time in the
-body of one definition of `specs/`: a number by one, a text by its last character, an operator, a comparison, a truth
-value, a condition, a constructor, a line of a list or a sum that is left out or changes places with the next, the answer
-of a case. For each change it copies the definitions that rest on it and a file of worked cases under other names into a
-copy of the repository, and asks the checker about the cases. Many changes are checked in one run, so one takes seconds or
-less. The files of worked cases are tried one after the other, each with the changes that no file before it has noticed.
+A contract means no more than the definitions that it cites, and a definition that is changed
+together with its code can still be proved. So each rule needs a worked case: a theorem by
+computation in `proofs/Examples*.antt` of the crate, whose answer comes from the standard. This
+script looks for rules that have none.
 
-Each change is one of these:
-- not well-formed: the change does not make a definition (it says nothing);
+It changes one thing in the body of one definition of `specs/`: a number by one, a text by its last
+character, an operator, a comparison, a truth value, a condition, a constructor, the answer of a
+case. It also leaves out a line of a list or a sum, or swaps it with the next. For each change it
+copies the definitions that depend on it, and a file of worked cases, under other names into a copy
+of the repository, and has them checked. Many changes are checked in one run, so one takes seconds
+or less. The files of worked cases are tried in turn, each with the changes still not noticed.
+
+A change is one of these:
+- not well-formed: it does not make a definition (shows nothing);
 - showed: a worked case is refused;
-- not noticed: every case still holds. It is listed, and wants a case, or means the same as before.
+- not noticed: every case still holds. It is listed, and needs a case, or means the same.
 A change with which the checker does not end in time is listed too.
 
-Definitions of relations and records (`Type 0`, `data`, `record`) are left out: what ties a relation to the function of
-the same meaning is a clause. A file whose cases fail in an unchanged copy can't be tried so, and is named.
+Relations and records (`Type 0`, `data`, `record`) are left out, because a clause ties each relation
+to the function of the same meaning. A file whose cases fail in an unchanged copy is named instead.
 
-The crates below have to be proved with their work kept (`rt check` and `rt lib` in each), since it is copied. --only takes
-one file of specs/ by its name (`Reads`, or `state.Reads`), --name one definition, --every N each Nth change (from the one at --begin, else the first),
---batch how many changes a run checks (40), --minutes for a run (10); --list lists the changes and checks nothing, --all
-prints what came of each. RT names another command for `rt`. The copy stands in TMPDIR and goes at the end. The status is 0
-where every change that is a definition showed, else 1. Python 3.9 or later.
+The crates below must be proved with their work kept (`rt check` and `rt lib` in each), because it
+is copied.
+
+--only takes one file of specs/ by its name (`Reads` or `state.Reads`), --name one definition,
+--every N each Nth change (from --begin, else the first). --batch is how many changes a run checks
+(40), --minutes how long a run may take (10). --list lists the changes and checks nothing; --all
+prints the outcome of each. RT names another command for `rt`. The copy is in TMPDIR and is removed
+at the end. The status is 0 if every change that is a definition showed, else 1. Needs Python 3.9.
 """
 from __future__ import annotations
 
@@ -52,12 +59,12 @@ OTHER = {
 }
 IMPORTS = {"||": "◌||◌", "&&": "◌&&◌", "+": "◌+◌", "-": "◌-◌", "*": "◌*◌", "/": "◌/◌"}
 FROM_LIST = {"list_any", "list_all"}
-# The errors of a change, each with its file, or None where the checker did not end.
+# The errors of a change, each with its file, or None if the checker did not end.
 Errors = Optional[List[Tuple[str, str]]]
 
 
 class Definition:
-    """A definition of a file: its name, whether it computes, and where the bodies of its cases begin and end."""
+    """A definition of a file: its name, whether it computes, where the bodies of its cases are."""
 
     def __init__(self, name: str, type_text: str) -> None:
         """A definition of this name and type, without bodies as yet."""
@@ -66,7 +73,7 @@ class Definition:
         self.bodies: list[tuple[int, int]] = []
 
     def computes(self) -> bool:
-        """Whether it gives a value, and is no relation."""
+        """Whether it gives a value, so is not a relation."""
         return not re.search(r"Type \d+\s*$", self.type)
 
     def is_test(self) -> bool:
@@ -147,7 +154,7 @@ def is_balanced(line: str) -> bool:
 
 
 def in_lines(body: str) -> list[tuple[str, str]]:
-    """The bodies with one line of a list, a sum or a test left out, or in the place of the next."""
+    """Yields bodies with one line of a list, a sum or a test left out, or swapped with the next."""
     lines, made = body.split("\n"), []
     starts = [re.match(r"\s*(\+\+|∷|&&|\|\||∙)\s", it) for it in lines]
     for i, start in enumerate(starts):
@@ -192,7 +199,7 @@ def with_imports(text: str) -> str:
 
 
 class Change:
-    """A change of one definition: the file, the definition, what it is, and the file's changed text."""
+    """A change of one definition: file, definition, kind of change, and the file's changed text."""
 
     verdict: str | None
     errors: Errors
@@ -225,7 +232,7 @@ def changes_of(file: str, text: str) -> list[Change]:
 
 
 class Copies:
-    """A copy of the repository, in which changed definitions stand beside the crate's own."""
+    """A copy of the repository, with changed definitions next to the crate's own."""
 
     def __init__(self, crate: str, folder: str, minutes: float) -> None:
         """Reads the definitions and the worked cases of a crate, and makes the copy in a folder."""
@@ -260,7 +267,7 @@ class Copies:
         return found
 
     def needed(self, cases: str, file: str) -> set[str]:
-        """The files of specs/ that rest on a file and that some worked cases need; none where the cases do not need the file."""
+        """Lists the files of specs/ that depend on a file and that some worked cases need."""
         found, fresh = set(), {it for it in self.specs if self.names(self.cases[cases], it)}
         while fresh:
             found |= fresh
@@ -268,7 +275,7 @@ class Copies:
         return self.users(file) & found
 
     def names(self, text: str, file: str) -> re.Match[str] | None:
-        """Where a text names a file of specs/, or None."""
+        """Finds the name of a file of specs/ in a text, or returns None."""
         return re.search(rf"\bRattle\.{self.crate}\.specs\.{re.escape(file)}\b", text)
 
     def renamed(self, text: str, mark: str, files: set[str]) -> str:
@@ -278,7 +285,10 @@ class Copies:
         return text
 
     def write(self, cases: str, changes: list[Change]) -> None:
-        """Writes the copies for some changes and a file of worked cases. A function cites all of them, so that one check reads them."""
+        """Writes the copies for some changes and a file of worked cases.
+
+        One function cites all of them, so that one check reads them.
+        """
         proofs = self.at / "proofs"
         for it in proofs.glob("Change*.antt"):
             it.unlink()
@@ -306,7 +316,10 @@ class Copies:
         (self.at / f"src/{self.root}.rt").write_text(source.rstrip("\n") + "\n" + CITES)
 
     def said(self, words: list[str]) -> str | None:
-        """What a command prints, or None where it does not end in time: then it is killed, with all that it started."""
+        """Runs a command and returns its output, or None if it does not end in time.
+
+        It is then killed with all that it started.
+        """
         with subprocess.Popen(words, cwd=self.at, stdout=subprocess.PIPE, stderr=subprocess.STDOUT, text=True, start_new_session=True) as run:
             try:
                 return run.communicate(timeout=60 * self.minutes)[0]
@@ -315,7 +328,7 @@ class Copies:
                 return None
 
     def check(self, cases: str, changes: list[Change]) -> list[Errors]:
-        """What the checker says of each change: the list of its errors, or None where it did not end."""
+        """Checks each change and returns its list of errors, or None if the check did not end."""
         self.write(cases, changes)
         words = os.environ.get("RT", "rt").split() + ["check", "--jobs", "1", "--only", "changes_of_rules"]
         said = self.said(words)
@@ -332,7 +345,7 @@ class Copies:
         return errors
 
 
-# What a copy of the worked cases has beside them, so that a function can cite it.
+# What a copy of the worked cases needs so that a function can cite it.
 MARK = "use Rattle.std.specs.Prelude.{ℕ as Shown}\n"
 
 CITES = """
@@ -344,7 +357,7 @@ fn changes_of_rules(number: u8) -> u8 {
 
 
 def judged(errors: Errors, cases: str) -> str:
-    """What a change's errors say of it."""
+    """Names the outcome of a change by its errors."""
     if errors is None:
         return "no end"
     if any(file != cases for file, _ in errors):

@@ -1,6 +1,6 @@
-"""Which crates stand on which: what crates.txt says, for the scripts of this folder.
+"""Reads crates.txt for the scripts of this folder: which crates use which.
 
-A line of it names the libraries that the crate's own files name. What these stand on in their turn stands on their own lines.
+A line names the libraries that the crate's own files name. Their libraries are on their own lines.
 """
 from __future__ import annotations
 
@@ -10,13 +10,16 @@ TOP = Path(__file__).resolve().parent.parent
 
 
 def crate_lines() -> dict[str, str]:
-    """The line of each crate, without its comment, in the order of the file, where a crate stands behind those below it."""
+    """Reads the line of each crate, without its comment, in file order.
+
+    A crate is after those below it.
+    """
     rows = [it.split("#")[0].strip() for it in (TOP / "crates.txt").read_text(encoding="utf-8").splitlines()]
     return {it.partition(":")[0].split()[0]: it for it in rows if it}
 
 
 def crates_below() -> dict[str, list[str]]:
-    """The crates, each with all crates of this repository that it stands on, the lowest first."""
+    """Returns the crates, lowest first, each with all crates of this repository that it uses."""
     found: dict[str, set[str]] = {}
     for crate, line in crate_lines().items():
         named = [it for it in line.partition(":")[2].split() if it in found]

@@ -1,14 +1,16 @@
 #!/usr/bin/env python3
-"""Whether the definitions stand in the right room.
+"""Checks that each definition is in the right folder.
 
     tests/definitions.py [--list]
 
-`specs/` of a crate has what public contracts cite, `specs/state/` what describes the program's own shapes, which nobody needs to
-read a public contract. So no definition of `specs/` rests on one of `specs/state`, and no clause of a public call, of a public trait
-or of what contracts see of a public type names one; and each definition of `specs/` is needed for some of these, directly or through
-others. A call, a trait or a type of a library is public if `src/lib.rt` gives out its name, or the name of its module. In a program each
-that is `pub` is. A law is a public call. The crates in MIXED still have single definitions in the wrong room: of these crates whole files
-are judged, and not each definition. The last line counts the definitions, and the files of those crates. `--list` prints each
+`specs/` of a crate has the definitions that public contracts cite. `specs/state/` has those of the
+program's own shapes, which nobody needs to read a public contract. So a definition of `specs/` does
+not cite one of `specs/state/`, and neither does a clause of a public call or trait, nor what
+contracts see of a public type. And each definition of `specs/` is needed for one of these, directly
+or through others. Laws count as public calls.
+
+A call, trait or type of a library is public if `src/lib.rt` gives its name or the name of its
+module; in a program, if it is `pub`; in a static library, if it is an export. `--list` prints each
 definition of `specs/` that no public contract needs. Python 3.9 or later.
 """
 from __future__ import annotations
@@ -19,37 +21,41 @@ from pathlib import Path
 from typing import NamedTuple, TypeVar
 
 CRATES = Path(__file__).resolve().parent.parent / "crates"
-# The crates that are judged by file, lowest first. Where none is left, the tuple is empty.
-MIXED: tuple[str, ...] = ()  # fmt: skip
 
-IMPORT = re.compile(r"\buse (?:pub )?Rattle\.(\w+)\.specs\.(state\.)?(\w+)((?:\.\w+)*)(?:\.\{([^}]*)\}| as (\S+?))?;?$", re.M)
+IMPORT = re.compile(
+    r"\buse (?:pub )?Rattle\.(\w+)\.specs\.(state\.)?(\w+)((?:\.\w+)*)"
+    r"(?:\.\{([^}]*)\}| as (\S+?))?;?$",
+    re.M,
+)
 HEAD = re.compile(r"(?:  )?(?:(?:abbrev|unfoldable) (?:pub )?|pub (data|record) )([\w']+)")
 # A definition of several that name one another, after `mutual`.
 ONE_OF = re.compile(r"  pub ()([\w']+) :")
 CASE = re.compile(r"\s+([\w']+) :")
-# A word, with the one behind its dot: a dot before it would make it a field.
+# A word, with the one after its dot. A dot before it would make it a field.
 TOKEN = re.compile(r"(?<![\w'.])[A-Za-z_][\w']*(?:\.[A-Za-z_][\w']*)?")
 BOUND = re.compile(r"λ ([^.]*)\.|\(([\w' ]+) :")
 PATTERN = re.compile(r"(?<![\w'.])[a-z_][\w']*")
-CALL = re.compile(r"(\s*)pub (?:const |unsafe )*fn (\w+)")
+CALL = re.compile(r"(\s*)pub (?:const |unsafe )*(extern \"C\" )?fn (\w+)")
 METHOD = re.compile(r"\s+(?:const |unsafe )*fn \w+")
 CLAUSE = re.compile(r"\s*(?:requires|ensures)\b")
 LABEL = re.compile(r"\b(requires|ensures) \w+ \{")
 IMPL = re.compile(r"(?:unsafe )?impl(?:<.*?>(?= ))? (?:(\w+).*? for )?&?(?:'\w+ )?(\w+)")
-# What contracts see of a public type: the value that its model names. What they see of an impl: the ghost values that it gives its trait.
+# What contracts see of a public type: the value that its model names. What they see of an impl: the
+# ghost values that it gives its trait.
 GHOST = re.compile(r"\s+ghost (\w+) = \{")
 TRAIT = re.compile(r"^pub trait (\w+).*?^\}", re.M | re.S)
 GIVEN = re.compile(r"^pub use (?:[\w:]+::)?(\{[^}]*\}|\w+);", re.M)
 
-# A file of definitions: its crate, and its name, which begins with `state/` where it stands there.
+# A file of definitions: its crate, and its name, which begins with `state/` if it is there.
 Room = tuple[str, str]
-# A definition: its crate, its file, and its name, which is empty where the whole file is meant.
+# A definition: its crate, its file, and its name, which is empty if the whole file is meant.
 Name = tuple[str, str, str]
 Either = TypeVar("Either", Room, Name)
 
 
 class File(NamedTuple):
-    """A file of definitions: what it imports, the text of each definition, and of each case of a type the definition that it stands in."""
+    """A file of definitions: what it imports, the text of each definition, and for each case of a
+    type the definition that has it."""
 
     known: dict[str, Name]
     own: dict[str, str]
@@ -57,7 +63,7 @@ class File(NamedTuple):
 
 
 def imports(text: str) -> dict[str, Name]:
-    """The names that a text imports from definitions, by the words that it has for them."""
+    """Returns the names that a text imports from definitions, by the words it uses for them."""
     found = {}
     for crate, state, file, inner, names, alias in IMPORT.findall(text):
         room, steps = (crate, (state and "state/") + file), inner.split(".")[1:]
@@ -68,7 +74,7 @@ def imports(text: str) -> dict[str, Name]:
 
 
 def file_of(text: str) -> File:
-    """A file of definitions, from its text."""
+    """Reads a file of definitions from its text."""
     own: dict[str, str] = {}
     cases, name, kind = {}, "", ""
     for line in text.splitlines():
@@ -86,7 +92,7 @@ def file_of(text: str) -> File:
 
 
 def files() -> dict[Room, File]:
-    """The files of definitions."""
+    """Reads all files of definitions."""
     found = {}
     for file in sorted(CRATES.glob("*/specs/**/*.antt")):
         crate, _, *steps = file.relative_to(CRATES).with_suffix("").parts
@@ -95,8 +101,14 @@ def files() -> dict[Room, File]:
     return found
 
 
-def named(text: str, known: dict[str, Name], all: dict[Room, File], room: Room | None = None, bound: frozenset[str] = frozenset()) -> set[Name]:
-    """The definitions that a text names: those of its own file, and those that it imports."""
+def named(
+    text: str,
+    known: dict[str, Name],
+    all: dict[Room, File],
+    room: Room | None = None,
+    bound: frozenset[str] = frozenset(),
+) -> set[Name]:
+    """Returns the definitions that a text names: those of its own file, and those it imports."""
     found = set()
     for token in TOKEN.findall(text):
         word, _, rest = token.partition(".")
@@ -109,7 +121,7 @@ def named(text: str, known: dict[str, Name], all: dict[Room, File], room: Room |
 
 
 def rests(room: Room, name: str, all: dict[Room, File]) -> set[Name]:
-    """The definitions that a definition names. What one of its equations binds is no name in it."""
+    """Returns the definitions that a definition names, without what its equations bind."""
     found = set()
     for part in re.split(rf"\n(?=\s*{re.escape(name)} )", all[room].own[name]):
         bound = {word for words in BOUND.findall(part) for word in " ".join(words).split()}
@@ -120,14 +132,17 @@ def rests(room: Room, name: str, all: dict[Room, File]) -> set[Name]:
 
 
 def given(crate: str) -> set[str] | None:
-    """The names that a library gives out; none of a program."""
+    """Returns the names that a library gives out; None for a program."""
     lib = CRATES / crate / "src/lib.rt"
-    return {name for names in GIVEN.findall(lib.read_text(encoding="utf-8")) for name in re.findall(r"\w+", names)} if lib.exists() else None
+    if not lib.exists():
+        return None
+    lists = GIVEN.findall(lib.read_text(encoding="utf-8"))
+    return {name for names in lists for name in re.findall(r"\w+", names)}
 
 
 def clauses(source: Path, text: str) -> tuple[str, str]:
-    """What callers read in a source file: the clauses of its public calls, what contracts see of its public types, and its public traits;
-    and what its public types give their traits."""
+    """Returns what callers read in a source file: the clauses of its public calls, what contracts
+    see of its public types, and its public traits; and what its public types give their traits."""
     names = given(source.relative_to(CRATES).parts[0])
 
     def is_public(name: str) -> bool:
@@ -140,12 +155,15 @@ def clauses(source: Path, text: str) -> tuple[str, str]:
         if line == "}":
             trait = owner = ""
         if it := CALL.match(line):
-            open_call = is_public(owner if it[1] else it[2]) or (not it[1] and is_public(source.stem))
+            open_call = bool(it[2]) or is_public(owner if it[1] else it[3])
+            open_call = open_call or (not it[1] and is_public(source.stem))
             call, is_clause = "stated" if open_call and not line.endswith("{") else "", False
         elif METHOD.match(line):
-            call, is_clause = "inherited" if trait and is_public(owner) and not line.endswith("{") else "", False
-        if (ghost := GHOST.match(line)) and owner and is_public(owner) and (trait != "Model" or ghost[1] == "Value"):
-            (stated if trait == "Model" else inherited).append(line)
+            open_call = trait and is_public(owner) and not line.endswith("{")
+            call, is_clause = "inherited" if open_call else "", False
+        if (ghost := GHOST.match(line)) and owner and is_public(owner):
+            if trait != "Model" or ghost[1] == "Value":
+                (stated if trait == "Model" else inherited).append(line)
         is_clause = bool(call) and (is_clause or bool(CLAUSE.match(line)))
         if line.strip() in ("{", "{}", "}"):
             call, is_clause = "", False
@@ -156,7 +174,7 @@ def clauses(source: Path, text: str) -> tuple[str, str]:
 
 
 def closed(found: set[Either], below: dict[Either, set[Either]]) -> set[Either]:
-    """These, and all that they need, directly or through others."""
+    """Returns these, and all that they need, directly or through others."""
     fresh = found
     while fresh:
         fresh = {it for name in fresh for it in below[name] if it in below} - found
@@ -165,37 +183,36 @@ def closed(found: set[Either], below: dict[Either, set[Either]]) -> set[Either]:
 
 
 def main() -> None:
-    """Prints what stands in the wrong room, and ends with 1 if something does."""
+    """Prints what is in the wrong folder, and exits with 1 if anything is."""
     all = files()
-    below = {(*room, name): rests(room, name, all) for room, file in all.items() for name in file.own}
+    below = {(*room, it): rests(room, it, all) for room, file in all.items() for it in file.own}
     wrong, needed = [], set()
     for source in sorted(CRATES.glob("*/src/**/*.rt")):
         text = source.read_text(encoding="utf-8")
         known = imports(text)
         stated, inherited = (named(it, known, all) for it in clauses(source, text))
         needed |= stated | inherited
-        wrong += [f"{source.relative_to(CRATES)}: a public clause names {c} of {a}/specs/{b}" for a, b, c in sorted(stated) if b.startswith("state/")]
+        state = sorted(it for it in stated if it[1].startswith("state/"))
+        at = source.relative_to(CRATES)
+        wrong += [f"{at}: a public clause names {c} of {a}/specs/{b}" for a, b, c in state]
     for (crate, file), it in all.items():
         if not file.startswith("state/"):
-            others = sorted({name[:2] for name in it.known.values() if name[1].startswith("state/")} & set(all))
-            wrong += [f"{crate}/specs/{file} rests on {a}/specs/{b}" for a, b in others]
-    rooms = {room: {name[:2] for name in it.known.values()} & set(all) for room, it in all.items()}
-    needed_files = closed({name[:2] for name in needed} & set(all), rooms)
+            rooms = {name[:2] for name in it.known.values() if name[1].startswith("state/")}
+            rooms &= set(all)
+            wrong += [f"{crate}/specs/{file} cites {a}/specs/{b}" for a, b in sorted(rooms)]
     needed = closed(needed & set(below), below)
-    unneeded = [name for name in below if not name[1].startswith("state/") and name not in needed]
+    unneeded = [it for it in below if not it[1].startswith("state/") and it not in needed]
     if sys.argv[1:] == ["--list"]:
         for crate, file, name in unneeded:
             print(f"{crate}/specs/{file}: {name}")
         print(f"definitions of specs/ that no public contract needs: {len(unneeded)}")
         sys.exit(0)
-    wrong += [f"{crate}/specs/{file}: {name} is needed for no public contract" for crate, file, name in unneeded if crate not in MIXED]
-    mixed = [room for room in all if room[0] in MIXED]
-    idle = [room for room in mixed if not room[1].startswith("state/") and room not in needed_files]
-    wrong += [f"{crate}/specs/{file} is needed for no public contract" for crate, file in idle]
+    for crate, file, name in unneeded:
+        wrong.append(f"{crate}/specs/{file}: no public contract needs {name}")
     for it in wrong:
         print(it)
-    count = sum(len(file.own) for room, file in all.items() if room not in mixed)
-    print(f"definitions: {count} in their rooms, and the files of {len(set(MIXED))} other crates: {len(mixed)}; {len(wrong)} not")
+    count = sum(len(file.own) for file in all.values())
+    print(f"definitions: {count} in their folders, {len(wrong)} not")
     sys.exit(1 if wrong or not count else 0)
 
 

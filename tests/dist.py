@@ -1,16 +1,25 @@
 #!/usr/bin/env python3
-"""Makes dist/, the program that is shipped, from the one that was proved here, and checks it.
+"""Makes dist/, the shipped program, from the one that was proved here, and checks it.
 
     tests/dist.py fill
     tests/dist.py check [--strict]
+    tests/dist.py fill-library
+    tests/dist.py check-library [--strict]
 
-`fill` strips the program that `.ci/run` or `./xbrl-json --prove` proved and built from these sources into dist/xbrl-json, and writes
-dist/SOURCES: what it was built from. It needs the kit.
+`fill` strips the program that `.ci/run` or `./xbrl-json --prove` proved and built from these
+sources into dist/xbrl-json. It writes dist/SOURCES, which names what it was built from. It needs
+the kit.
 
-`check` fails (status 1) where dist/xbrl-json is not the file that dist/SOURCES names, or a line of dist/SOURCES was changed. Where dist/SOURCES
-names these sources and the kit that is here, the program that was proved here, stripped in the same way, must be the shipped one, byte for
-byte. Where something keeps it from that comparison (other sources, another kit, none, nothing proved here), a line says which, and the status
-is 0; with --strict, for releases, it is 1. dist/sources.sh says what the sources of a program are. Python 3.9 or later and bash are needed.
+`check` fails (status 1) if dist/xbrl-json is not the file that dist/SOURCES names, or if a line of
+dist/SOURCES was changed. If dist/SOURCES names these sources and this kit, the program that was
+proved here, stripped in the same way, must be the shipped one, byte for byte. If that cannot be
+compared (other sources, another kit, no kit, nothing proved here), a line gives the reason, and the
+status is 0; with --strict, for releases, it is 1. dist/sources.sh defines the sources of a program.
+
+`fill-library` and `check-library` do the same for the C library in dist/lib, which
+packaging/library.py makes. dist/sources.sh says whether a library must be there
+(`library_required`).
+Needs Python 3.9 or later and bash.
 """
 import argparse
 import os
@@ -24,6 +33,10 @@ TOP = Path(__file__).resolve().parent.parent
 BUILT = Path("crates/xbrl_json_cli/out/xbrl_json_cli")
 SHIPPED = Path("dist/xbrl-json")
 SOURCES = Path("dist/SOURCES")
+LIBRARY_CRATE = "xbrl_json_c"
+LIBRARY_BUILT = Path("crates/xbrl_json_c/out/libxbrl_json_c.a")
+LIBRARY = Path("dist/lib")
+LIBRARY_FILES = ("libxbrl_json.a", "libxbrl_json.so.0", "xbrl_json.pc")
 
 
 class Refused(Exception):
@@ -35,7 +48,7 @@ class NotCompared(Exception):
 
 
 def asked(top: Path, *words: str) -> str:
-    """What a function of dist/sources.sh prints; nothing where it fails."""
+    """Returns what a function of dist/sources.sh prints, or an empty text if it fails."""
     done = subprocess.run(["bash", "-c", '. dist/sources.sh && "$@"', "bash", *words], cwd=top, capture_output=True, text=True)
     return done.stdout.strip() if done.returncode == 0 else ""
 
@@ -46,7 +59,7 @@ def holds(top: Path, *words: str) -> bool:
 
 
 def kit() -> str:
-    """The kit's line, or nothing where there is no kit."""
+    """Returns the kit's line, or an empty text without a kit."""
     try:
         return subprocess.run(["rt", "version"], capture_output=True, text=True, check=True).stdout.strip()
     except (OSError, subprocess.CalledProcessError):
@@ -54,7 +67,10 @@ def kit() -> str:
 
 
 def strip(program: Path, to: Path) -> None:
-    """Strips a program by the kit's own clang, which is `llvm-strip` under that name; other tools give other bytes."""
+    """Strips a program by the kit's own clang, which is `llvm-strip` under that name.
+
+    Other tools give other bytes.
+    """
     page = subprocess.run(["rt", "doc"], capture_output=True, text=True, check=True).stdout.strip()
     clang = Path(page).parent / "toolchain/bin/clang"
     subprocess.run(["llvm-strip", "-s", "-o", to, program], executable=clang, check=True)
@@ -115,14 +131,62 @@ def check(top: Path) -> str:
     return f"{SHIPPED} is, byte for byte, the program that was proved here"
 
 
+def make_library(top: Path, out: Path) -> None:
+    """Makes the files of the C library from the static library that was proved here."""
+    words = [sys.executable, "packaging/library.py", "--from", str(LIBRARY_BUILT), str(out)]
+    done = subprocess.run(words, cwd=top, capture_output=True, text=True)
+    if done.returncode:
+        raise Refused(f"packaging/library.py: {done.stderr.strip()}")
+
+
+def fill_library(top: Path) -> str:
+    """Makes dist/lib from the static library that was proved here."""
+    sources, its_kit = asked(top, "sources_sum", ".", LIBRARY_CRATE), kit()
+    if not its_kit:
+        raise Refused("the kit's command `rt` is needed")
+    if not holds(top, "is_library_built_of", ".", sources):
+        raise Refused(f"no library was proved here from these sources: run .ci/run, or `rt lib` in crates/{LIBRARY_CRATE}")
+    if asked(top, "noted", f"crates/{LIBRARY_CRATE}/out/SOURCES", "kit") != its_kit:
+        raise Refused("the library here was proved by another kit: run .ci/run")
+    make_library(top, top / LIBRARY)
+    lines = [f"sources: {sources}", f"kit: {its_kit}", f"library: {asked(top, 'sum_of', str(LIBRARY_BUILT))}"]
+    lines += [f"{name}: {asked(top, 'sum_of', str(LIBRARY / name))}" for name in LIBRARY_FILES]
+    asked(top, "write_note", str(LIBRARY / "SOURCES"), *lines)
+    return f"{LIBRARY} is the library of these sources, of {its_kit}"
+
+
+def check_library(top: Path) -> str:
+    """Checks dist/lib, as far as what is here allows."""
+    if not (top / LIBRARY).exists():
+        if asked(top, "eval", "echo $library_required") == "yes":
+            raise Refused(f"there is no {LIBRARY}, which dist/sources.sh requires")
+        raise NotCompared(f"there is no {LIBRARY} yet")
+    if not holds(top, "is_library_whole", "."):
+        raise Refused(f"a file of {LIBRARY} is not the one that {LIBRARY / 'SOURCES'} names, or a line there was changed")
+    sources, its_kit = asked(top, "sources_sum", ".", LIBRARY_CRATE), asked(top, "noted", str(LIBRARY / "SOURCES"), "kit")
+    if asked(top, "noted", str(LIBRARY / "SOURCES"), "sources") != sources:
+        raise NotCompared(f"the sources have moved on since {LIBRARY} was made: tests/dist.py fill-library makes it anew once they are proved")
+    if kit() != its_kit:
+        raise NotCompared(f"{LIBRARY} is of these sources, and of the kit `{its_kit}`; here is `{kit() or 'none'}`")
+    if not holds(top, "is_library_built_of", ".", sources):
+        raise NotCompared(f"{LIBRARY} is of these sources; no library was proved here to compare it with")
+    with tempfile.TemporaryDirectory() as folder:
+        make_library(top, Path(folder))
+        same = all((Path(folder) / name).read_bytes() == (top / LIBRARY / name).read_bytes() for name in LIBRARY_FILES)
+    if not same or asked(top, "noted", str(LIBRARY / "SOURCES"), "library") != asked(top, "sum_of", str(LIBRARY_BUILT)):
+        raise Refused(f"{LIBRARY} is of these sources and of this kit, but the library that was proved here has other bytes")
+    return f"{LIBRARY} is, byte for byte, the library that was proved here"
+
+
 def main() -> int:
     """The status."""
     parser = argparse.ArgumentParser(description=__doc__, formatter_class=argparse.RawDescriptionHelpFormatter)
-    parser.add_argument("what", choices=("fill", "check"))
-    parser.add_argument("--strict", action="store_true", help="with check: a program that was not compared fails too")
+    runs = {"fill": fill, "check": check, "fill-library": fill_library, "check-library": check_library}
+    parser.add_argument("what", choices=runs)
+    parser.add_argument("--strict", action="store_true", help="with check and check-library: what was not compared fails too")
     options = parser.parse_args()
     try:
-        print("dist/:", fill(TOP) if options.what == "fill" else check(TOP))
+        print("dist/:", runs[options.what](TOP))
     except Refused as why:
         print("dist/: WRONG:", why)
         return 1

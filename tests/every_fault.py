@@ -1,11 +1,12 @@
 #!/usr/bin/env python3
-"""`xbrl-filing --every-fault` over made-up tables: of each row that has a fault its first, with its row and line.
+"""Tests `xbrl-filing --every-fault` over made-up tables: the first fault of each bad row, its line.
 
     tests/every_fault.py PROGRAM
 
-PROGRAM is the built xbrl-json. Tables are put together of records that are good or have a known fault, in all that CSV allows: quotes, line ends
-of each kind, also in quotes, lines without a character, a byte-order mark, a last line without its end. So which rows are to be told, and at which
-lines they begin, is known from how they were made. Each case has a line where it fails. The last line counts. Python 3.9 or later and Linux are needed.
+PROGRAM is the built xbrl-json. Tables are made of records that are good or have a known fault, with
+all that CSV allows: quotes, line ends of each kind, also in quotes, blank lines, a byte-order mark,
+a last line without its end. So the rows to report, and their lines, are known in advance. Each case
+that fails is printed. The last line counts. Needs Linux and Python 3.9 or later.
 """
 from __future__ import annotations
 
@@ -37,7 +38,7 @@ COLUMNS = {"id": {}, "cash": {"dimensions": {"concept": "eg:Cash"}}, "note": {"d
 
 
 class Row(NamedTuple):
-    """A record without its line end, and the fault that it has: its number and column, or 0 and 0."""
+    """Makes a record without its line end, and its fault: number and column, or 0 and 0."""
 
     text: bytes
     number: int = 0
@@ -58,7 +59,7 @@ BAD = [
 
 
 def report(folder: Path, texts: dict[str, bytes], row_ids: bool = False, types: str = TYPES, **parts: Any) -> None:
-    """Writes a report of these tables, all of one template, if the parts say no other."""
+    """Writes a report of these tables, all of one template unless the parts name another."""
     template: dict[str, Any] = {"columns": COLUMNS, **({"rowIdColumn": "id"} if row_ids else {})}
     info = {"documentType": CSV, "namespaces": {"eg": EG, "iso4217": "http://www.xbrl.org/2003/iso4217"}, "taxonomy": ["t.xsd"]}
     named = {it: {"url": f"{it}/{it}.csv", "template": "p"} for it in texts}
@@ -73,11 +74,14 @@ def report(folder: Path, texts: dict[str, bytes], row_ids: bool = False, types: 
 
 
 def start(*words: object, folder: Path, program: str = "", changes: bool = False, **more: Any) -> Tuple[int, List[List[str]], str]:
-    """Status, the records behind the header, and standard error of a run. Nothing may be left, nor changed but by the program of the test."""
+    """Runs, and returns status, the records after the header, and standard error.
+
+    The run must leave no file and change none, except by the test's own program.
+    """
     before, temporary = listing(folder), folder.parent / "tmp"
     temporary.mkdir(exist_ok=True)
     env = {**os.environ, "XBRL_JSON": program or PROGRAM, "TMPDIR": str(temporary)}
-    done = subprocess.run([FILING, *map(str, words)], cwd=folder, env=env, stdin=subprocess.DEVNULL, capture_output=True, timeout=60, **more)
+    done = subprocess.run([FILING, *map(str, words)], cwd=folder, env=env, stdin=subprocess.DEVNULL, capture_output=True, timeout=600, **more)
     case(f"{words}: inputs stay, and nothing is left", (changes or listing(folder) == before) and not os.listdir(temporary), os.listdir(temporary))
     header, *records = list(csv.reader(io.StringIO(done.stdout.decode(), newline=""), strict=True)) or [[""]]
     case(f"{words}: the header", not done.stdout or ",".join(header) == HEADER, header)
@@ -93,7 +97,11 @@ def plain(folder: Path, **more: Any) -> Tuple[int, List[List[str]], str]:
 
 
 def fake(path: Path, script: str) -> str:
-    """A program in the place of xbrl-json: a script in which `first` is 1 in the first run, `faults` the file of the faults, and `real` runs xbrl-json."""
+    """Writes a program to run instead of xbrl-json.
+
+    In its script `first` is 1 in the first run, `faults` is the file of faults, and `real` runs
+    xbrl-json.
+    """
     begin = f'#!/bin/bash\nreal() {{ {PROGRAM} "$@"; }}\nfaults=$5; first=0; [[ $7 == meta.json ]] && first=1\n'
     path.write_text(begin + script)
     path.chmod(0o755)
@@ -113,13 +121,13 @@ def made(dice: random.Random) -> Tuple[bytes, List[Tuple[str, str, str, str]]]:
     row = 0
     for row in range(1, dice.randrange(1, 30)):
         record = dice.choice(GOOD if dice.random() < 0.6 else BAD)
-        if not record.text:  # a cell alone, since nothing at all would be no record
+        if not record.text:  # an empty cell alone would not be a record
             record = Row(b'"one cell\nalone"', 26, 0)
         text += dice.choice(ends)
         if record.number:
             wanted.append((str(row), str(record.column and record.column - 1), str(record.number), str(line_ends(text) + 1)))
         text += record.text
-    if dice.random() < 0.2:  # quotes that are not closed reach to the end
+    if dice.random() < 0.2:  # unclosed quotes reach to the end
         text += dice.choice(ends)
         wanted.append((str(row + 1), "1", "40", str(line_ends(text) + 1)))
         return text + b'1x,"open' + dice.choice([b"", b"\n", b',"" \n\n1,2']), wanted
@@ -140,7 +148,7 @@ def tables_of_all_kinds(folder: Path) -> None:
 
 
 def fields_of_a_record(folder: Path) -> None:
-    """All nine fields, and the cell of a row behind one that was taken out."""
+    """Checks all nine fields, and the cell of a row after one that was removed."""
     report(folder / "r", {"t": b'cash,note\n"1\nx","a"\n2,b\n"3,0",c\n4,#d\n'})
     wanted = [
         ["t", "1", "1", "40", "BadNumber", "2", "cash", "1\nx", ""],
@@ -160,7 +168,10 @@ def identifiers(folder: Path) -> None:
 
 
 def faults_of_whole_files(folder: Path) -> None:
-    """A fault of a header or of a file that is not there is the table's only one; the other tables are told to their end."""
+    """Checks that a fault of a header or of a missing file is the table's only one.
+
+    The other tables are read to their end.
+    """
     report(folder / "r", {"a": b"cash,money\n1x,2\n", "b": b"cash,note\n1x,a\n2,b\n3x,c\n", "c": b"", "d": b"cash,note\n1,a\n"})
     (folder / "r/d/d.csv").unlink()
     status, records, err = plain(folder / "r")
@@ -170,7 +181,10 @@ def faults_of_whole_files(folder: Path) -> None:
 
 
 def no_table_at_fault(folder: Path) -> None:
-    """A fault of the metadata or of another file is the only record; a report without one has none."""
+    """Checks that a fault of the metadata or of another file is the only record.
+
+    A report without one has none.
+    """
     report(folder / "good", {"t": b"cash,note\n1,a\n"})
     case("no fault", plain(folder / "good") == (0, [], ""), plain(folder / "good"))
     report(folder / "meta", {"t": b"cash,note\n1x,a\n"}, dimensions={"entity": "$"})
@@ -185,18 +199,20 @@ def no_table_at_fault(folder: Path) -> None:
 
 
 def as_the_converter_writes(folder: Path) -> None:
-    """Where each table has one fault, what is printed is byte for byte what xbrl-json writes, with cells of all kinds."""
+    """Checks that, with one fault in each table, the output is byte for byte that of xbrl-json,
+    with cells of all kinds.
+    """
     cells = [b'"1\rx"', b'"1\r\nx"', b'"1\n"', b'"1,5"', b'"1""2"', b"1 2x", b"x\xc3\xa4", b"1\0x", b"9" * 200000 + b"x"]
     report(folder / "r", {f"t{number}": b"cash,note\n1,a\n" + cell + b",b\n2,c\n" for number, cell in enumerate(cells)})
     words = ["meta.json", "--types", "types.csv"]
-    subprocess.run([PROGRAM, *words, "--faults", folder / "f.csv"], cwd=folder / "r", stdout=subprocess.DEVNULL, stderr=subprocess.DEVNULL, timeout=60)
-    done = subprocess.run([FILING, *words, "--every-fault"], cwd=folder / "r", env={**os.environ, "XBRL_JSON": PROGRAM}, capture_output=True, timeout=60)
+    subprocess.run([PROGRAM, *words, "--faults", folder / "f.csv"], cwd=folder / "r", stdout=subprocess.DEVNULL, stderr=subprocess.DEVNULL, timeout=600)
+    done = subprocess.run([FILING, *words, "--every-fault"], cwd=folder / "r", env={**os.environ, "XBRL_JSON": PROGRAM}, capture_output=True, timeout=600)
     wanted = (folder / "f.csv").read_bytes()
     case("as xbrl-json writes", (done.returncode, done.stderr, done.stdout) == (1, b"", wanted), done.stderr, done.stdout[:300], wanted[:300])
 
 
 def each_fault_of_a_row(folder: Path) -> None:
-    """Each fault of a row in two rows of a table of its own, with good rows between: both are told."""
+    """Checks each fault of a row in two rows of a table, with good rows between: both are found."""
     fact = {"concept": "$c", "unit": "$u", "period": "$p"}
     columns = {
         "c": {},
@@ -234,7 +250,9 @@ def each_fault_of_a_row(folder: Path) -> None:
 
 
 def names_and_members(folder: Path) -> None:
-    """Tables whose names the folder of the copies could have, with what their metadata says of them alone, and metadata with letters beyond ASCII."""
+    """Tests table names that the folder of copies could use, table members of the metadata, and
+    metadata with letters beyond ASCII.
+    """
     names = ["meta", "parameters", "faults", "types", "x"]
     template = {"columns": {"cash": {"dimensions": {"concept": "$c"}}, "note": {}}}
     tables = {it: {"url": f"{it}/x.csv", "template": "p", "parameters": {"c": "eg:Cash"}} for it in names}
@@ -253,7 +271,9 @@ def names_and_members(folder: Path) -> None:
 
 
 def other_ends(folder: Path) -> None:
-    """What xbrl-json may answer besides: a later fault that is of no row, and an end without faults, whose lines are handed on."""
+    """Tests other answers of xbrl-json: a later fault that belongs to no row, and an end without
+    faults, whose lines are passed on.
+    """
     at = folder / "r"
     report(at, {"t": b"cash,note\nx,a\n1,b\ny,c\n"})
     header = "table,row,column,number,name,line,header,cell,place"
@@ -271,7 +291,10 @@ def other_ends(folder: Path) -> None:
 
 
 def files_that_change(folder: Path) -> None:
-    """A file that changes behind the first run: what was found is told, and that there may be more."""
+    """Changes a file after the first run.
+
+    What was found is printed, with a line that there may be more.
+    """
     wanted = "xbrl-filing: table t: more rows may have a fault: a file of the report has changed meanwhile\n"
     for number, (what, text) in enumerate(
         [("t/t.csv", b""), ("t/t.csv", b"cash"), ("meta.json", b"{}"), ("meta.json", b"{"), ("meta.json", b'{"tables": {"t": 1}}'), ("q/p.csv", b"x\n")]
@@ -285,13 +308,13 @@ def files_that_change(folder: Path) -> None:
 
 
 def where_it_cannot_write(folder: Path) -> None:
-    """Copies that cannot be written, and the words of xbrl-json on a terminal."""
+    """Tests copies that cannot be written, and the lines of xbrl-json on a terminal."""
     report(folder / "r", {"t": b"cash,note\nx,a\n" + b"1,b\n" * 10000})
     seen = plain(folder / "r", preexec_fn=lambda: resource.setrlimit(resource.RLIMIT_FSIZE, (20000, 20000)))
     case("a copy that cannot be written", (seen[:2], seen[2].endswith("/0.csv: cannot write (File too large)\n")) == ((3, []), True), seen)
     controller, terminal = pty.openpty()
     words = [FILING, "meta.json", "--types", "no\x1b[31m.csv", "--every-fault"]
-    done = subprocess.run(words, cwd=folder / "r", env={**os.environ, "XBRL_JSON": PROGRAM}, stdout=subprocess.DEVNULL, stderr=terminal, timeout=60)
+    done = subprocess.run(words, cwd=folder / "r", env={**os.environ, "XBRL_JSON": PROGRAM}, stdout=subprocess.DEVNULL, stderr=terminal, timeout=600)
     os.close(terminal)
     shown = os.read(controller, 4096)
     os.close(controller)
@@ -299,7 +322,10 @@ def where_it_cannot_write(folder: Path) -> None:
 
 
 def many_faults(folder: Path) -> None:
-    """Of a hundred rows of a table the faults are told, and a line says that there may be more. The table beside it is told whole."""
+    """Checks that a hundred rows of a table are listed, with a line that there may be more.
+
+    The next table is complete.
+    """
     report(folder / "r", {"a": b"cash,note\n" + b"x,y\n" * 150, "b": b"cash,note\n" + b"x,y\n" * 100, "c": b"cash,note\n" + b"1,y\nx,y\n" * 99})
     status, records, err = plain(folder / "r")
     rows = {table: [int(it[1]) for it in records if it[0] == table] for table in "abc"}
@@ -309,7 +335,9 @@ def many_faults(folder: Path) -> None:
 
 
 def files_that_are_read_once(folder: Path) -> None:
-    """What cannot be read a second time: the first fault is told, and that there may be more."""
+    """Tests what cannot be read a second time: the first fault is printed, with a line that there
+    may be more.
+    """
     for name, what in (("table", "t/t.csv"), ("metadata", "meta.json"), ("types table", "types.csv"), ("parameters", "q/p.csv")):
         at = folder / name.replace(" ", "")
         report(at, {"t": b"cash,note\nx,a\ny,b\n"})
@@ -328,17 +356,20 @@ def files_of_a_shell(folder: Path) -> None:
     """A types table, and the document of a conversion, that a shell gives as a descriptor."""
     report(folder / "r", {"t": b"cash,note\nx,a\ny,b\n"})
     line = f"{FILING} meta.json --types <(cat types.csv) --every-fault | cut -d, -f-4"
-    done = subprocess.run(["bash", "-c", line], cwd=folder / "r", env={**os.environ, "XBRL_JSON": PROGRAM}, capture_output=True, timeout=60)
+    done = subprocess.run(["bash", "-c", line], cwd=folder / "r", env={**os.environ, "XBRL_JSON": PROGRAM}, capture_output=True, timeout=600)
     wanted = b"xbrl-filing: table t: more rows may have a fault: a file of the report cannot be read a second time\n"
     case("a types table of a shell", (done.stdout, done.stderr) == (b"table,row,column,number\nt,1,1,40\n", wanted), done.stdout, done.stderr)
     example = TOP / "examples/filing"
     line = f"exec 3>&1; {FILING} {example}/report --taxonomy {example}/taxonomy --out >(cat >&3) | cat"
-    done = subprocess.run(["bash", "-c", line], cwd=folder, env={**os.environ, "XBRL_JSON": PROGRAM}, capture_output=True, timeout=60)
+    done = subprocess.run(["bash", "-c", line], cwd=folder, env={**os.environ, "XBRL_JSON": PROGRAM}, capture_output=True, timeout=600)
     case("a document to a shell", (done.stdout, done.stderr) == ((example / "expected.json").read_bytes(), b""), done.stdout[:200], done.stderr)
 
 
 def filing(dimension: str) -> dict[str, str]:
-    """The files of a report package, `r`, and of its taxonomy, `t`, whose metadata gives the entity of all facts by this text."""
+    """Writes a report package, `r`, and its taxonomy, `t`.
+
+    Its metadata gives the entity of all facts by this text.
+    """
     schema = (
         '<xs:schema xmlns:xs="http://www.w3.org/2001/XMLSchema" xmlns:xbrli="http://www.xbrl.org/2003/instance" targetNamespace="{0}" xmlns:eg="{0}">'
         '<xs:element name="Cash" type="xbrli:integerItemType" substitutionGroup="xbrli:item"/>'
@@ -375,7 +406,9 @@ def pack(at: Path, files: dict[str, str], form: str) -> None:
 
 
 def filings(folder: Path) -> None:
-    """A report package with its taxonomy: tables in a ZIP too, and places in the files that the metadata was joined of."""
+    """Tests a report package with its taxonomy: tables in a ZIP, and places in the files that were
+    joined.
+    """
     bad_rows = [["t", "1", "1", "40", "BadNumber", "2", "cash", "x", ""], ["t", "3", "1", "40", "BadNumber", "4", "cash", "y", ""]]
     for form in ("folder", "zip"):
         for number, (dimension, wanted) in enumerate(

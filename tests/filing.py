@@ -1,14 +1,15 @@
 #!/usr/bin/env python3
-"""xbrl-filing over made-up filings: what it makes of them, what it refuses and how, and what it leaves behind.
+"""Tests xbrl-filing over made-up filings: what it makes, what it refuses, what it leaves.
 
     tests/filing.py PROGRAM
 
-PROGRAM is the built xbrl-json. Packages are written as folders and as ZIPs, good and hostile; what is prepared of them is
-compared with what the rules say, and the example's document with the one written by hand. Each case has a line where it
-fails. The last line counts. Python 3.9 or later and Linux are needed.
+PROGRAM is the built xbrl-json. Packages are written as folders and as ZIPs, good and hostile. What
+is prepared of them is compared with the rules, and the example's document with one by hand. Each
+case that fails is printed. The last line counts. Needs Linux and Python 3.9 or later.
 """
 from __future__ import annotations
 
+import codecs
 import contextlib
 import csv
 import errno
@@ -36,7 +37,8 @@ EXAMPLE = TOP / "examples/filing"
 FILING = str(TOP / "xbrl-filing")
 sys.path.insert(0, str(TOP))
 
-from filing import command, digests, packages, refusals, stopping, zip_entries  # noqa: E402
+from filing import command, digests, library, markup, packages, refusals, stopping, strict_json, zip_entries  # noqa: E402
+from filing.urls import normal  # noqa: E402
 
 HOST = "http://reg.example/"
 CSV = "https://xbrl.org/2021/xbrl-csv"
@@ -44,7 +46,7 @@ EG = "http://reg.example/eg"
 XS = "http://www.w3.org/2001/XMLSchema"
 XBRLI = "http://www.xbrl.org/2003/instance"
 
-# What a file holds, and files by their paths in a folder.
+# The content of a file, and files by their paths in a folder.
 Text = Union[str, bytes]
 Files = Mapping[str, Text]
 
@@ -150,7 +152,10 @@ def pack(path: Path, files: Files | Iterable[tuple[str | zipfile.ZipInfo, Text]]
 
 
 def run(words: Iterable[object], folder: Path) -> tuple[int, str]:
-    """Status and standard error of a run in this process, which is much faster than one of its own. It must not reach xbrl-json."""
+    """Runs in this process, which is much faster, and returns status and standard error.
+
+    The run must not reach xbrl-json.
+    """
     before, err = os.getcwd(), io.StringIO()
     os.chdir(folder)
     try:
@@ -162,18 +167,22 @@ def run(words: Iterable[object], folder: Path) -> tuple[int, str]:
 
 
 def start(words: Iterable[object], folder: Path, **more: Any) -> tuple[int, bytes, str]:
-    """Status, standard output and standard error of a run of its own, with xbrl-json behind it."""
+    """Runs as a process, with xbrl-json after it, and returns status, standard output and standard
+    error.
+    """
     env = {**os.environ, "XBRL_JSON": PROGRAM, **more.pop("env", {})}
     done = subprocess.run([FILING, *map(str, words)], cwd=folder, env=env, stdin=subprocess.DEVNULL, capture_output=True, **{"timeout": 120, **more})
     return done.returncode, done.stdout, done.stderr.decode(errors="replace")
 
 
-# What starts the tool so that it shows each step at once, however fast it is.
+# Starts the tool so that it shows each step at once, however fast it is.
 AT_ONCE = "import sys; sys.path.insert(0, {!r}); from filing import command, progress; progress.EVERY = 0; sys.exit(command.main(sys.argv[2:], {!r}))"
 
 
 def on_a_terminal(words: Sequence[str], folder: Path, program: str | None = None, at_once: bool = False) -> tuple[int, bytes]:
-    """Status of a run whose standard error is a terminal, and what that shows; with `at_once` each step of its progress."""
+    """Runs with standard error on a terminal, and returns the status and what it shows; with
+    `at_once` each step of the progress.
+    """
     controller, terminal = pty.openpty()
     start = [sys.executable, "-c", AT_ONCE.format(str(TOP), program or PROGRAM)] if at_once else []
     done = subprocess.run(
@@ -189,7 +198,9 @@ def on_a_terminal(words: Sequence[str], folder: Path, program: str | None = None
 
 
 def worked() -> float:
-    """Seconds of processor time that this process and those that it ran have taken, which no other load makes more."""
+    """Returns the processor seconds of this process and those that it ran, which no other load
+    increases.
+    """
     return sum(os.times()[:4])
 
 
@@ -206,8 +217,11 @@ def prepared(
     name: str = "reports/report.json",
     form: str = "folder",
 ) -> tuple[int, str, dict[str, bytes]]:
-    """What a run with --prepare says, and the files that it makes. Inputs must stay as they are, and nothing else may be left. The table of
-    REPORT is there where a metadata file names it: without that the report would be refused."""
+    """Runs with --prepare, and returns its output and the files that it makes.
+
+    Inputs must stay unchanged, and nothing else may be left. The table of REPORT exists if a
+    metadata file names it, because the report would be refused without it.
+    """
     if not any(b"t.csv" in as_bytes(text) for files in (report, *taxonomies) for name, text in files.items() if not name.endswith(".csv")):
         report = {it: text for it, text in report.items() if it != "reports/t.csv"}
     shutil.rmtree(folder / "w", ignore_errors=True)
@@ -233,7 +247,9 @@ def prepared(
 def makes(
     folder: Path, name: str, merged: dict[str, Any] | None = None, types: str | None = None, parts: dict[str, Any] | None = None, **inputs: Any
 ) -> dict[str, bytes]:
-    """A case: the run is good and silent, and makes this metadata (or these parts of it) and this types table."""
+    """Checks that the run is good and silent, and makes this metadata (or these parts of it) and
+    this types table.
+    """
     status, err, made = prepared(folder, **inputs)
     value = json.loads(made["meta.json"]) if "meta.json" in made else None
     if merged is not None:
@@ -247,7 +263,7 @@ def makes(
 
 
 def at(value: Any, path: str) -> Any:
-    """A part of a JSON value, by the names on the way to it, or None."""
+    """Returns a part of a JSON value by the names that lead to it, or None."""
     for name in path.split("/"):
         value = value.get(name) if isinstance(value, dict) else None
     return value
@@ -307,7 +323,7 @@ def current_umask() -> int:
 
 
 def forms_of_reports(folder: Path) -> None:
-    """Where the report stands in a package, and what its package may say of itself."""
+    """Tests the place of the report in a package, and what its package may declare."""
     for form in ("folder", "zip", "top", "file"):
         makes(folder, f"a report as {form}", MERGED, TYPES, form=form)
     makes(folder, "__MACOSX beside the one folder", MERGED, report={"__MACOSX/x": "", **{f"top/{it}": text for it, text in REPORT.items()}})
@@ -360,7 +376,7 @@ def forms_of_reports(folder: Path) -> None:
     line = "r: has no xBRL-CSV report in 'reports' or a folder of it; it is a taxonomy package"
     stops(folder, "a taxonomy package in the place of a report", line, report={**TAXONOMY, "META-INF/taxonomyPackage.xml": "<a/>"})
     draft = '{"documentInfo":{"documentType":"http://xbrl.org/PWD/2019-02-06/xbrl-csv"}}'
-    line = "r: has no xBRL-CSV report in 'reports' or a folder of it; reports/r.json has the document type 'http://xbrl.org/PWD/2019-02-06/xbrl-csv'"
+    line = "r: has no xBRL-CSV report in 'reports' or a folder of it; reports/r.json has the document type 'http://xbrl.org/PWD/2019-02-06/xbrl-csv', of a draft"
     stops(folder, "a report of a draft", line, report={"reports/r.json": draft})
     stops(folder, "a broken report", "r/reports/r.json: is not JSON: Expecting value (line 1, column 2)", report={"reports/r.json": "[x"})
     write(folder, {"x.txt": "hello"})
@@ -378,13 +394,14 @@ def forms_of_reports(folder: Path) -> None:
 
 
 def catalogs(folder: Path) -> None:
-    """Which file stands for a URL."""
+    """Tests which file a URL leads to."""
     info = {**INFO, "namespaces": {"eg": EG, "two": "http://two.example/"}}
     other = {"other/mod.json": meta(info, tables=MERGED["tables"]), "other/mod.xsd": schema(ELEMENTS)}
     two = "documentInfo/namespaces/two"
 
     def by(name: str, entries: str, taken: str, more: Files | None = None, attributes: str = "") -> None:
-        """A case: by a catalog with these entries the module is the one in the folder that is taken."""
+        """Checks that, by a catalog with these entries, the module is the one in the chosen folder.
+        """
         files = {**TAXONOMY, **other, "META-INF/catalog.xml": catalog(entries, attributes), **(more or {})}
         made = makes(folder, name, types=TYPES, taxonomies=[files])
         value = json.loads(made.get("meta.json", "{}"))
@@ -425,8 +442,38 @@ def catalogs(folder: Path) -> None:
     case("the report's own catalog wins", at(json.loads(made["meta.json"]), two), "http://two.example/")
     dot = {**REPORT, "reports/report.json": meta({"extends": [HOST + "%2e/mod.json", HOST + "a%2F/../mod.json"]})}
     for form in ("folder", "zip"):
-        urls = [HOST + "%2e/mod.xsd", HOST + "mod.xsd"]
+        urls = [HOST + "%2e/mod.xsd"]  # both are one file, which is read by its first URL
         makes(folder, f"a dot that is decoded, {form}", parts={"documentInfo/taxonomy": urls}, types=TYPES, report=dot, form=form)
+    normal_forms(folder)
+
+
+def normal_forms(folder: Path) -> None:
+    """URLs and start strings that are one by RFC 3986, section 6.2."""
+    for url in ("HTTP://Reg.EXAMPLE/mod.json", "http://reg.example:80/mod.json", HOST + "%6dod.js%6Fn", HOST + ".%2f../%2e/mod.json", HOST + "/mod.json"):
+        report = {**REPORT, "reports/report.json": meta({"extends": [url, HOST + "mod.json"]})}
+        if "%2f" in url:
+            line = f"t0/META-INF/catalog.xml: leads {url} outside of the package"
+            stops(folder, f"the URL {url}", line, report=report)
+        else:
+            entries = [url.replace("mod.json", "mod.xsd").replace("%6dod.js%6Fn", "mod.xsd")]
+            entries += [HOST + "mod.xsd"] * (url == HOST + "/mod.json")  # an empty segment is another URL
+            makes(folder, f"the URL {url}", parts={"documentInfo/taxonomy": entries}, types=TYPES, report=report)
+    for start in ("HTTP://Reg.Example/", "http://reg.example:80/", "http://reg.example/%6d"):
+        prefix = "../reg/m" if start.endswith("d") else "../reg/"
+        files = {**TAXONOMY, "META-INF/catalog.xml": catalog(rewrite(start, prefix))}
+        makes(folder, f"the start string {start}", MERGED, TYPES, taxonomies=[files])
+    for text, wanted in (
+        ("http://a.example", "http://a.example"),
+        ("http://A.example:80", "http://a.example:80"),
+        ("https://a.example:443/x", "https://a.example/x"),
+        ("https://a.example:80/x", "https://a.example:80/x"),
+        ("http://U%41@A.example/%7e%2a%2A%e9", "http://U%41@a.example/~%2A%2A%E9"),
+        ("http://a.example/%2E/b/%2e%2e/c", "http://a.example/b/%2E%2E/c"),
+        ("http://a.example/a?%7E", "http://a.example/a?%7E"),
+        ("http://a.example/x#%41", "http://a.example/x#%41"),
+        ("urn:A:%41", "urn:A:%41"),
+    ):
+        case(f"the normal form of {text}", normal(text), wanted)
     percent = meta({"extends": [HOST + "a%20%C3%A9.json#x"]})
     makes(folder, "percent signs", MERGED, report={**REPORT, "reports/report.json": percent}, taxonomies=[{**TAXONOMY, "reg/a é.json": MODULE}])
 
@@ -467,6 +514,16 @@ def catalogs_refused(folder: Path) -> None:
     line = f"r/reports/report.json: no package has {HOST}mod.json (extends; there is no --taxonomy)"
     stops(folder, "no package at all", line, taxonomies=[])
     stops(folder, "no package but the report's own", line, report={**REPORT, "META-INF/catalog.xml": catalog("")}, taxonomies=[])
+    for url, entries in (
+        (HOST + "Mod.JSON", rewrite()),
+        (HOST + "REG/mod.json", rewrite(HOST + "reg/")),
+        (HOST + "X", f'<uri name="{HOST}x" uri="../reg/mod.json"/>'),
+    ):
+        for form in ("folder", "zip"):
+            line = f"r/reports/report.json: no package has {url} (extends; t0/reg/mod.json differs in capitals alone)"
+            capitals = {**REPORT, "reports/report.json": meta({"extends": [url]})}
+            files = [{**TAXONOMY, "META-INF/catalog.xml": catalog(entries)}]
+            stops(folder, f"{url} for other capitals, {form}", line, report=capitals, taxonomies=files, form=form)
     secure = HOST.replace("http:", "https:") + "mod.json"
     line = f"r/reports/report.json: no package has {secure} (extends; one has {HOST}mod.json)"
     stops(folder, "https for http", line, report={**REPORT, "reports/report.json": meta({"extends": [secure]})})
@@ -477,7 +534,7 @@ def catalogs_refused(folder: Path) -> None:
         folder,
         "a start string that differs",
         f"r/reports/report.json: no package has {HOST}mod.json (extends)",
-        taxonomies=[{**TAXONOMY, "META-INF/catalog.xml": catalog(rewrite("http://Reg.example/"))}],
+        taxonomies=[{**TAXONOMY, "META-INF/catalog.xml": catalog(rewrite("http://reg.example:81/"))}],
     )
     bad = {**TAXONOMY, "META-INF/catalog.xml": "<catalog>"}
     stops(folder, "a broken catalog", "t0/META-INF/catalog.xml: is not well-formed XML: no element found (line 1)", taxonomies=[bad])
@@ -486,7 +543,7 @@ def catalogs_refused(folder: Path) -> None:
 
 
 def places(folder: Path) -> None:
-    """References: relative ones against the published URL, and those of the report beside it."""
+    """Tests references: relative to the published URL, and those of the report next to it."""
     split = [
         {
             "META-INF/catalog.xml": catalog(rewrite(HOST + "f/", "../f/")),
@@ -547,7 +604,7 @@ TWO_TEMPLATES = {"p": {"columns": {"x": {}}}, "q": {"columns": {}}}
 
 
 def both(report: dict[str, Any], module: dict[str, Any], info: dict[str, Any] | None = None, module_info: dict[str, Any] | None = None) -> dict[str, Any]:
-    """A report and the module that it extends, by what they say."""
+    """Makes a report and the module that it extends, from these parts."""
     return {
         "report": {**REPORT, "reports/report.json": meta({"extends": [HOST + "mod.json"], **(info or {})}, **report)},
         "taxonomies": [{**TAXONOMY, "reg/mod.json": meta({**INFO, **(module_info or {})}, **module)}],
@@ -641,7 +698,7 @@ def joining_tables(folder: Path) -> None:
 
 
 def leaving_out(folder: Path) -> None:
-    """What is left out, and links, which are refused."""
+    """Tests what is left out, and links, which are refused."""
     first, second = FIRST, SECOND
     unused = both(
         {}, {"tables": {"t": {"url": "t.csv"}}, "tableTemplates": {"t": {**TEMPLATE, "x:y": 1}, "unused": {"dimensions": {"eg:None": "a"}, "columns": {}}}}
@@ -668,7 +725,7 @@ def leaving_out(folder: Path) -> None:
 
 
 def shapes_that_are_left(folder: Path) -> None:
-    """What has a wrong shape inside of a part goes into the merged file as it is, and is left to the converter."""
+    """Checks that a wrong shape inside a part is merged unchanged and left to the converter."""
     column = lambda **more: {"t": {"columns": {"c": more}}}
     for number, wrong_part in enumerate((
         *({"tableTemplates": {"t": it}} for it in (1, [], None, "x", {"columns": []}, {"columns": 1}, {"columns": {"c": 7}}, {"columns": {"c": []}})),
@@ -729,7 +786,7 @@ def entry_points(folder: Path) -> None:
 
 
 def chains(folder: Path) -> None:
-    """Files that extend files: their order, diamonds, rings, and what is no metadata file."""
+    """Tests files that extend files: order, diamonds, rings, and files that are not metadata."""
     info = lambda *extends, **more: {"extends": [HOST + it for it in extends], **more}
     report = {"reports/report.json": meta(info("a.json", "b.json"), parameters={"r": "1"})}
 
@@ -798,7 +855,7 @@ def chains(folder: Path) -> None:
 
 
 def what_is_no_metadata(folder: Path) -> None:
-    """Files that are no metadata files, and JSON that is none for the converter."""
+    """Tests files that are not metadata files, and JSON that the converter would refuse."""
     for name, text, what in (
         (
             "another document type",
@@ -809,6 +866,12 @@ def what_is_no_metadata(folder: Path) -> None:
             "a longer document type",
             '{"documentInfo":{"documentType":"https://xbrl.org/2021/xbrl-csv/x"}}',
             "is no xBRL-CSV metadata file: its document type is 'https://xbrl.org/2021/xbrl-csv/x'",
+        ),
+        (
+            "a document type of a draft",
+            '{"documentInfo":{"documentType":"http://www.xbrl.org/CR/2020-10-14/xbrl-csv"}}',
+            "is no xBRL-CSV metadata file: its document type is 'http://www.xbrl.org/CR/2020-10-14/xbrl-csv', of a draft; "
+            f"that of xBRL-CSV 1.0 is '{CSV}'",
         ),
         ("no document type", '{"documentInfo":{}}', "is no xBRL-CSV metadata file: it has no 'documentInfo.documentType'"),
         ("no documentInfo", "{}", "is no xBRL-CSV metadata file: it has no 'documentInfo.documentType'"),
@@ -848,7 +911,7 @@ def what_is_no_metadata(folder: Path) -> None:
 
 
 def repeated_keys(folder: Path) -> None:
-    """A key that one object has more than once is refused in each JSON file that is read, and is in no way passed over."""
+    """Checks that a key that one object has twice is refused in each JSON file that is read."""
 
     def told(file: str, key: str) -> str:
         """The line of a repeated key."""
@@ -888,7 +951,7 @@ def repeated_keys(folder: Path) -> None:
 
 
 def final_parts(folder: Path) -> None:
-    """What a file declares final: files that extend it add nothing to it."""
+    """Tests `final`: files that extend a file add nothing to what it declares final."""
     top, low = "r/reports/report.json", "t0/reg/mod.json"
     values = {
         "tables": ({"t": {"url": "t.csv", "template": "t"}}, {"u": {"url": "u.csv", "template": "t"}}, "u"),
@@ -970,7 +1033,8 @@ def final_parts(folder: Path) -> None:
 
 
 def two_prefixes(**parts: Any) -> dict[str, str]:
-    """A taxonomy whose module has the prefixes `m` and `g`, where the report has `n` and `eg`."""
+    """Makes a taxonomy whose module has the prefixes `m` and `g`, for a report with `n` and `eg`.
+    """
     return {**TAXONOMY, "reg/mod.json": meta({"namespaces": {"m": "http://mem/", "g": EG}, "taxonomy": ["mod.xsd"]}, **parts)}
 
 
@@ -981,7 +1045,9 @@ def named_report(**parts: Any) -> dict[str, str]:
 
 
 def prefixes(folder: Path) -> None:
-    """Two prefixes of one namespace: the first stands, and the other is replaced wherever it is a prefix."""
+    """Tests two prefixes of one namespace: the first is kept, and the other is replaced wherever it
+    is a prefix.
+    """
     mem = "http://mem/"
     shown = {
         "dimensions": {
@@ -1150,7 +1216,7 @@ def reading_schemas(folder: Path) -> None:
 
 
 def reading_linkbases(folder: Path) -> None:
-    """What linkbases lead to, which of them are read, and their bases."""
+    """Tests where linkbases lead, which of them are read, and their bases."""
     one, leaf = ONE, LEAF
     for kind in ("loc", "linkbaseRef", "roleRef", "arcroleRef"):
         links = {**leaf, "reg/mod.xsd": schema(f"<xs:annotation><xs:appinfo>{loc('l.xml', 'linkbaseRef')}</xs:appinfo></xs:annotation>")}
@@ -1258,7 +1324,9 @@ def reading_once(folder: Path) -> None:
 
 
 def including(folder: Path) -> None:
-    """A schema without a namespace takes that of the schema that includes it, for its names and for unprefixed ones."""
+    """Checks that a schema without a namespace takes that of the including schema, for its names
+    and for unprefixed ones.
+    """
     plain = schema(
         '<xs:complexType name="T"><xs:simpleContent><xs:restriction base="xbrli:dateItemType"/></xs:simpleContent></xs:complexType>' + item("A", "T"), ""
     )
@@ -1288,7 +1356,7 @@ def including(folder: Path) -> None:
 
 
 def names_in_schemas(folder: Path) -> None:
-    """Prefixes are those in scope where the name stands; only global elements count."""
+    """Checks that prefixes are those in scope at the name, and that only global elements count."""
     inside = f'<xs:element xmlns:i="{XBRLI}" name="A" type="i:dateItemType" substitutionGroup="i:item"/>'
     inside += f'<xs:element xmlns:i="{XBRLI}/other" name="B" type="i:dateItemType" substitutionGroup="i:item"/>'
     reads(folder, "prefixes declared on an element", {"reg/mod.xsd": schema(inside)}, records("A,date"))
@@ -1332,6 +1400,27 @@ def encodings(folder: Path) -> None:
             records(f"{name},text"),
         )
     reads(folder, "a schema with a byte-order mark", {"reg/mod.xsd": b"\xef\xbb\xbf" + umlaut.encode()}, records("Größe,text"))
+    unknown = [it for it in markup.TAKEN if codecs.lookup(it).name != it or not codecs.getincrementaldecoder(it)]
+    case("Python knows all encodings that are taken", unknown, [])
+    for name, encoding in (
+        *((it, "utf-8") for it in ("UTF8", "utf_8", "U8", "UTF-16", "shift_jis", "klingon", "punycode", "utf-32")),
+        *((it, "utf-16") for it in ("UTF16", "UTF-8", "UTF8", "klingon", "unicode_escape", "utf-16-le")),
+        *((it, "utf-32") for it in ("UTF32", "UTF-8", "klingon")),
+    ):
+        head = f'<?xml version="1.0" encoding="{name}"?>'
+        marked = (b"\xef\xbb\xbf" if encoding == "utf-8" else b"") + (head + umlaut).encode(encoding)
+        reads(folder, f"{encoding} with a mark that declares {name}", {"reg/mod.xsd": marked}, records("Größe,text"))
+        for end in ("-le", "-be") if encoding != "utf-8" else ():
+            files = {"reg/mod.xsd": (head + umlaut).encode(encoding + end)}
+            reads(folder, f"{encoding}{end} without a mark that declares {name}", files, records("Größe,text"))
+    for name, encoding in (("UTF8", "utf-8"), ("utf_8", "utf-8"), ("latin-1", "latin-1"), ("L1", "latin-1")):
+        files = {"reg/mod.xsd": (f"<?xml version='1.0'\n encoding = '{name}' standalone='yes' ?>" + umlaut).encode(encoding)}
+        reads(folder, f"a schema that declares {name}", files, records("Größe,text"))
+    edge = "<?xml version='1.0' encoding='latin-1'" + " " * (1024 - 40) + "?>"
+    reads(folder, "a declaration of 1,024 bytes", {"reg/mod.xsd": (edge + umlaut).encode("latin-1")}, records("Größe,text"))
+    for name in ("punycode", "idna", "unicode_escape", "raw-unicode-escape", "UTF-7", "undefined", "zlib", "utf-8-sig", "hz", "charmap"):
+        line = f"t0/reg/mod.xsd: is in an encoding that is not taken: {name}"
+        refuses(folder, f"a schema in {name}", {"reg/mod.xsd": f"<?xml version='1.0' encoding='{name}'?>{schema()}"}, line)
     for name, text, what in (
         ("a document type", "<!DOCTYPE x>" + schema(), "has a document type, which is refused (line 1)"),
         ("an entity", '<?xml version="1.0"?>\n<!DOCTYPE x [<!ENTITY a "b">]>' + schema("&a;"), "has a document type, which is refused (line 2)"),
@@ -1344,8 +1433,11 @@ def encodings(folder: Path) -> None:
         ("bytes of another encoding", b'<?xml version="1.0"?>\n<a b="\xff"/>', "is not well-formed XML: not well-formed (invalid token) (line 2)"),
         ("half a letter of shift_jis", b'<?xml version="1.0" encoding="shift_jis"?><a b="\x81\xff"/>', "is not in its encoding, shift_jis (line 1)"),
         ("half a letter at its end", f"<?xml version='1.0' encoding='euc-kr'?>{schema()}".encode() + b"\xb0", "is not in its encoding, euc-kr (line 1)"),
+        ("UTF-16 that is none", f'<?xml version="1.0" encoding="UTF-16"?>{schema()}', "is not in its encoding, UTF-16 (line 1)"),
+        ("a long declaration", edge.replace("?>", " ?>") + schema(), "has an XML declaration of more than 1024 bytes"),
+        ("letters that are not ASCII", f'<?xml version="1.0" encoding="us-ascii"?>{umlaut}', "is not well-formed XML: not well-formed (invalid token) (line 1)"),
         ("an encoding that is not known", '<?xml version="1.0" encoding="klingon"?><a/>', "is in an encoding that is not known: klingon"),
-        ("an encoding that is none", '<?xml version="1.0" encoding="rot13"?><a/>', "is in an encoding that is not known: rot13"),
+        ("an encoding that is none", '<?xml version="1.0" encoding="rot13"?><a/>', "is in an encoding that is not taken: rot13"),
         ("another document", "<html/>", "is neither a schema nor a linkbase: its root is 'html'"),
         ("a locator alone", '<link:loc xmlns:link="http://www.xbrl.org/2003/linkbase"/>', "is neither a schema nor a linkbase: its root is 'loc'"),
     ):
@@ -1402,7 +1494,9 @@ def kinds_are(folder: Path, name: str, body: str, *lines: str, **files: Text) ->
 
 
 def kinds(folder: Path) -> None:
-    """What each element is: every base type, directly and behind four derivations, and what no fact can have."""
+    """Tests the kind of each element: every base type, directly and through four derivations, and
+    what no fact can have.
+    """
     types = [(name, word) for word, names in ITEM_TYPES.items() for name in names.split()]
     kinds_are(folder, "each base type", "".join(item(f"I_{it}", f"xbrli:{it}ItemType") for it, _ in types), *(f"I_{it},{word}" for it, word in types))
     ways = [("restriction", "simpleContent"), ("extension", "simpleContent"), ("restriction", "complexContent"), ("extension", "complexContent")]
@@ -1488,7 +1582,9 @@ def kinds_of_elements(folder: Path) -> None:
 
 
 def what_no_fact_can_have(folder: Path) -> None:
-    """Elements that are not in the types table, and the concepts among them that the metadata must not name."""
+    """Tests elements that are not in the types table, and those of them that the metadata must not
+    name.
+    """
     nothing = headed("A xbrldt:hypercubeItem", "B eg:A") + '<xs:element name="C" type="xs:string"/>'
     nothing += headed("D eg:None", more='type="xbrli:dateItemType"')
     ring = headed("E eg:F", "F eg:E", "M eg:M") + derived("G", "eg:I") + derived("I", "eg:G") + item("J", "eg:G") + item("P", "eg:I") + item("L", "eg:L")
@@ -1584,7 +1680,7 @@ def entry(name: str, mode: int = 0) -> zipfile.ZipInfo:
 
 
 def patched(path: Path, changes: Iterable[tuple[bytes, bytes]]) -> None:
-    """A file in which bytes are replaced by others of the same length, wherever they stand."""
+    """Replaces bytes of a file by others of the same length, wherever they occur."""
     data = path.read_bytes()
     for old, new in changes:
         assert old in data and len(old) == len(new), old
@@ -1622,7 +1718,9 @@ def refused_zip(
     change: Callable[[Path], None] | None = None,
     words: Sequence[str] = (),
 ) -> None:
-    """Cases: a ZIP with these entries is refused by this line, as a report and as a taxonomy, and nothing is written."""
+    """Checks that a ZIP with these entries is refused by this line, as a report and as a taxonomy,
+    and nothing is written.
+    """
     for role in ("report", "taxonomy"):
         work = folder / "z"
         shutil.rmtree(work, ignore_errors=True)
@@ -1668,7 +1766,7 @@ def hostile_zips(folder: Path) -> None:
     two_names = entry("../x")
     two_names.orig_filename = "a"
     try:
-        seen = zip_entries.checked_entries(type("Archive", (), {"infolist": lambda _: [two_names]})(), "z", 1000)
+        seen = zip_entries.checked_entries(type("Archive", (), {"infolist": lambda _: [two_names]})(), 100, "z", 1000)
     except refusals.Refusal as refusal:
         seen = refusal.line
     case("an entry with a second name", seen, "z: the entry '../x' leads outside of the package")
@@ -1705,7 +1803,7 @@ def bombs(folder: Path) -> None:
 
 
 def packed(path: Path, name: str, length: int) -> bytes:
-    """The first bytes of a packed entry, where they stand alone in the file."""
+    """Finds the first bytes of a packed entry that occur only once in the file."""
     data = path.read_bytes()
     at = data.find(name.encode()) + len(name)
     return data[at : at + length]
@@ -1753,7 +1851,7 @@ def damaged_zips(folder: Path) -> None:
 
 
 def damaged_tables(folder: Path) -> None:
-    """No table is converted where one of them is damaged, the first or the last."""
+    """Checks that no table is converted if one of them is damaged, the first or the last."""
     temporary = folder / "tmp"
     temporary.mkdir()
     for table in ("a.csv", "z.csv"):
@@ -1820,7 +1918,7 @@ def unpacked_packages(folder: Path) -> None:
 
 
 def tables(folder: Path) -> None:
-    """Where tables lie, by which names they are prepared, and what is never looked at."""
+    """Tests where tables are, by which names they are prepared, and what is never read."""
     urls = {"a": "sub/a.csv", "b": "meta.json", "c": "types.csv", "d": "meta.json/d.csv", "e": "filed-types.csv", "f": "none.csv"}
     names = {**urls, "b": "filed-meta.json", "c": "filed-filed-types.csv", "d": "filed-meta.json/d.csv"}
     for form in ("folder", "zip", "file"):
@@ -1840,7 +1938,7 @@ def tables(folder: Path) -> None:
             made = makes(
                 folder,
                 f"names of tables, {form}",
-                parts={f"tables/{it}": {"url": names[it], "template": "t", "optional": True} for it in some},
+                parts={f"tables/{it}": None if it == "f" else {"url": names[it], "template": "t", "optional": True} for it in some},
                 types=TYPES,
                 report=report,
                 taxonomies=[{**TAXONOMY, "reg/mod.json": module}],
@@ -1888,14 +1986,16 @@ def tables(folder: Path) -> None:
             case(f"a table at {url} is not looked at", sorted(made), ["meta.json", "types.csv"])
     for form in ("folder", "zip"):
         module = {**TAXONOMY, "reg/mod.json": MODULE.replace('"tables"', '"parameterURL": "p.csv", "tables"')}
-        line = "r/reports/p.csv: cannot read (there is no such file; 'parameterURL' of t0/reg/mod.json names it)"
-        stops(folder, f"a parameters file that is not there, {form}", line, 3, taxonomies=[module], form=form)
+        line = "r/reports/p.csv: is missing: 'parameterURL' of t0/reg/mod.json names it"
+        stops(folder, f"a parameters file that is not there, {form}", line, taxonomies=[module], form=form)
     deep = {**{it.replace("reports/", "reports/q/"): text for it, text in REPORT.items()}, "reports/r/t.csv": "cash\n9\n"}
     case("tables lie beside the report's own file", makes(folder, "a deep report", MERGED, report=deep).get("t.csv"), b"cash\n1\n")
 
 
 def tables_that_are_none(folder: Path) -> None:
-    """A table's file that is a folder or is not there is the converter's to tell. No link is ever made in an input."""
+    """Checks that the converter reports a table that is a folder or missing, and that no link is
+    made in an input.
+    """
     write(folder / "t", TAXONOMY)
     apart = {"reports/report.json": REPORT["reports/report.json"]}
     read, missing = (f"xbrl-json: table t, row 0, column 0: {it}\n" for it in ("Read (21)", "NoFile (20)"))
@@ -1923,7 +2023,9 @@ def tables_that_are_none(folder: Path) -> None:
 
 
 def files_that_nothing_names(folder: Path) -> None:
-    """A CSV file of the report that no table names is refused, as its facts would be missing in silence; what is no file of the report is passed over."""
+    """Checks that a CSV file that no table names is refused, because its facts would be silently
+    missing. Other files are skipped.
+    """
     optional = {"t": {"url": "t.csv", "optional": True}, "u": {"url": "sub/u.csv", "template": "t", "optional": True}}
     inputs = {"taxonomies": [{**TAXONOMY, "reg/mod.json": meta(INFO, tableTemplates={"t": TEMPLATE}, tables=optional, parameterURL="p.csv")}]}
     bare = {"reports/report.json": REPORT["reports/report.json"], "reports/p.csv": "name,value\n"}
@@ -1938,31 +2040,31 @@ def files_that_nothing_names(folder: Path) -> None:
             stops(folder, f"{name} in a folder of reports, {form}", line, report=moved, form=form, **inputs)
         many = {f"reports/{it}.csv": rows for it in ("t", "sub/u", "z", "b/a", "sub/v")}
         stops(folder, f"the first of several, {form}", f"r/reports/b/a.csv: {said}", report={**bare, **many}, form=form, **inputs)
-        passed = ["t.csv", "sub/u.csv", "t.txt", "T.csv.bak", "csv", "._T.csv", ".x/T.csv", "a/.x/T.csv", "__MACOSX/T.csv"]
+        passed = ["t.csv", "sub/u.csv", "t.txt", "T.csv.bak", "csv", "._T.csv", "~$t.csv", ".x/T.csv", "a/.x/T.csv", "__MACOSX/T.csv"]
         passed += ["../META-INF/T.csv", "../other/T.csv"]
         named = {f"reports/{it}".replace("reports/../", ""): rows for it in passed}
         made = makes(folder, f"what is none of the report, {form}", parts={"tables": optional}, report={**bare, **named}, form=form, **inputs)
         case(f"what is none of the report is not prepared, {form}", sorted(made), ["meta.json", "p.csv", "sub/u.csv", "t.csv", "types.csv"])
         beside = {**bare, "reports/q/report.json": meta(), "reports/q/T.csv": rows, "reports/q/a/T.csv": rows}
-        makes(folder, f"files of another report, {form}", parts={"tables": optional}, report=beside, form=form, **inputs)
+        makes(folder, f"files of another report, {form}", parts={"tables": {}}, report=beside, form=form, **inputs)
         for name, text in (("q/a/report.json", meta()), ("q/report.json", meta().replace("xbrl-csv", "xbrl-json")), ("q/report.txt", meta())):
             other = {**bare, f"reports/{name}": text, "reports/q/T.csv": rows}
             stops(folder, f"files beside {name}, {form}", f"r/reports/q/T.csv: {said}", report=other, form=form, **inputs)
         moved = {it.replace("reports/", "reports/q/"): text for it, text in bare.items()}
         around = {"reports/r/T.csv": rows, "reports/q2/T.csv": rows, "META-INF/T.csv": rows, "other/T.csv": rows, "reports/T.txt": rows}
-        makes(folder, f"files beside the report's folder, {form}", parts={"tables": optional}, report={**moved, **around}, form=form, **inputs)
+        makes(folder, f"files beside the report's folder, {form}", parts={"tables": {}}, report={**moved, **around}, form=form, **inputs)
         inside = {**moved, "reports/q/a/report.json": meta(), "reports/q/a/T.csv": rows}
         stops(folder, f"no report stands so deep, {form}", f"r/reports/q/a/T.csv: {said}", report=inside, form=form, **inputs)
         none = [{**TAXONOMY, "reg/mod.json": meta(INFO)}]
         stops(folder, f"no table at all, {form}", f"r/reports/T.csv: {said}", report={**REPORT, "reports/T.csv": rows}, taxonomies=none, form=form)
         inside = {**bare, "reports/t.csv/x.csv": rows, "reports/T.csv": rows}
-        makes(folder, f"a folder in a table's place is the converter's fault, {form}", parts={"tables": optional}, report=inside, form=form, **inputs)
+        makes(folder, f"a folder in a table's place is the converter's fault, {form}", parts={"tables": {"t": optional["t"]}}, report=inside, form=form, **inputs)
         bad_tables = [{"tables": {"t": it}} for it in ({"url": "./t.csv"}, 7, {})]
         for part in (*bad_tables, {"tables": {"t": {"url": "t.csv"}}, "parameterURL": "./p.csv"}):
             wrong_url = [{**TAXONOMY, "reg/mod.json": meta(INFO, **part)}]
             makes(folder, f"a URL that is the converter's fault: {part}, {form}", parts=part, report={**REPORT, **bare}, taxonomies=wrong_url, form=form)
     lone = {**bare, "reports/T.csv": rows}
-    makes(folder, "a file beside a lone metadata file", parts={"tables": optional}, report=lone, form="file", **inputs)
+    makes(folder, "a file beside a lone metadata file", parts={"tables": {}}, report=lone, form="file", **inputs)
     pack(folder / "zipped.zip", lone)
     write(folder / "z", inputs["taxonomies"][0])
     for words in ([], ["--out", "kept.json"], ["--explain"]):
@@ -1971,8 +2073,40 @@ def files_that_nothing_names(folder: Path) -> None:
         case(f"nothing is converted then: {words}", seen, ((1, b"", f"xbrl-filing: zipped.zip/reports/T.csv: {said}\n"), "kept"))
 
 
+def tables_that_are_not_filed(folder: Path) -> None:
+    """Optional tables without a file are left out, with the templates that only they use.
+
+    A slip in one of these does not stop a filing.
+    """
+    slips = {
+        "concept": {"columns": {"x": {"dimensions": {"concept": "eg:Tuple"}}}},
+        "dimension": {"columns": {"x": {"dimensions": {"concept": "eg:Cash", "eg:Regoin": "eg:North"}}}},
+        "column": {"columns": {"x.y": {}}, "rowIdColumn": "none"},
+        "parameter": {"columns": {"x": {"dimensions": {"concept": "eg:Cash", "unit": "$UNIT"}}}},
+    }
+    tables = {it: {"url": f"sub/{it}.csv", "optional": True} for it in slips}
+    tables.update(same={"url": "same.csv", "template": "t", "optional": True}, none={"url": "n.csv", "template": "none", "optional": True})
+    tuple_item = '<xs:element name="Tuple" substitutionGroup="xbrli:tuple"/>'
+    module = lambda more: meta(INFO, tableTemplates={"t": TEMPLATE, **slips}, tables={"t": {"url": "t.csv"}, **more}, parameters={"unit": "eg:e"})
+    for form in ("folder", "zip", "file"):
+        taxonomy = {**TAXONOMY, "reg/mod.json": module(tables), "reg/mod.xsd": schema(ELEMENTS + tuple_item)}
+        made = makes(folder, f"tables that are not filed, {form}", {**MERGED, "parameters": {"unit": "eg:e"}}, TYPES, taxonomies=[taxonomy], form=form)
+        without = {**taxonomy, "reg/mod.json": module({})}
+        case(f"they cost nothing, {form}", made, makes(folder, f"the same without them, {form}", taxonomies=[without], form=form))
+    for name, what in (("concept", "names the concept 'eg:Tuple'"), ("dimension", "names the dimension 'eg:Regoin'"), ("parameter", "nothing refers to")):
+        for form in ("folder", "zip"):
+            status, err, _ = prepared(folder, report={**REPORT, f"reports/sub/{name}.csv": "x\n"}, taxonomies=[taxonomy], form=form)
+            case(f"the slip of a table that is filed, {name}, {form}", (status, what in err, err.count("\n")), (1, True, 1))
+    must = {**tables, "concept": {"url": "sub/concept.csv"}}
+    status, err, _ = prepared(folder, taxonomies=[{**taxonomy, "reg/mod.json": module(must)}])
+    case("a table that is not optional is not left out", (status, "names the concept 'eg:Tuple'" in err), (1, True))
+
+
 def files_above_the_report(folder: Path) -> None:
-    """A CSV file directly in a folder between the package's root and the report's folder is refused too; above and beside these nothing is looked at."""
+    """Checks that a CSV file in a folder from the package's root down to the report's is refused.
+
+    Above and next to these nothing is read.
+    """
     optional = {"t": {"url": "t.csv", "optional": True}}
     inputs = {"taxonomies": [{**TAXONOMY, "reg/mod.json": meta(INFO, tableTemplates={"t": TEMPLATE}, tables=optional)}]}
     bare = {"reports/report.json": REPORT["reports/report.json"]}
@@ -2013,13 +2147,16 @@ def files_above_the_report(folder: Path) -> None:
 
 
 def links_to_files_that_nothing_names(folder: Path) -> None:
-    """In an unpacked package a file is known by more than its name, and what is no file is none that was forgotten."""
+    """Checks that a file of an unpacked package is known by more than its name, and that what is
+    not a file was not forgotten.
+    """
     said = "is not read: no table of the joined metadata has this url (names are compared exactly)"
     place = folder / "r/reports"
 
     def seen(make: Callable[[], object]) -> tuple[int, str]:
         """Status and standard error of a run over packages to which this was done."""
-        subprocess.run(["rm", "-rf", "r", "t", "o"], cwd=folder, check=True)  # folders that are too deep for shutil
+        # folders that are too deep for shutil
+        subprocess.run(["rm", "-rf", "r", "t", "o"], cwd=folder, check=True)
         write(folder / "r", REPORT)
         write(folder / "t", TAXONOMY)
         make()
@@ -2035,11 +2172,11 @@ def links_to_files_that_nothing_names(folder: Path) -> None:
         os.chdir(before)
 
     def linked(name: str, target: str) -> Callable[[], None]:
-        """What makes a link in the folder of the reports."""
+        """Returns what makes a link in the folder of the reports."""
         return lambda: (place / name).symlink_to(target)
 
     def of_a_linked_folder() -> None:
-        """Puts a link to another folder in the place of that of the reports."""
+        """Replaces the folder of the reports by a link to another folder."""
         write(folder, {"r/data/t.csv": "cash\n2\n", "r/data/report.json": REPORT["reports/report.json"]})
         shutil.rmtree(place)
         place.symlink_to("data")
@@ -2071,7 +2208,10 @@ def links_to_files_that_nothing_names(folder: Path) -> None:
 
 
 def parameters_in_other_letters(folder: Path) -> None:
-    """A parameter to which nothing refers is refused where one is missing that differs in capitals alone; nothing else that is missing is."""
+    """Checks that an unused parameter is refused if a missing one differs from it only in capitals.
+
+    Nothing else that is missing is refused.
+    """
     end = "which is no parameter and no column of it (names are compared exactly)"
     level = {"columns": {"cash": {"dimensions": {"concept": "eg:Cash"}}, "Region": {}}}
     tables = {"t": {"url": "t.csv"}}
@@ -2082,11 +2222,11 @@ def parameters_in_other_letters(folder: Path) -> None:
         return {"report": {**REPORT, "reports/p.csv": f"name,value\nother,1\n{name},{value}\n"}, "taxonomies": [{**TAXONOMY, "reg/mod.json": file}]}
 
     def told(given: str, wanted: str, file: str = "r/reports/p.csv") -> str:
-        """The line by which a parameter is refused where another one is wanted."""
+        """Returns the line that refuses a parameter because another one is wanted."""
         return f"{file}: nothing refers to the parameter '{given}', and the template 't' refers to '${wanted}', {end}"
 
     def at_column(**column: Any) -> dict[str, Any]:
-        """The part of a module that says more of a column."""
+        """Makes the part of a module that adds to a column."""
         return {"tableTemplates": {"t": {"columns": {"cash": {"dimensions": {"concept": "eg:Cash"}, **column}}}}}
 
     def in_group(**group: Any) -> dict[str, Any]:
@@ -2136,13 +2276,17 @@ def parameters_in_other_letters(folder: Path) -> None:
 
 
 def filed_with(filed: str, report: Files = REPORT, **parts: Any) -> dict[str, Any]:
-    """A filing with a parameters file, and what its module says beside the table of REPORT."""
+    """Makes a filing with a parameters file, and further parts of its module next to the table of
+    REPORT.
+    """
     module = meta(INFO, **{"tableTemplates": {"t": TEMPLATE}, "tables": {"t": {"url": "t.csv"}}, "parameterURL": "p.csv", **parts})
     return {"report": {**report, "reports/p.csv": filed}, "taxonomies": [{**TAXONOMY, "reg/mod.json": module}]}
 
 
 def parameters_of_each_fact(folder: Path) -> None:
-    """A parameter from which the report's own level takes the entity or the period of facts is refused where nothing gives it."""
+    """Checks that a parameter for the entity or the period of the report's own level is refused if
+    nothing gives it.
+    """
     header, both_given = "name,value\n", "name,value\nentityID,lei:x\nrefPeriod,2025Q3\n"
 
     def told(key: str, name: str, file: str = "r/reports/p.csv", table: str = "t") -> str:
@@ -2173,11 +2317,11 @@ def parameters_of_each_fact(folder: Path) -> None:
     there = {**REPORT, "reports/u.csv": "cash\n1\n"}
     stops(folder, "the parameter of another table", told("period", "refPeriod", table="u"), **filed_with(header, there, tables=two, **period))
     two["u"]["optional"] = True
-    makes(folder, "a table that is not filed", parts={"tables": two}, **filed_with(header, tables=two, **period))
+    makes(folder, "a table that is not filed", parts={"tables": {"t": two["t"]}}, **filed_with(header, tables=two, **period))
 
 
 def facts_that_do_without_a_parameter(folder: Path) -> None:
-    """The report's own entity or period matters where a fact has none of its own, and only there."""
+    """Checks that the report's own entity or period matters only if a fact has none of its own."""
     cash, own = {"concept": "eg:Cash"}, {"concept": "eg:Cash", "period": "2025"}
     said = "to which 'dimensions.period' of t0/reg/mod.json refers: facts of the table 't' would have no period"
     line = f"r/reports/p.csv: has no value for the parameter 'refPeriod', {said}"
@@ -2211,7 +2355,9 @@ def facts_that_do_without_a_parameter(folder: Path) -> None:
 
 
 def parameters_that_are_no_loss(folder: Path) -> None:
-    """Texts that refer to no parameter, references that are not those of all facts, and what is the converter's fault."""
+    """Tests texts that refer to no parameter, references that do not concern all facts, and faults
+    of the converter.
+    """
     cash = {"concept": "eg:Cash"}
     for text in ("2025", "$$refPeriod", "$rowNumber", "#none", 7, None):
         makes(folder, f"a period that is {text}", parts={"dimensions": {"period": text}}, **filed_with("name,value\n", dimensions={"period": text}))
@@ -2223,7 +2369,7 @@ def parameters_that_are_no_loss(folder: Path) -> None:
         made = filed_with("name,value\n", tables={"t": table}, dimensions={"period": "$refPeriod"})
         if "t.csv" not in json.dumps(table):
             made["report"].pop("reports/t.csv")
-        makes(folder, f"a table without facts: {table}", parts={"tables/t": table}, **made)
+        makes(folder, f"a table without facts: {table}", parts={"tables/t": None if isinstance(table, dict) and table.get("optional") else table}, **made)
     for text in ("", "name;value\n", "Name,value\n", "refPeriod,2025\n", "name,value\nrefPeriod;2025\n", "name,value\na,b,c\n", 'name,value\n"xxx'):
         faulty = filed_with(text, dimensions={"period": "$refPeriod"})
         makes(folder, f"a parameters file that is the converter's fault: {text}", parts={"parameterURL": "p.csv"}, **faulty)
@@ -2232,13 +2378,15 @@ def parameters_that_are_no_loss(folder: Path) -> None:
 
 
 def heeding() -> None:
-    """A program that runs in the background may ignore some signals; one that is tested here does not."""
+    """Restores signals that a program in the background may ignore. The tested program must not."""
     for it in (signal.SIGTERM, signal.SIGINT, signal.SIGHUP):
         signal.signal(it, signal.SIG_DFL)
 
 
 def with_fake(folder: Path) -> tuple[Path, Path, dict[str, str]]:
-    """A folder with a report, a taxonomy, an empty TMPDIR, and a program in the place of xbrl-json."""
+    """Makes a folder with a report, a taxonomy, an empty TMPDIR, and a program instead of
+    xbrl-json.
+    """
     temporary, fake = folder / "tmp", folder / "fake"
     temporary.mkdir()
     write(folder, {**{f"r/{it}": text for it, text in REPORT.items()}, **{f"t/{it}": text for it, text in TAXONOMY.items()}})
@@ -2248,7 +2396,8 @@ def with_fake(folder: Path) -> tuple[Path, Path, dict[str, str]]:
 
 
 def temporary_files(folder: Path) -> None:
-    """The temporary folder: under TMPDIR, with links and not copies, gone at every end."""
+    """Tests the temporary folder: under TMPDIR, with links instead of copies, removed at every end.
+    """
     temporary, fake, settings = with_fake(folder)
     pack(folder / "r.zip", REPORT)
     told = 'for it in "$@"; do echo "$it"; done; pwd; d=$(dirname "$1"); ls -la "$d" | grep -c -- "->"; stat -c %a "$d"'
@@ -2294,7 +2443,9 @@ def temporary_files(folder: Path) -> None:
 
 
 def signals(folder: Path) -> None:
-    """Signals, while xbrl-json runs and while the report is read: nothing is left, and xbrl-json is told."""
+    """Sends signals while xbrl-json runs and while the report is read: nothing is left, and
+    xbrl-json gets them.
+    """
     temporary, fake, settings = with_fake(folder)
     fake.write_text('#!/bin/sh\ntrap "echo stopped; exit 9" TERM INT HUP\necho ready\nwhile :; do sleep 0.02; done\n')
     for number in (signal.SIGTERM, signal.SIGINT, signal.SIGHUP):
@@ -2366,7 +2517,9 @@ def a_full_disk(folder: Path) -> None:
 
 
 def what_cannot_be_read(folder: Path) -> None:
-    """Files that the system refuses, files that are too large, and a fault of the program: one line each."""
+    """Tests files that the system refuses, files that are too large, and a fault of the program:
+    one line each.
+    """
     write(folder, {**{f"r/{it}": text for it, text in REPORT.items()}, **{f"t/{it}": text for it, text in TAXONOMY.items()}})
     folder.chmod(0o755)
     as_nobody = {"user": 65534, "group": 65534} if os.getuid() == 0 else {}
@@ -2379,30 +2532,153 @@ def what_cannot_be_read(folder: Path) -> None:
         (folder / path).chmod(mode)
         said = err.startswith(f"xbrl-filing: {path}") and err.endswith(": cannot read (Permission denied)\n")
         case(f"{path} without permission", (status, out, said, err.count("\n")), (3, b"", True, 1))
-    kept = packages.LARGEST_TEXT, command.find_report
+    kept = strict_json.LARGEST, command.find_report
     try:
-        packages.LARGEST_TEXT = len(REPORT["reports/report.json"])
+        strict_json.LARGEST = len(REPORT["reports/report.json"])
         case(
             "a module that is too large",
             run(["r", "--taxonomy", "t"], folder),
-            (1, f"xbrl-filing: t/reg/mod.json: has more than {packages.LARGEST_TEXT} bytes\n"),
+            (1, f"xbrl-filing: t/reg/mod.json: has more than {strict_json.LARGEST} bytes\n"),
         )
         command.find_report = lambda _: {}["a\nb"]
-        case("a fault of the program", run(["r"], folder), (1, "xbrl-filing: a fault of the program: KeyError: 'a\\nb'\n"))
+        case("a fault of the program", run(["r"], folder), (3, "xbrl-filing: a fault of the program: KeyError: 'a\\nb'\n"))
+        for value, through in (("1", True), ("", False), ("0", False)):
+            with environment({"XBRL_FILING_DEBUG": value}):
+                try:
+                    seen = run(["r"], folder)[0], False
+                except KeyError:
+                    seen = 3, True
+            case(f"its traceback, where XBRL_FILING_DEBUG is '{value}'", seen, (3, through))
         command.find_report = lambda _: open("none")
         case("a file that is gone", run(["r"], folder), (3, "xbrl-filing: none: cannot read or write (No such file or directory)\n"))
         command.find_report = lambda _: (_ for _ in ()).throw(MemoryError)
         case("too little memory", run(["r"], folder), (3, "xbrl-filing: there is not enough memory\n"))
     finally:
-        packages.LARGEST_TEXT, command.find_report = kept
+        strict_json.LARGEST, command.find_report = kept
+
+
+@contextlib.contextmanager
+def environment(more: dict[str, str]) -> Iterator[None]:
+    """Other variables for a while."""
+    before = dict(os.environ)
+    os.environ.update(more)
+    try:
+        yield
+    finally:
+        os.environ.clear()
+        os.environ.update(before)
+
+
+def whose_fault(folder: Path) -> None:
+    """What is not the fault of the report has status 3.
+
+    These are a program that cannot start, Python without memory or too old, and unreadable files.
+    """
+    temporary, fake, settings = with_fake(folder)
+    for status, wanted in ((126, 3), (127, 3), (125, 125), (1, 1), (2, 2), (3, 3)):
+        fake.write_text(f"#!/bin/sh\necho said >&2\nexit {status}\n")
+        seen = start(["r", "--taxonomy", "t"], folder, env=settings)
+        said = "said\n" + (f"xbrl-filing: {fake}: cannot run (status {status})\n" if wanted == 3 != status else "")
+        case(f"a program that ends with {status}", (seen[0], seen[2]), (wanted, said))
+    copy = folder / "copy"
+    shutil.copytree(TOP / "filing", copy / "filing", ignore=shutil.ignore_patterns("__pycache__"))
+    shutil.copy(FILING, copy)
+    for raised, line in (
+        ("raise MemoryError", "there is not enough memory"),
+        ("raise ImportError('a\\nb')", "cannot start: ImportError: a b"),
+        ("1 +", "cannot start: SyntaxError: invalid syntax (command.py, line 1)"),
+    ):
+        (copy / "filing/command.py").write_text(raised + "\n")
+        done = subprocess.run([copy / "xbrl-filing", "r"], cwd=folder, capture_output=True, text=True, timeout=60)
+        case(f"{raised}, as it starts", (done.returncode, done.stderr), (3, f"xbrl-filing: {line}\n"))
+    as_nobody = {"user": 65534, "group": 65534} if os.getuid() == 0 else {}
+    (folder / "r/reports/t.csv").chmod(0)
+    folder.chmod(0o755)
+    seen = start(["r", "--taxonomy", "t"], folder, env={"TMPDIR": "/tmp"}, **as_nobody)
+    case("a table that may not be read", seen, (3, b"", "xbrl-filing: r/reports/t.csv: cannot read (Permission denied)\n"))
+
+
+def called_from_python(folder: Path) -> None:
+    """What another program calls: in a thread, with refusals as exceptions.
+
+    Nothing is left open.
+    """
+    write(folder, {f"r/{it}": text for it, text in REPORT.items()})
+    pack(folder / "t.zip", TAXONOMY)
+    report, taxonomy = str(folder / "r"), str(folder / "t.zip")
+    case("prepared by the command", run([report, "--taxonomy", taxonomy, "--prepare", "by command"], folder), (0, ""))
+    before = os.listdir("/proc/self/fd")
+    made: list[object] = []
+    work = lambda: made.extend([library.prepare(report, [taxonomy], str(folder / "by call")), library.kinds([taxonomy], [HOST + "mod.xsd"])])
+    thread = threading.Thread(target=work)
+    thread.start()
+    thread.join()
+    case("prepared in a thread", listing(folder / "by call"), listing(folder / "by command"))
+    words = dict(it.split(",")[1:] for it in TYPES.split()[1:])
+    case("kinds in a thread", made, [None, {EG: words}])
+    for call, status, line in (
+        (lambda: library.prepare(report, [], str(folder / "none")), 1, "reports/report.json: no package has"),
+        (lambda: library.prepare(report, [taxonomy], str(folder / "r")), 3, "cannot write"),
+        (lambda: library.kinds([taxonomy], [HOST + "none.xsd"]), 1, f"entry points: no package has {HOST}none.xsd (entry)"),
+        (lambda: library.kinds([__file__], []), 1, "is neither a ZIP nor a folder"),
+        (lambda: library.kinds(["none"], []), 3, "none: cannot read"),
+    ):
+        try:
+            call()
+            seen = 0, False
+        except refusals.Refusal as refusal:
+            seen = refusal.status, line in refusal.line
+        case(f"a call that is refused: {line}", seen, (status, True))
+    case("nothing is left open", len(os.listdir("/proc/self/fd")), len(before))
+
+
+def refusals_in_the_faults(folder: Path) -> None:
+    """The file of --faults has a refusal of this program, so that it tells of no earlier run."""
+    write(folder, {**{f"r/{it}": text for it, text in REPORT.items()}, **{f"t/{it}": text for it, text in TAXONOMY.items()}})
+    write(folder, {"bad/reports/report.json": meta({"extends": [HOST + 'a",\n.json']}), "bad/reports/f.csv": HEADER_OF_FAULTS})
+    (folder / "r2").mkdir()
+    write(folder / "r2", {**REPORT, "reports/t.csv": "cash\nx\n"})
+    seen = start(["r2", "--taxonomy", "t", "--faults", "f.csv"], folder)
+    case("the faults of a run", (seen[0], (folder / "f.csv").read_text().count("\n")), (1, 2))
+    url = HOST + 'a"",\\n.json'
+    refused = f'{HEADER_OF_FAULTS},0,0,0,Refused,,,"no package has {url} (extends)",bad/reports/report.json\n'
+    os.chmod(folder / "f.csv", 0o640)
+    for words in (["--faults", "f.csv"], ["--faults=f.csv"], ["--out", "d.json", "--faults", "new.csv"]):
+        name = words[-1].rpartition("=")[2]
+        status = run(["bad", "--taxonomy", "t", *words], folder)[0]
+        case(f"a refusal in {words}", (status, (folder / name).read_text()), (1, refused))
+    case("its mode stays", (folder / "f.csv").stat().st_mode & 0o777, 0o640)
+    (folder / "empty.csv").write_text("")
+    (folder / "link.csv").symlink_to("empty.csv")
+    run(["bad", "--taxonomy", "t", "--faults", "link.csv"], folder)
+    case("a refusal through a link", ((folder / "empty.csv").read_text(), (folder / "link.csv").is_symlink()), (refused, True))
+    write(folder, {"other.csv": "a,b\n", "own.csv": "a,b\n", "t/f.csv": HEADER_OF_FAULTS})
+    for name in ("own.csv", "other.csv", "t/f.csv", "bad/reports/f.csv", "bad/reports/report.json", "bad/new.csv"):
+        before = listing(folder)
+        status = run(["bad", "--taxonomy", "t", "other.csv", "--faults", name], folder)[0]
+        case(f"what is no file of faults stays: {name}", (status, listing(folder)), (1, before))
+    for words, status in ((["bad", "--faults", "f.csv", "--workers"], 1), (["none", "--faults", "f.csv"], 3), (["--faults", "f.csv"], 2)):
+        (folder / "f.csv").write_text(HEADER_OF_FAULTS)
+        seen = run(words, folder)[0], (folder / "f.csv").read_text() == HEADER_OF_FAULTS
+        case(f"what stays at a status: {words}", seen, (status, status > 1))
+    seen = run(["bad", "--taxonomy", "t", "--faults", "no/f.csv"], folder)
+    case("a file that cannot be written", seen, (3, "xbrl-filing: no/f.csv: cannot write (No such file or directory)\n"))
+    seen = run(["bad", "--taxonomy", "t", "--faults", "/dev/null"], folder)
+    case("a device", (seen[0], os.path.exists("/dev/null")), (1, True))
+    case("nothing is left beside", [it for it in os.listdir(folder) if it.startswith(("f.csv.", "new.csv."))], [])
+
+
+HEADER_OF_FAULTS = "table,row,column,number,name,line,header,cell,place\n"
 
 
 def a_signal_between_two_steps(folder: Path) -> None:
-    """A signal that comes while xbrl-json is being started is told to it, and one that comes while a folder is removed waits for that."""
+    """Sends a signal while xbrl-json is being started, which must get it, and one while a folder is
+    removed, which must wait.
+    """
     seen: list[subprocess.Popen[bytes]] = []
 
     class Started(subprocess.Popen):
-        """A program that is started while a signal comes."""
+        """Starts a program while a signal arrives."""
 
         def __init__(self, given: list[str], **more: Any) -> None:
             """Starts it, and signals this process before anything else."""
@@ -2411,7 +2687,7 @@ def a_signal_between_two_steps(folder: Path) -> None:
             os.kill(os.getpid(), signal.SIGTERM)
 
     class Removing:
-        """What removes folders while a signal comes, in the place of `shutil`."""
+        """Removes folders while a signal arrives, instead of `shutil`."""
 
         def rmtree(self, path: str, ignore_errors: bool) -> None:
             """Signals this process, and removes a folder."""
@@ -2440,21 +2716,24 @@ def a_signal_between_two_steps(folder: Path) -> None:
 
 
 def heeded() -> stopping.Stopping:
-    """What takes signals from now on."""
+    """Returns what takes signals from now on."""
     made = stopping.Stopping()
     made.heed()
     return made
 
 
 def a_signal_at_each_step(folder: Path) -> None:
-    """A signal at each line of what starts, waits and removes: it ends the run, and nothing is left."""
+    """Sends a signal at each line of what starts, waits and removes: it ends the run, and nothing
+    is left.
+    """
     temporary, fake, _ = with_fake(folder)
     fake.write_text("#!/bin/sh\n")
     files = {module.__file__ for module in (command, stopping, contextlib)}
     ended, wrong, number, steps = [], [], 0, 0
 
     def step(frame: FrameType, *_: Any) -> Callable[..., Any] | None:
-        """Counts a line of the files that are looked at, and signals this process at one of them."""
+        """Counts the lines that run in the watched files, and signals this process at one of them.
+        """
         nonlocal steps
         if frame.f_code.co_filename not in files:
             return None
@@ -2497,7 +2776,7 @@ def a_signal_at_each_step(folder: Path) -> None:
 
 
 def joined_of(folder: Path, report: Files, taxonomies: Sequence[Files] = (TAXONOMY,)) -> tuple[command.Origins, command.Files]:
-    """Where the merged metadata of a filing comes from, and the filing's files."""
+    """Makes the merged metadata of a filing, with its sources, and the filing's files."""
     labels = ["r"] + [f"t{number}" for number in range(len(taxonomies))]
     for label, files in zip(labels, [report, *taxonomies]):
         write(folder / label, files)
@@ -2512,7 +2791,10 @@ def joined_of(folder: Path, report: Files, taxonomies: Sequence[Files] = (TAXONO
 
 
 def filed_in_parts() -> tuple[dict[str, str], list[dict[str, str]]]:
-    """A report, a module and a file below it, each with parts of the merged metadata; the module has other prefixes than the report."""
+    """Makes a report, a module and a file below it, each with parts of the merged metadata.
+
+    The module has other prefixes than the report.
+    """
     columns = {"cash": {"dimensions": {"g:Region": "m:x", "concept": "g:Cash"}}, "g": {"propertyGroups": {"a/b~c": {"dimensions": {"g:Branch": "y"}}}}}
     module = {
         "namespaces": {"m": "http://mem/", "g": EG}, "taxonomy": ["mod.xsd", "two.xsd"], "extends": ["low.json"]
@@ -2562,7 +2844,9 @@ ORIGINS = {
 
 
 def where_metadata_came_from(folder: Path) -> None:
-    """A place of the merged metadata is told in the file that it came from, by what that file calls it."""
+    """Checks that a place of the merged metadata becomes one of its source file, with that file's
+    names.
+    """
     origins, _ = joined_of(folder, *filed_in_parts())
     for pointer, wanted in ORIGINS.items():
         case(f"where {pointer!r} came from", origins.place(pointer), wanted)
@@ -2572,7 +2856,10 @@ def where_metadata_came_from(folder: Path) -> None:
 def with_words(
     folder: Path, said: str, words: Sequence[str] = (), status: int = 1, report: tuple[Files, Sequence[Files]] | None = None
 ) -> tuple[int, str]:
-    """Status and standard error of a run whose xbrl-json says this; `HOME` is the folder that it was given."""
+    """Runs with an xbrl-json that prints this, and returns status and standard error.
+
+    `HOME` is the folder that it was given.
+    """
     fake = folder / "fake"
     fake.write_text('#!/bin/sh\nHOME=$(dirname "$1")\ncat >&2 <<END\n' + said + f"END\nexit {status}\n")
     fake.chmod(0o755)
@@ -2583,7 +2870,7 @@ def with_words(
 
 
 def lines_of_the_converter(folder: Path) -> None:
-    """The lines of xbrl-json come through, with places and files by their names in the filing."""
+    """Checks that the lines of xbrl-json pass through, with the places and names of the filing."""
     place, other = "/tableTemplates/t/columns/cash/dimensions/eg:Region", "t0/reg/mod.json: /tableTemplates/t/columns/cash/dimensions/g:Region"
     fault, why = "xbrl-json: report: BadDimension (11)\n", "no explicit or typed dimension of this name is in the types table\n"
     files = "xbrl-filing: 'report' is the metadata that was joined of r/reports/report.json, t0/reg/mod.json, t0/reg/low.json;"
@@ -2624,7 +2911,10 @@ def lines_of_the_converter(folder: Path) -> None:
 
 
 def hearing_the_converter(folder: Path) -> None:
-    """Lines come as soon as they are said; many of them, and those of a program that is signalled or stays behind, keep nothing waiting."""
+    """Checks that lines pass at once.
+
+    Many of them, and those of a program that is signalled or stays, block nothing.
+    """
     report, taxonomies = filed_in_parts()
     joined_of(folder, report, taxonomies)
     fake = folder / "fake"
@@ -2673,7 +2963,7 @@ def hearing_the_converter(folder: Path) -> None:
     seen: list[subprocess.Popen[bytes]] = []
 
     class Heard(subprocess.Popen):
-        """A program that is kept where the case sees it."""
+        """Keeps a program where the case sees it."""
 
         def __init__(self, *given: Any, **more: Any) -> None:
             """Starts it, and keeps it."""
@@ -2681,7 +2971,7 @@ def hearing_the_converter(folder: Path) -> None:
             seen.append(self)
 
     def fails(_: bytes) -> NoReturn:
-        """Hears what is said, and fails."""
+        """Takes the output, and fails."""
         raise KeyError("a fault")
 
     kept = stopping.subprocess.Popen
@@ -2695,11 +2985,11 @@ def hearing_the_converter(folder: Path) -> None:
 
 
 def words(folder: Path) -> None:
-    """The words, the help, and outputs that are inputs."""
+    """Tests the arguments, the help, and outputs that are inputs."""
     write(folder, {**{f"r/{it}": text for it, text in REPORT.items()}, **{f"t/{it}": text for it, text in TAXONOMY.items()}})
     pack(folder / "r.zip", REPORT)
     pack(folder / "t.zip", TAXONOMY)
-    usage = "; the words are: xbrl-filing REPORT --taxonomy PACKAGE.. [--out FILE] [words of xbrl-json]\n"
+    usage = "; try --help\n"
     for given, what in (
         ([], "there is no REPORT"),
         (["--taxonomy", "t"], "there is no REPORT: all words behind --taxonomy are packages, so it stands before"),
@@ -2769,7 +3059,9 @@ def words(folder: Path) -> None:
 
 
 def listed(folder: Path, inputs: dict[str, Any], form: str) -> tuple[int, list[list[str]], str]:
-    """Status, the records of --parameters behind their header, and standard error of a run over a filing."""
+    """Runs --parameters over a filing, and returns status, the records after the header, and
+    standard error.
+    """
     shutil.rmtree(folder / "w", ignore_errors=True)
     for label, files in zip(("r", "t0"), (inputs["report"], *inputs["taxonomies"])):
         if form == "folder":
@@ -2786,7 +3078,9 @@ def listed(folder: Path, inputs: dict[str, Any], form: str) -> tuple[int, list[l
 
 
 def list_of_parameters(folder: Path) -> None:
-    """Each parameter with its values and its references: also one that nothing gives, and one to which nothing refers."""
+    """Tests each parameter with its values and references: also one that nothing gives, and one
+    that nothing uses.
+    """
     module, file = "t0/reg/mod.json", "r/reports/p.csv"
     columns = {
         "k": {"propertyGroups": {"g": {"dimensions": {"unit": "$unit"}, "decimals": "$places"}}},
@@ -2828,7 +3122,7 @@ def list_of_parameters(folder: Path) -> None:
 
 
 def list_that_is_told(folder: Path) -> None:
-    """The list of a plain metadata, whose lines are compared byte for byte, and one that cannot be written."""
+    """Compares the list of plain metadata byte for byte, and tests one that cannot be written."""
     listed(folder, {"report": REPORT, "taxonomies": [TAXONOMY]}, "folder")
     (folder / "w/m.json").write_text(meta(INFO, dimensions={"unit": "$unit"}, tableTemplates={"t": TEMPLATE}, tables={"t": {"url": "t.csv"}}))
     seen = start(["m.json", "--parameters"], folder / "w")
@@ -2839,7 +3133,9 @@ def list_that_is_told(folder: Path) -> None:
 
 
 def several_packages(folder: Path) -> None:
-    """Several packages, progress on a terminal, names that are no text, and the same bytes for the same inputs."""
+    """Tests several packages, progress on a terminal, names that are not text, and equal bytes for
+    equal inputs.
+    """
     write(folder, {**{f"r/{it}": text for it, text in REPORT.items()}, **{f"t/{it}": text for it, text in TAXONOMY.items()}})
     pack(folder / "r.zip", REPORT)
     pack(folder / "t.zip", TAXONOMY)
@@ -3014,20 +3310,24 @@ def cached_runs(folder: Path) -> tuple[Callable[..., tuple[tuple[int, str], str 
     pack(folder / "t.zip", TAXONOMY)
 
     def made(taxonomy: str = "t", report: str = "r", *more: str) -> tuple[tuple[int, str], str | None]:
-        """Status and standard error of a run with the cache, and its types table where it is good."""
+        """Runs with the cache, and returns status and standard error, and the types table of a good
+        run.
+        """
         shutil.rmtree(folder / "o", ignore_errors=True)
+        for module in (folder / "c").glob("*.module"):  # tests/test_kept_module.py tests these
+            module.unlink()
         seen = run([report, "--taxonomy", taxonomy, *more, "--cache", "c", "--prepare", "o"], folder)
         return seen, (folder / "o/types.csv").read_text() if seen[0] == 0 else None
 
     def entries() -> list[str]:
         """The names of what the cache holds."""
-        return sorted(it.name for it in (folder / "c").iterdir())
+        return sorted(it.name for it in (folder / "c").iterdir() if it.suffix != ".module")
 
     return made, entries
 
 
 def caching(folder: Path) -> None:
-    """A cache is known by contents alone, and never changes what is made."""
+    """Checks that a cache is identified by contents only, and never changes what is made."""
     made, entries = cached_runs(folder)
     case("the first run", made(), ((0, ""), TYPES))
     case("keeps one entry", len(entries()), 1)
@@ -3058,7 +3358,7 @@ def caching(folder: Path) -> None:
 
 
 def refusals_of_the_cache(folder: Path) -> None:
-    """What is refused by what the schemas say is refused from the cache too."""
+    """Checks that what the schemas refuse is refused from the cache too."""
     write(folder / "t", {**TAXONOMY, "reg/mod.json": meta(INFO, dimensions={"concept": "eg:T"}), "reg/mod.xsd": schema(headed("T xbrli:tuple"))})
     write(folder / "r", REPORT)
     line = "xbrl-filing: t/reg/mod.json: names the concept 'eg:T', which is a tuple, which no table can have (dimensions.concept)\n"
@@ -3068,7 +3368,9 @@ def refusals_of_the_cache(folder: Path) -> None:
 
 
 def keys_of_the_cache(folder: Path) -> None:
-    """What the cache is known by: contents, entry points, the order of packages and the program's own text."""
+    """Tests what identifies a cache: contents, entry points, the order of packages and the
+    program's own text.
+    """
     made, entries = cached_runs(folder)
     made()
     os.utime(folder / "t/reg/mod.xsd", (1, 1))
@@ -3100,7 +3402,9 @@ def keys_of_the_cache(folder: Path) -> None:
 
 
 def what_changes_meanwhile(folder: Path) -> None:
-    """Packages that are changed while they are read: what is kept of them is never taken for what they hold then."""
+    """Changes packages while they are read: what is kept of them is never taken for their present
+    content.
+    """
     made, entries = cached_runs(folder)
     reader, key_of = command.read_schemas, command.key_of
     other = {**TAXONOMY, "reg/mod.xsd": schema(ELEMENTS.replace("Note", "Nope"))}
@@ -3213,13 +3517,15 @@ def digests_of_contents(folder: Path) -> None:
 
 
 def digests_that_fail(folder: Path) -> None:
-    """Of several failures the first is told, in the order of the files; a signal ends the work of all threads."""
+    """Checks that the first of several failures, in the order of the files, is reported, and that a
+    signal ends the work of all threads.
+    """
     names = ["a", "b", "c", "d"]
     write(folder, {"a": "1", "c": "1"})
     files = [digests.contents_of_disk(str(folder / it), 1, it) for it in names] * 20
 
     def seen(number: int) -> list[bytes] | tuple[int, str] | type[BaseException]:
-        """The digests on so many processors, or the failure that is told."""
+        """Returns the digests with `number` processors, or the failure that is reported."""
         digests.processors = lambda: number
         try:
             return digests.digests_of(files)
@@ -3306,7 +3612,7 @@ def caches_of_several_runs(folder: Path) -> None:
 
 
 def a_large_taxonomy(folder: Path) -> None:
-    """20,000 concepts behind a linkbase, in seconds, and at once from the cache."""
+    """Reads 20,000 concepts through a linkbase, in seconds, and at once from the cache."""
     body = "".join(item(f"C{it:05}", "eg:T", 'id="x" nillable="true"') for it in range(20_000))
     files = {**TAXONOMY, "reg/mod.xsd": schema(loc("l.xml", "linkbaseRef")), "reg/d.xsd": schema(body + derived("T", "xbrli:monetaryItemType"))}
     files["reg/l.xml"] = linkbase("".join(loc(f"d.xsd#C{it}") for it in range(20_000)))
@@ -3325,7 +3631,9 @@ def a_large_taxonomy(folder: Path) -> None:
 
 
 def long_chains(length: int) -> Iterator[tuple[str, str, str]]:
-    """Schemas in which each of many elements or types rests on the next, to the last; and the kind that all of them have."""
+    """Makes schemas in which each of many elements or types depends on the next, and the kind of
+    all of them.
+    """
     dated = 'type="xbrli:dateItemType"'
     yield "H", "".join(headed(f"H{it} {f'eg:H{it + 1}' if it < length - 1 else 'xbrli:item'}", more=dated) for it in range(length)), "date"
     yield "T", "".join(
@@ -3335,7 +3643,9 @@ def long_chains(length: int) -> Iterator[tuple[str, str, str]]:
 
 
 def endless_schemas(folder: Path) -> None:
-    """What would take all memory or all time: names, bases and tags that grow, many start strings. One line each, and soon."""
+    """Tests what would take all memory or time: names, bases and tags that grow, many start
+    strings. One line each, and soon.
+    """
     deep, long = 100_000, "y" * (17 << 20)
     grows = '<a xml:base="aaaaaaaaa/">' * deep + "</a>" * deep
     tag, comment = f'<xs:element name="A" a="{long}"/>', f"<!--{long}-->"
@@ -3360,7 +3670,7 @@ def endless_schemas(folder: Path) -> None:
         refuses(folder, f"a schema with {name}", {"reg/mod.xsd": text}, line)
         case(f"a schema with {name}: soon", worked() - begun < 20, True)
     reads(folder, "a hundred bases", {"reg/mod.xsd": schema('<a xml:base="a/">' * 99 + "</a>" * 99 + ELEMENTS, attributes='xml:base="b/"')}, TYPES)
-    way = "<xs:simpleContent>" * deep + "<x>" + '<xs:restriction base="xbrli:dateItemType"/>' * deep + "</x>" + "</xs:simpleContent>" * deep
+    way = "<xs:simpleContent>" * 996 + "<x>" + '<xs:restriction base="xbrli:dateItemType"/>' * deep + "</x>" + "</xs:simpleContent>" * 996
     begun = worked()
     reads(folder, "a type that is very deep", {"reg/mod.xsd": schema(f'<xs:complexType name="T">{way}</xs:complexType>' + ELEMENTS)}, TYPES)
     case("a type that is very deep: soon", worked() - begun < 20, True)
@@ -3385,6 +3695,7 @@ def endless_schemas(folder: Path) -> None:
     little = lambda: resource.setrlimit(resource.RLIMIT_DATA, (200 << 20, 200 << 20))
     seen = start(["deep.zip", "--taxonomy", "t", "--prepare", "o deep"], folder, preexec_fn=little)
     case("a ZIP of very deep names, in 200 MB", seen, (0, b"", ""))
+    a_bound_of_each(folder)
     starts = "".join(rewrite(f"{HOST}{number}/", "../reg/") for number in range(50_000))
     many = {f"reg/x{number}.xsd": schema() for number in range(4000)}
     imports = "".join(include(f"x{number}.xsd") for number in range(4000))
@@ -3392,6 +3703,62 @@ def endless_schemas(folder: Path) -> None:
     begun = worked()
     reads(folder, "many start strings and many files", many, TYPES)
     case("many start strings and many files: soon", worked() - begun < 20, True)
+
+
+def a_bound_of_each(folder: Path) -> None:
+    """What is just within a bound is read; what is just past it is refused."""
+    nested = lambda levels: "<a>" * levels + loc("d/leaf.xsd") + "</a>" * levels
+    mod = "t0/reg/mod.xsd: "
+    for name, made in (("schema", schema), ("linkbase", linkbase)):
+        inner = {**LEAF, "reg/mod.xsd": made(nested(998))}
+        reads(folder, f"a {name} of a thousand levels", inner, ONE)
+        past = {**LEAF, "reg/mod.xsd": made("<a></a>" * 70_000 + nested(999))}
+        refuses(folder, f"a {name} of a level more", past, mod + "is nested more than 1000 levels deep (line 1)")
+    deep = "<group>" * 998 + rewrite() + "</group>" * 998
+    makes(folder, "a catalog of a thousand levels", MERGED, taxonomies=[{**TAXONOMY, "META-INF/catalog.xml": catalog(deep)}])
+    line = "t0/META-INF/catalog.xml: is nested more than 1000 levels deep (line 1)"
+    stops(folder, "a catalog of a level more", line, taxonomies=[{**TAXONOMY, "META-INF/catalog.xml": catalog(f"<group>{deep}</group>")}])
+    for urls in (8, 9):
+        starts = "".join(rewrite(f"http://h{it}/") for it in range(9))
+        asked = schema("".join(include(f"http://h{it}/d/leaf.xsd") for it in range(urls)))
+        files = {**LEAF, "META-INF/catalog.xml": catalog(rewrite() + starts), "reg/mod.xsd": asked}
+        if urls == 8:
+            reads(folder, "a schema by eight URLs", files, ONE)
+        else:
+            refuses(folder, "a schema by nine URLs", files, "t0/reg/d/leaf.xsd: is asked for by more than 8 URLs: http://h8/d/leaf.xsd")
+    missing = lambda many: {"reg/mod.xsd": schema(ELEMENTS + "".join(include(f"http://www.w3.org/{it}.xsd") for it in range(many)))}
+    reads(folder, "a thousand files of the standards", missing(1000), TYPES)
+    what = "asks for more than 1000 files of the standards that no package has (import, line 1: http://www.w3.org/1000.xsd)"
+    refuses(folder, "a file of the standards more", missing(1001), mod + what)
+    tried = lambda many: {**TAXONOMY, "META-INF/catalog.xml": catalog(f'<uri name="{HOST}mod.json" uri="none"/>' * many + rewrite())}
+    makes(folder, "a hundred entries that lead nowhere", MERGED, taxonomies=[tried(99)])
+    line = f"t0/META-INF/catalog.xml: has more than 100 entries for {HOST}mod.json"
+    stops(folder, "an entry more", line, taxonomies=[tried(101)])
+    for name, value in (("objects", "{}"), ("texts", r'"a,{[\\\""'), ("rows", r'[{ }, "\\", {"":1}, [2]]')):
+        text = f"[{','.join([value] * 50)}]"
+        wanted = strict_json.measured(json.loads(text))[1]
+        for size in (1, 2, 3, 7, len(text)):
+            counted = strict_json.Text("x")
+            for start in range(0, len(text), size):
+                counted.add(text[start : start + size].encode())
+                while counted.look():
+                    pass
+            cut = text.count("{}") + text.count("{ }") if size < len(text) else 0  # one in two pieces counts twice
+            case(f"values of {name}, in pieces of {size}", wanted - 1 <= counted.values <= wanted - 1 + cut, True)
+    kept = strict_json.MOST_VALUES
+    try:
+        chain = {**REPORT, "reports/report.json": meta({"extends": [HOST + "mod.json"]}, x=["a,b,c,d"] * 5)}
+        both = [strict_json.measured(json.loads(it))[1] for it in (chain["reports/report.json"], MODULE)]
+        strict_json.MOST_VALUES = sum(both)
+        makes(folder, "as many values as a run may have", MERGED, report=chain)
+        strict_json.MOST_VALUES -= 1
+        line = f"t0/reg/mod.json: has more than {sum(both) - 1} values, with the JSON read before it"
+        stops(folder, "a value more", line, report=chain)
+        strict_json.MOST_VALUES = both[0] - 1
+        line = f"r/reports/report.json: has more than {both[0] - 1} values, with the JSON read before it"
+        stops(folder, "a value more in one file", line, report=chain)
+    finally:
+        strict_json.MOST_VALUES = kept
 
 
 def a_long_schema(folder: Path) -> None:
@@ -3448,6 +3815,7 @@ PARTS = (
     tables,
     tables_that_are_none,
     files_that_nothing_names,
+    tables_that_are_not_filed,
     files_above_the_report,
     links_to_files_that_nothing_names,
     parameters_in_other_letters,
@@ -3458,6 +3826,9 @@ PARTS = (
     list_that_is_told,
     temporary_files,
     signals,
+    whose_fault,
+    called_from_python,
+    refusals_in_the_faults,
     a_signal_between_two_steps,
     a_signal_at_each_step,
     where_metadata_came_from,
@@ -3484,7 +3855,7 @@ PARTS = (
 
 
 def main() -> None:
-    """Runs all parts, each in a folder of its own, and ends with status 1 where a case failed."""
+    """Runs all parts, each in its own folder, and ends with status 1 if a case failed."""
     for part in PARTS:
         with tempfile.TemporaryDirectory() as folder:
             part(Path(folder).resolve())

@@ -1,11 +1,13 @@
 #!/usr/bin/env python3
-"""The libraries as a caller from outside sees them: each public name stands in one of the crates public_calls,
-conversion_tests and run_tests, which compile and run, and each library's own page shows a call of it, word for word.
+"""Checks that the test crates use every public name of the libraries.
 
     tests/public_calls.py
 
-The libraries are those that the program stands on in crates.txt. Their names are those that `pub use` gives in their src/lib.rt. The
-call of a page is the lines between ``` in its first comment.
+Each name must be in one of the crates public_calls, conversion_tests and run_tests, which compile
+and run. The page of each library must show a call of it, word for word.
+
+The libraries are those of the program in crates.txt. Their names are those of `pub use` in their
+src/lib.rt. The call of a page is the lines between ``` in its first comment.
 """
 from __future__ import annotations
 
@@ -17,7 +19,8 @@ from crates import crates_below
 
 TOP = Path(__file__).resolve().parent.parent
 GIVEN = re.compile(r"^pub use ([\w:]+::)?(\{[^}]*\}|\w+);", re.M)
-# The crates of calls: of the libraries below oim_pieces and oim_places, of keyed, oim_pieces and oim_convert, and of the others.
+# The crates of calls: of the libraries below oim_pieces and oim_places; of keyed, oim_pieces and
+# oim_convert; and of the others.
 CALLERS = "public_calls", "conversion_tests", "run_tests"
 # Calls that need a scope of threads, which oim_convert makes.
 ELSEWHERE = {"start_crew", "join_crew"}
@@ -35,7 +38,7 @@ def calls_of(page: str) -> list[str]:
 
 
 def main() -> None:
-    """Prints each name and call that is missing, and ends with status 1 where there is any."""
+    """Prints each missing name and call, and ends with status 1 if there is one."""
     calls = "\n".join(file.read_text() for caller in CALLERS for file in sorted((TOP / "crates" / caller / "src").glob("*.rt")))
     words = set(re.findall(r"\w+", re.sub(r"//.*", "", calls)))
     right, wrong = 0, []

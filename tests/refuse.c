@@ -1,10 +1,14 @@
-/* Refuses calls of the system to a program that is started with LD_PRELOAD naming this library, so that a test sees what the
- * program makes of it. REFUSE says which: KIND:N refuses the Nth call of a kind alone, KIND:N+ that and all after it, KIND:=MASK the
- * first 64 calls whose bits are set, KIND:short cuts each read or write to one byte, KIND:again has every other one say
- * that a signal came. Kinds: memory, read, write, zero (a write that
- * takes nothing), open, stat, thread, cut (a file that is made shorter), sync, rename. At the end the number of calls of each kind is
- * written to the file that REFUSE_COUNT names, and behind them how many calls for memory asked for LARGE bytes or more (large), and how many
- * threads made BUSY of them or more (busy).
+/* Refuses calls of the system to a program that is started with LD_PRELOAD set to this library.
+ *
+ * REFUSE chooses the calls. KIND:N is the Nth call of a kind, KIND:N+ that one and all later ones,
+ * KIND:=MASK those of the first 64 calls whose bits are set. KIND:short cuts each read or write to
+ * one byte, and KIND:again interrupts every other one by a signal. The kinds are memory, read,
+ * write, zero (a write that takes nothing), open, stat, thread, cut (a file is made shorter), sync
+ * and rename.
+ *
+ * At the end the number of calls of each kind is written to the file that REFUSE_COUNT names. After
+ * them follow the number of requests for LARGE bytes of memory or more (large), and the number of
+ * threads that made BUSY requests of any size or more (busy).
  *
  *     cc -shared -fPIC -O1 -o refuse.so tests/refuse.c -ldl
  */

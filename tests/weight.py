@@ -1,17 +1,20 @@
 #!/usr/bin/env python3
-"""Where the processor minutes of the gate go, by crate and by kind, as a Markdown table.
+"""Prints the processor minutes of the gate, by crate and by kind, as a Markdown table.
 
-    tests/weight.py LOG COMMAND WORD ..    runs a command, as `rt ci` or `.ci/run`, and writes what it prints and its times into LOG
-    tests/weight.py LOG                    prints the table of such a LOG
+    tests/weight.py LOG COMMAND ARGUMENT ..    runs a command, writes its output and times to LOG
+    tests/weight.py LOG                        prints the table of such a LOG
 
-`rt ci` prints no times. So while the command runs, this script looks twice a second at the processes below it, and notes the
-processor time of each (user and system), with the crate that it is about and its kind: a crate's own proof, the check and the run
-of its tests, the tries of its wrong bodies, and the builds and the runs of a program. What the system says of the whole is the
-last row: what is more than the rows above is `rt` itself, and what ended between two looks. The checks of wrong bodies that
-`tests/wrong_bodies.py` ends are not in that, so with many of them there is no such row. What `rt ci` takes from earlier runs
-costs nothing and is named under the table: for figures from nothing there must be no such crate (`rt ci --anew`). Processor times
-grow with the load, up to twice, so measure on a machine that does nothing else. Who ends this script by SIGTERM ends the command, and
-has the times so far. Linux and Python 3.9 or later are needed.
+COMMAND is `rt ci` or `.ci/run`, for example. `rt ci` prints no times. So twice a second this script
+reads the processor time (user and system) of each process below the command, with its crate and its
+kind: a crate's proof, the check and run of its tests, the tries of its wrong bodies, the builds and
+runs of a program.
+
+The last row is the system's sum. What it has more than the rows above is `rt` itself, and what
+ended between two looks. It leaves out checks of wrong bodies that `tests/wrong_bodies.py` ends, so
+with many of them there is no such row. What `rt ci` takes from earlier runs costs nothing and is
+named under the table: for figures from nothing use `rt ci --anew`. Processor times grow with the
+load, up to twice, so use a machine that does nothing else. SIGTERM ends the command too, and the
+LOG has the times so far. Needs Linux and Python 3.9 or later.
 """
 from __future__ import annotations
 
@@ -37,7 +40,7 @@ SHARED = re.compile(r"^rt: (\w+): (\d+) of its (\d+) must-fail edits were tried 
 
 @dataclass(frozen=True)
 class Process:
-    """A process of the system: its number and start, which no other has, its parent, its words and its folder."""
+    """A process: its number and start, which identify it, its parent, arguments and folder."""
 
     number: int
     start: int
@@ -58,7 +61,7 @@ def seen(number: int) -> tuple[Process, float] | None:
 
 
 def about(process: Process) -> tuple[str, str] | None:
-    """The crate and the kind of a process, where its words say so."""
+    """Finds the crate and the kind of a process in its arguments."""
     words = process.words
     if Path(words[0]).name == "rattle" and "--crate-name" in words:
         crate = words[words.index("--crate-name") + 1]
@@ -119,8 +122,10 @@ class Watch:
 
 
 def measure(log: Path, words: list[str]) -> int:
-    """Runs a command, writes its output and its times into a log, and gives its status. SIGTERM or Ctrl-C ends the command, with what it runs: the log
-    has its times so far."""
+    """Runs a command, writes its output and times to a log, and returns its status.
+
+    SIGTERM or Ctrl-C ends the command and all that it runs; the log has the times so far.
+    """
     watch, begun = Watch(), time.time()
     with log.open("w") as out:
         ran = subprocess.Popen(words, stdin=subprocess.DEVNULL, stdout=out, stderr=subprocess.STDOUT, start_new_session=True)
@@ -162,7 +167,7 @@ def table(text: str) -> list[str]:
 
 
 def kept(text: str) -> list[str]:
-    """What the run took from earlier runs."""
+    """Lists what the run took from earlier runs."""
     whole = KEPT.findall(text)
     lines = [f"Kept from earlier runs, and not in the table: {', '.join(whole)}."] if whole else []
     return lines + [f"Of `{crate}` {some} of {every} wrong bodies are kept." for crate, some, every in SHARED.findall(text)]

@@ -1,25 +1,32 @@
 #!/usr/bin/env python3
-"""The audit of the contracts: every wrong body of crates/*/{must-fail,gate,audit} must be refused, for a reason of its own.
+"""Audits the contracts: the prover must refuse every wrong body, for a reason of its own.
 
     tests/wrong_bodies.py [--alone] [CRATE ..]
     tests/wrong_bodies.py --gate [CRATE ..]
-    tests/wrong_bodies.py --gate --beside COMMAND WORD ..
+    tests/wrong_bodies.py --gate --beside COMMAND ARGUMENT ..
 
-Run it where the crates and those below them are checked (`rt check` in each crate's folder, or a first build): it begins with
-that kept work, in a copy, and sees first that each crate is proved as it stands: its library is built of these sources, which the kit
-does of what is proved alone, or else a check says so. A round applies as many edits of a crate as
-change different functions, checks the crate once, and asks of each edit a reason of its own: an error or a note at a line of a
-function that it changes, or in the files of that function's proof. That a function is not proved because it calls another one
-that is not proved counts for nothing. An edit of a function that another edit of the round changes waits for the next round;
-one that changes no function but a constant, and one that showed no reason of its own in company, is tried alone. With --alone
-each edit is. With --gate only those of crates/*/gate are tried, with nothing kept, and a round's check proves no more than the
-functions that it changes and what these call: so it is for a repository whose crates were just proved as they stand, as the gate does
-it, and wants no more than their built libraries, those of `rt ci` too. As many crates are audited at once as there are processors and memory
-(3 GiB each), the largest first. Each edit has a line, and the last line is 'N refused, M not'; the status is 0 only where all are refused.
+Wrong bodies are the edits in crates/*/{must-fail,gate,audit}. Run it after the crates and those
+below them are checked (`rt check` in each crate's folder, or a first build): it starts from that
+kept work, in a copy. First it makes sure that each crate is proved as it is. Its library is built
+of these sources, which the kit does only after a proof, or else a check decides.
 
-With --beside a command proves the crates, as `rt ci` does, and what it prints is passed on. As soon as it says of a crate that it is proved, the
-crate's edits are tried beside it, at the lowest priority, so that they take what processors are idle. Their lines follow the
-command's last one. Where the command fails, nothing more is tried, and the status is the command's. Python 3.9 or later is needed.
+A round applies as many edits of a crate as change different functions, and checks the crate once.
+Each edit needs a reason of its own: an error or a note at a line of a function that it changes, or
+in the files of that function's proof. That a function calls another one that is not proved does not
+count. An edit of a function that the round already changes waits for the next round. An edit that
+changes only a constant is tried by itself, and so is one that showed no reason in company. With
+`--alone` each edit is.
+
+With --gate only the edits of crates/*/gate are tried, with nothing kept. A round's check then
+proves only the functions that it changes and those that they call. So it is for a repository whose
+crates were just proved, as in the gate, and needs only their built libraries. As many crates are
+audited at once as processors and memory allow (3 GiB each), the largest first. Each edit has a
+line. The last line is 'N refused, M not'; the status is 0 only if all are refused.
+
+With --beside a command such as `rt ci` proves the crates, and its output is passed on. Once it
+reports a crate as proved, the crate's edits are tried, at the lowest priority. Their lines follow
+the command's last one. If the command fails, no more are tried, and its status is returned. Needs
+Python 3.9 or later.
 """
 from __future__ import annotations
 
@@ -49,16 +56,16 @@ FUNCTION = re.compile(r"( *)(?:pub(?:\([a-z]+\))? )?(?:const )?fn (\w+)")
 WORK, RLIB = "out/incremental", "out/rlib"
 # How many bytes of memory one check may take.
 CHECK_MEMORY = 3 << 30
-# The type of a block of methods: of a trait's, or of its own.
+# The type of a block of methods: of a trait, or its own.
 OWNER = re.compile(r"impl\b(?:.*? for (?:&\S* ?)?(\w+)|(?:<.*?>)? (\w+))")
 AT = re.compile(r"(?:note: )?(?:\./)?((?:src|proofs)/\S+?):(\d+):\d+: (.*)")
 NOT_PROVED = r"fn {}::\S+: (not proved|no proof)"
 OF_CRATE = re.compile(r"(?:fn|struct|enum|trait|impl) (\w+)::")
-# A proof file that names what the edit took away: such a refusal says little of the contract.
+# A proof file names what the edit removed: such a refusal shows little about the contract.
 LOST = re.compile(r"has no field|is not in scope|has no `|was not admitted|: (?:record|module) `\S+`(?: \(nearest: .*\))?$")
-# What rt ci says of a crate that is proved.
+# The line of rt ci for a crate that is proved.
 PROVED = re.compile(r"rt: (\w+) (?:proved$|is kept: )")
-# What the check says once each function has its line: the search for what might be written into the proof files.
+# The line of a check once each function has its line: the search for additions to proof files.
 AFTER = re.compile(r"offer|help: write|`search`|logic=|statements ")
 # The text could not be compiled or read, so no contract was tried.
 UNREAD = re.compile(r".*\berror(\[[\w-]+\])?: .*")
@@ -79,7 +86,9 @@ class Stopped(Exception):
 
 @dataclass(frozen=True)
 class Place:
-    """A function of a file with the type whose method it is, if it is one, and whether it is a trait's, or None for what stands in no function."""
+    """A function of a file, with the type of which it is a method, if any, and whether it is a
+    trait's. It is None outside of all functions.
+    """
 
     path: str
     function: str | None
@@ -138,7 +147,7 @@ def text_of(file: Path) -> str:
 
 @dataclass(frozen=True)
 class Way:
-    """How edits are tried: those of the gate alone, or all; each by itself, or in company."""
+    """How edits are tried: only those of the gate or all; each by itself or in company."""
 
     gate: bool
     alone: bool
@@ -149,7 +158,10 @@ class Way:
 
 @dataclass(frozen=True)
 class Function:
-    """A function of a file: its first line is that of the comments above it, and lines count from 1."""
+    """A function of a file.
+
+    Its first line is that of the comments above it, and lines count from 1.
+    """
 
     name: str
     owner: str | None
@@ -185,7 +197,10 @@ def place_at(path: str, text: str, line: int) -> Place:
 
 
 def next_round(folder: Path, left: list[Edit], alone: bool) -> Round:
-    """The first edits that change different functions, and can be applied together. One that changes no function stands alone."""
+    """Takes the first edits that change different functions and can be applied together.
+
+    An edit that changes no function is tried by itself.
+    """
     made = Round({}, {})
     for edit in left:
         taken: set[Place] = set().union(*made.edits.values())
@@ -209,16 +224,22 @@ def module_of(path: str) -> str:
 
 
 def path_of(crate: str, place: Place) -> str:
-    """The name of a function as a check takes it, or of its module for a trait's method, whose name has the trait's types too."""
+    """Returns the name of a function as a check takes it.
+
+    For a trait's method, whose name has the trait's types too, it is the module's.
+    """
     module = [crate, *module_of(place.path).split("/")[:-1]]
     if place.of_trait:
         return "::".join(module)
-    # A method stands under its type, wherever that is.
+    # A method is listed under its type, in whatever file it is.
     return "::".join([*([place.owner] if place.owner else module), place.function or ""])
 
 
 def names_of(place: Place) -> str:
-    """The words for a function's folder of proofs. A method stands under its type, wherever that is, with the trait's name behind it."""
+    """Returns the names for a function's folder of proofs.
+
+    A method is under its type, wherever it is, followed by the trait's name.
+    """
     return rf"(\S+/)?{place.owner}\w*/\+?{place.function}" if place.owner else rf"{module_of(place.path)}\+?{place.function}"
 
 
@@ -233,14 +254,15 @@ def is_own(place: Place, texts: Texts, path: str, line: int) -> bool:
 
 
 def own_line(crate: str, place: Place, said: list[str]) -> str | None:
-    """The line that says of a function itself that it is not proved, and not only for what it calls."""
+    """Finds the line that a function itself is not proved, rather than one that it calls."""
     line = re.compile(rf"fn {crate}::{names_of(place).replace('/', '::')}: (not proved(?!; it calls )|no proof: (?!it calls ))")
     return next((it for it in said if line.match(it)), None)
 
 
 def reason(crate: str, places: set[Place], texts: Texts, said: list[str]) -> str | None:
-    """The first reason that the check gives at these functions, better one that speaks of the contract, or None. A note that stands at a line
-    of a proof file is advice, and says nothing of whether it is a proof."""
+    """Returns the first reason that the check gives at these functions, preferring one about the
+    contract, or None. A note at a line of a proof file is advice, and does not count as a reason.
+    """
     weak = None
     for line in said:
         at = AT.match(line)
@@ -254,12 +276,12 @@ def reason(crate: str, places: set[Place], texts: Texts, said: list[str]) -> str
 
 
 def lone_reason(crate: str, said: list[str]) -> str | None:
-    """The first function that is not proved, where one edit was tried alone."""
+    """Returns the first function that is not proved, after one edit was tried by itself."""
     return next((it for it in said if re.match(NOT_PROVED.format(crate), it)), None)
 
 
 class Checks:
-    """The checks that run, so that all can be ended. Beside a command they have the lowest priority."""
+    """The running checks, so that all can be ended. With --beside they have the lowest priority."""
 
     def __init__(self, beside: bool):
         self.words = [*(["nice", "-n", "19"] if beside else []), "rt", "check", "--jobs", "1"]
@@ -291,7 +313,7 @@ class Checks:
 
 
 class Room:
-    """A copy of the repository, where edits of one crate are applied and checked."""
+    """A copy of the repository, in which edits of one crate are applied and checked."""
 
     def __init__(self, folder: Path, checks: Checks):
         self.checks = checks
@@ -303,13 +325,13 @@ class Room:
             shutil.copy(TOP / name, folder)
 
     def seal(self, crate: str) -> None:
-        """Says of a library that was brought that it is built of these sources, which `rt ci` leaves out."""
+        """Marks a copied library as built of these sources, which `rt ci` does not do."""
         folder = self.crates / crate
         made = kit().Crate(str(folder), str(folder.parent.parent), self.known).stamp()
         (folder / RLIB / "stamp").write_text(made, encoding="utf-8")
 
     def bring(self, crate: str, part: str) -> None:
-        """Brings what is kept of a crate, in place of what the room has."""
+        """Replaces what the copy has of a crate by its kept work."""
         there = self.crates / crate / part
         shutil.rmtree(there, ignore_errors=True)
         shutil.copytree(TOP / "crates" / crate / part, there, symlinks=True)
@@ -322,8 +344,11 @@ class Room:
             self.seal(it)
 
     def check(self, crate: str, texts: Texts, only: list[str] | None) -> list[str]:
-        """Checks a crate with these texts in place of its own, and gives what was said: over its kept work, or with nothing kept, and then
-        no more than these functions and what they call, where there are any."""
+        """Checks a crate with these texts instead of its own, and returns the output.
+
+        It starts from kept work, or else proves only these functions, if any, and those that they
+        call.
+        """
         folder = self.crates / crate
         shutil.rmtree(folder / WORK, ignore_errors=True)
         if only is None:
@@ -338,7 +363,9 @@ class Room:
                 (folder / path).write_text(text, encoding="utf-8")
 
     def said(self, folder: Path, crate: str, flags: list[str]) -> list[str]:
-        """What a check says up to the lines of the crate's functions, or to the first line of another crate, which it has to prove first."""
+        """Returns a check's output up to the lines of the crate's functions, or up to the first
+        line of another crate, which it must prove first.
+        """
         lines: list[str] = []
         is_begun = False
         with self.checks.begin(flags, folder) as ran:
@@ -362,7 +389,9 @@ def is_reached(crate: str, said: list[str]) -> bool:
 
 
 def judge(crate: str, made: Round, said: list[str], before: set[str]) -> dict[Edit, str | None]:
-    """What is said of each edit of a round: its reason, which the check without any edit does not give too, or None."""
+    """Returns the reason of each edit of a round, unless the check without any edit gives it too,
+    or None.
+    """
     if not is_reached(crate, said):
         if len(made.edits) > 1:
             return dict.fromkeys(made.edits)
@@ -382,7 +411,7 @@ def edits_of(crate: str, folders: tuple[str, ...]) -> list[Edit]:
 
 
 class Audit:
-    """The audit of one crate, with where its lines go."""
+    """The audit of one crate, and where its lines go."""
 
     def __init__(self, crate: str, way: Way, checks: Checks, out: TextIO):
         self.crate, self.way, self.running, self.out = crate, way, checks, out
@@ -395,7 +424,7 @@ class Audit:
         print(f"{self.crate}/{edit.name}: {f'refused: {why}' if why else otherwise}", file=self.out, flush=True)
 
     def applied(self, edits: list[Edit]) -> list[Edit]:
-        """Those of these edits that can be applied; the others are told."""
+        """Keeps the edits that can be applied, and reports the others."""
         good = []
         for edit in edits:
             try:
@@ -406,7 +435,8 @@ class Audit:
         return good
 
     def run(self) -> None:
-        """Tries all edits, in a room of its own, and again alone those that showed no reason in company."""
+        """Tries all edits in a copy, and then by themselves those that showed no reason in company.
+        """
         begun = time.time()
         with tempfile.TemporaryDirectory(prefix="wrong-bodies-") as name:
             self.room = Room(Path(name), self.running)
@@ -420,7 +450,9 @@ class Audit:
         print(f"{self.crate}: {len(edits)} edits in {self.checks} checks, {took:.0f} seconds", file=self.out, flush=True)
 
     def stands(self) -> None:
-        """Ends the audit where the crate is not proved without any edit, since then a refusal says nothing."""
+        """Ends the audit if the crate is not proved without an edit, because a refusal would then
+        show nothing.
+        """
         said = self.check({}, set())
         why = lone_reason(self.crate, said) if is_reached(self.crate, said) else "\n".join(said[-10:])
         if why:
@@ -428,7 +460,7 @@ class Audit:
         self.before = set(said)
 
     def check(self, texts: Texts, places: set[Place]) -> list[str]:
-        """Checks the crate, and ends the audit where that would first have to prove a library."""
+        """Checks the crate, and ends the audit if that would first have to prove a library."""
         only = sorted(path_of(self.crate, it) for it in places if it.function) if self.way.gate else None
         self.checks += 1
         said = self.room.check(self.crate, texts, only)
@@ -438,7 +470,7 @@ class Audit:
         return said
 
     def rounds(self, left: list[Edit], alone: bool) -> list[Edit]:
-        """Tries edits, and gives those that are to be tried alone."""
+        """Tries edits, and returns those to try by themselves."""
         again = []
         while left:
             made = next_round(self.room.crates / self.crate, left, alone)
@@ -447,7 +479,9 @@ class Audit:
         return again
 
     def round(self, made: Round) -> list[Edit]:
-        """Checks one round, tells what it shows, and gives the edits that showed nothing in company."""
+        """Checks one round, reports its results, and returns the edits that showed nothing in
+        company.
+        """
         said = self.check(made.texts, set().union(*made.edits.values()))
         try:
             reasons = judge(self.crate, made, said, self.before)
@@ -463,8 +497,11 @@ class Audit:
 
 @functools.lru_cache(maxsize=None)
 def kit() -> Any:
-    """The part of the kit that knows of which sources a library was built. Here it sums each crate once: else it does so each time that a crate above
-    names it, which takes half a minute for the highest."""
+    """Loads the part of the kit that knows the sources of a library.
+
+    Here it sums each crate once. Otherwise it does so for each crate above, which takes half a
+    minute for the highest.
+    """
     page = subprocess.run(["rt", "doc"], capture_output=True, text=True, check=True).stdout.strip()
     sys.path.insert(0, str(Path(page).parent / "bin"))
     found = importlib.import_module("rtlib")
@@ -473,7 +510,9 @@ def kit() -> Any:
 
 
 def is_proved(crate: str) -> bool:
-    """Whether a crate's library is built of its sources as they stand and of those below it, so that all of them are proved."""
+    """Whether a crate's library is built of its present sources and those below it, so that all are
+    proved.
+    """
     return bool(kit().Crate(str(TOP / "crates" / crate), str(TOP), {}).is_built())
 
 
@@ -483,7 +522,7 @@ def is_built(crate: str, way: Way) -> bool:
 
 
 def lacking(crates: list[str], way: Way) -> list[str]:
-    """What is not built, or is wanted and not checked, of these crates."""
+    """Lists which of these crates are not built, or are needed and not checked."""
     below = crates_below()
     needed = {it for crate in crates for it in below[crate]}
     lacks = [f"the library {it} is not built" for it in below if it in needed and not is_built(it, way)]
@@ -507,13 +546,13 @@ def size_of(crate: str) -> int:
 
 
 def at_once() -> int:
-    """How many checks may run at once: as many as there are processors for this process, and memory."""
+    """Returns how many checks may run at once, by the processors for this process, and memory."""
     free = re.search(r"^MemAvailable: +(\d+) kB$", Path("/proc/meminfo").read_text(), re.M)
     return max(1, min(len(os.sched_getaffinity(0)), int(free[1]) * 1024 // CHECK_MEMORY if free else 1))
 
 
 def run_all(audits: list[Audit]) -> None:
-    """Runs the audits, several at once. Where one ends all, those that have not begun are left out."""
+    """Runs the audits, several at once. If one ends all, those that have not begun are left out."""
     with ThreadPoolExecutor(at_once()) as pool:
         begun = [pool.submit(it.run) for it in audits]
         try:
@@ -525,8 +564,9 @@ def run_all(audits: list[Audit]) -> None:
 
 
 def run_beside(audits: list[Audit], checks: Checks, command: list[str]) -> int:
-    """Runs a command that proves crates, and each audit once it has said that the crate is proved, half as many at once as else. Gives
-    its status, and where that is not 0 has ended the audits."""
+    """Runs a command that proves crates, and each audit once its crate is proved, half as many at
+    once as usual. Returns its status; if that is not 0, the audits are ended.
+    """
     left = {it.crate: it for it in audits}
     few = (at_once() + 1) // 2
     with ThreadPoolExecutor(few) as pool, subprocess.Popen(command, stdout=subprocess.PIPE, text=True, errors="replace") as ran:

@@ -6,7 +6,7 @@ use keyed::{Fit, Giver, Taker};
 use std::alloc::Global;
 use std::sync::Wait;
 
-/// Items of a channel are all the same.
+/// A fit in which all items of a channel are the same.
 struct Same;
 
 impl Fit<u8, u8> for Same {
@@ -27,12 +27,12 @@ fn handed_over<R: Wait>(rt: &R, alloc: Global, number: u8) -> Option<u8>
     }
 }
 
-/// Whether nothing more is there for an end that takes.
+/// Returns whether an end that takes finds nothing more.
 fn is_empty<R: Wait>(rt: &R, taker: &mut Taker<u8, u8, Same>) -> bool {
     taker.look(rt).is_err()
 }
 
-/// Whether the item of a channel is taken by one end alone.
+/// Returns whether the item of a channel is taken by only one end.
 fn is_taken_once<R: Wait>(rt: &R, alloc: Global) -> bool {
     let Ok((mut giver, mut taker)) = Giver::<u8, u8, Same>::open(rt, alloc, 1, 7) else {
         return false;

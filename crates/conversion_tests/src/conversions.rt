@@ -17,7 +17,7 @@ use std::alloc::Global;
 use std::sync::Wait;
 use std::thread::Threads;
 
-/// The document of a report with one table, on one thread.
+/// Converts a report with one table, on one thread.
 fn converts(alloc: Global, report: &Report, file: &[u8]) -> Result<Vec<u8>, ConvertFault> {
     let readers = vec![in alloc; Some(file)].map_err(|_| ConvertFault::Memory)?;
     let mut document = Vec::new(alloc);
@@ -33,7 +33,7 @@ fn converts(alloc: Global, report: &Report, file: &[u8]) -> Result<Vec<u8>, Conv
     Ok(document)
 }
 
-/// Whether the document of a table's file is this one.
+/// Returns whether the document of a table's file is this one.
 fn is_converted(alloc: Global, report: &Report, file: &[u8], expected: &[u8]) -> bool {
     match converts(alloc, report, file) {
         Ok(document) => document.as_slice() == expected,
@@ -41,7 +41,7 @@ fn is_converted(alloc: Global, report: &Report, file: &[u8], expected: &[u8]) ->
     }
 }
 
-/// Whether it is by as many workers as there may be, over the largest rings.
+/// Returns whether it is with the greatest number of workers and the largest rings.
 fn is_converted_by_most(
     rt: &(impl AllocGlobal + Threads + Wait + Sync),
     report: &Report,
@@ -66,7 +66,7 @@ fn is_converted_by_most(
     }
 }
 
-/// Whether the calls over a report of one table answer as they must.
+/// Returns whether the calls over a report of one table answer as they must.
 pub(crate) fn hold(
     rt: &(impl AllocGlobal + Threads + Wait + Sync),
     report: &Report,
@@ -113,13 +113,13 @@ const NO_THREADS: &[TableFault] = &[
     },
 ];
 
-/// The end of a conversion of which no worker is started.
+/// The end of a conversion without a started worker.
 const UNSTARTED: End<'static> = End {
     faults: NO_THREADS,
     merge: MergeEnd::Refused,
 };
 
-/// Whether three tables end so with this number of workers, of which none is started.
+/// Returns whether three tables end so with this number of workers, none of which is started.
 pub(crate) fn are_unstarted(
     rt: &(impl AllocGlobal + Threads + Wait + Sync),
     report: &Report,
@@ -146,7 +146,7 @@ pub(crate) fn are_unstarted(
     is_end(&run, UNSTARTED) && writer.has_left(0, 0)
 }
 
-/// Three tables, of which nothing is written behind the head.
+/// Three tables, of which nothing is written after the head.
 const NOTHING: Case = Case {
     tables: 3,
     written: 0,

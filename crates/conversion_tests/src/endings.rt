@@ -31,7 +31,7 @@ pub(crate) const REFUSED: &[TableFault] = &[
     },
 ];
 
-/// How a conversion ends: the faults of its tables, and the end of the merge.
+/// The end of a conversion: the faults of its tables, and the end of the merge.
 #[derive(Clone, Copy)]
 pub(crate) struct End<'a> {
     pub(crate) faults: &'a [TableFault],
@@ -44,7 +44,7 @@ pub(crate) const WHOLE: End<'static> = End {
     merge: MergeEnd::Complete,
 };
 
-/// Whether a run ended so.
+/// Returns whether a run ended so.
 pub(crate) fn is_end(answer: &Result<Run, ConvertFault>, end: End<'_>) -> bool {
     match answer {
         Ok(run) => run.end == end.merge && run.faults.as_slice() == end.faults,
@@ -52,7 +52,7 @@ pub(crate) fn is_end(answer: &Result<Run, ConvertFault>, end: End<'_>) -> bool {
     }
 }
 
-/// Whether a conversion to a writer by these workers, over rings of this size, ends so.
+/// Returns whether a conversion to a writer by these workers, over rings of this size, ends so.
 pub(crate) fn ends_so<R: Read + Drop + Send, W: Write>(
     rt: &(impl AllocGlobal + Threads + Wait + Sync),
     report: &Report,
@@ -72,7 +72,7 @@ pub(crate) fn ends_so<R: Read + Drop + Send, W: Write>(
     is_end(&answer, end)
 }
 
-/// Whether one on one thread does, of which a failed write hides the faults.
+/// Returns whether a conversion on one thread does; there a failed write hides the faults.
 pub(crate) fn ends_so_alone<R: Read + Drop, W: Write>(
     alloc: Global,
     report: &Report,

@@ -1,10 +1,12 @@
-//! Tests of conversions, with readers and writers of their own: readers that fail at each place of a file or never end, tables that wait for one
-//! another, writers with room for each number of bytes, workers that are not started, full rings, and a table in pieces of each size.
+//! Tests of conversions, with their own readers and writers: readers that fail at each place of a
+//! file or never end; tables that wait for one another; writers that fail after each number of
+//! bytes; workers that are not started; full rings; and a table in pieces of each size.
 //!
-//! And each public name of `keyed`, `oim_pieces` and `oim_convert` in one call, in the form in which a caller from outside writes it. The first call of
-//! `channels`, `pieces` and `conversions` is the one that its library's own page shows (`tests/public_calls.py` compares them).
+//! Also each public name of `keyed`, `oim_pieces` and `oim_convert` in one call, in the form in
+//! which an outside caller writes it. The first call of `channels`, `pieces` and `conversions` is
+//! the one on its library's own page (`tests/public_calls.py` compares them).
 //!
-//! What a report of files shows as well is left to the scripts over the built program.
+//! Tests that need only files are left to the scripts over the built program.
 #![tactic(auto)]
 
 #[cfg(test)]

@@ -5,17 +5,18 @@ use crate::reports::{HEAD, file_of};
 use crate::trials::{Case, Trial, holds};
 use oim_json::Block;
 use oim_meta::{Limits, Report};
-use oim_pieces::{Helpers, PIECE_SIZE, TablePieces};
+use oim_pieces::{AtWork, PIECE_SIZE, TablePieces};
 use oim_rows::TableFault;
 use std::alloc::{AllocError, Global};
 use std::sync::Wait;
 use std::thread::{Scope, Threads};
 use std::{mem, thread};
 
-/// The number of blocks in the first piece of a report's first table, whose file has these bytes.
+/// Returns the number of blocks in the first piece of a report's first table, whose file has these
+/// bytes.
 fn first_piece<'s, E, T: Threads + Wait + Sync + 's>(
     scope: &Scope<'s, E>,
-    helpers: &'s Helpers,
+    at_work: &'s AtWork,
     rt: &'s T,
     alloc: Global,
     report: &'s Report,
@@ -25,7 +26,7 @@ fn first_piece<'s, E, T: Threads + Wait + Sync + 's>(
         return Ok(0);
     }
     let limits = Limits::profile();
-    let mut table = TablePieces::open(alloc, helpers, report, 0, file, limits)?;
+    let mut table = TablePieces::open(alloc, at_work, report, 0, file, limits)?;
     let first = table.next_blocks(scope, rt);
     mem::drop(table);
     match first? {
@@ -34,28 +35,29 @@ fn first_piece<'s, E, T: Threads + Wait + Sync + 's>(
     }
 }
 
-/// Whether a table that was just opened needs no memory of others, and gives back what it was given.
+/// Returns whether a table that was just opened needs no spare vectors, and gives back what it was
+/// given.
 fn keeps_rooms(rt: &(impl AllocGlobal + Wait), report: &Report, file: &[u8]) -> bool {
     let alloc = rt.alloc();
     if report.tables() == 0 {
         return false;
     }
-    let helpers = Helpers::new(4, PIECE_SIZE);
+    let at_work = AtWork::new(4, PIECE_SIZE);
     let limits = Limits::profile();
-    let Ok(mut table) = TablePieces::open(alloc, &helpers, report, 0, file, limits) else {
+    let Ok(mut table) = TablePieces::open(alloc, &at_work, report, 0, file, limits) else {
         return false;
     };
-    let needs_none = table.wanted_rooms() == 0;
+    let needs_none = table.wanted_spares() == 0;
     table.want(true);
     table.note_left(0);
-    table.keep_room(rt, Vec::new(alloc));
-    let has_one = table.free_rooms(rt).len() == 1;
-    let has_none = table.free_rooms(rt).is_empty();
+    table.keep_spare(rt, Vec::new(alloc));
+    let has_one = table.free_spares(rt).len() == 1;
+    let has_none = table.free_spares(rt).is_empty();
     mem::drop(table);
     needs_none && has_one && has_none
 }
 
-/// Adds the texts of blocks to the beginning of a document.
+/// Appends the texts of blocks to a document's prefix.
 fn put_blocks(document: &mut Vec<u8>, blocks: &[Block]) -> Result<(), AllocError> {
     for block in blocks {
         if document.len() > HEAD.len() {
@@ -66,7 +68,8 @@ fn put_blocks(document: &mut Vec<u8>, blocks: &[Block]) -> Result<(), AllocError
     Ok(())
 }
 
-/// Adds the facts of a table to the beginning of a document, piece by piece. Tells whether the table has no fault.
+/// Appends the facts of a table to a document's prefix, piece by piece. Returns whether the table
+/// has no fault.
 fn put_pieces<'s, E, T: Threads + Wait + Sync + 's>(
     scope: &Scope<'s, E>,
     rt: &'s T,
@@ -87,12 +90,12 @@ fn put_pieces<'s, E, T: Threads + Wait + Sync + 's>(
     false
 }
 
-/// The same of a report's first table.
+/// Does the same for a report's first table.
 fn put_table<'s, E, T: Threads + Wait + Sync + 's>(
     scope: &Scope<'s, E>,
     rt: &'s T,
     alloc: Global,
-    helpers: &'s Helpers,
+    at_work: &'s AtWork,
     report: &'s Report,
     file: Slow<'_>,
     document: &mut Vec<u8>,
@@ -100,7 +103,7 @@ fn put_table<'s, E, T: Threads + Wait + Sync + 's>(
     if report.tables() == 0 {
         return false;
     }
-    match TablePieces::open(alloc, helpers, report, 0, file, Limits::profile()) {
+    match TablePieces::open(alloc, at_work, report, 0, file, Limits::profile()) {
         Ok(mut table) => {
             table.want(true);
             let is_good = put_pieces(scope, rt, &mut table, document);
@@ -111,10 +114,10 @@ fn put_table<'s, E, T: Threads + Wait + Sync + 's>(
     }
 }
 
-/// Whether a table gives this beginning of a document, behind the head that was put already.
+/// Returns whether a table gives this prefix of a document, after the head.
 fn begins(
     rt: &(impl AllocGlobal + Threads + Wait + Sync),
-    helpers: &Helpers,
+    at_work: &AtWork,
     report: &Report,
     file: Slow<'_>,
     document: &mut Vec<u8>,
@@ -123,13 +126,13 @@ fn begins(
     let alloc = rt.alloc();
     let lent = &mut *document;
     let is_good = thread::scope(thread::scope_env(), rt, move |scope| {
-        put_table(scope, rt, alloc, helpers, report, file, lent)
+        put_table(scope, rt, alloc, at_work, report, file, lent)
     });
     is_good && document.as_slice() == expected
 }
 
-/// How many bytes a reader gives at a time, and the size of the pieces: one record, two records, 64 bytes, and that of a conversion.
-/// And the number of workers.
+/// The count of bytes per read, the size of the pieces (one record, two records, 64 bytes, and that
+/// of a conversion), and the number of workers.
 const SIZES: &[(usize, usize, usize)] = &[
     (2, 1, 1),
     (2, 1, 4),
@@ -141,7 +144,7 @@ const SIZES: &[(usize, usize, usize)] = &[
     (65_536, PIECE_SIZE, 4),
 ];
 
-/// Whether a file does in pieces of a size.
+/// Returns whether a file does, in pieces of one size.
 fn begins_in(
     rt: &(impl AllocGlobal + Threads + Wait + Sync),
     report: &Report,
@@ -149,14 +152,14 @@ fn begins_in(
     size: &(usize, usize, usize),
     expected: &[u8],
 ) -> bool {
-    let helpers = Helpers::new(size.2, size.1);
+    let at_work = AtWork::new(size.2, size.1);
     let file = ending(bytes, size.0, AtEnd::Ends);
     let mut document = Vec::new(rt.alloc());
     document.extend_from_slice(HEAD.as_bytes()).is_ok()
-        && begins(rt, &helpers, report, file, &mut document, expected)
+        && begins(rt, &at_work, report, file, &mut document, expected)
 }
 
-/// Whether it does in pieces of each size.
+/// Returns whether it does, in pieces of each size.
 fn begins_in_each(
     rt: &(impl AllocGlobal + Threads + Wait + Sync),
     report: &Report,
@@ -171,7 +174,7 @@ fn begins_in_each(
     true
 }
 
-/// Whether a table of 200 rows does.
+/// Returns whether a table of 200 rows does.
 pub(crate) fn begin(
     rt: &(impl AllocGlobal + Threads + Wait + Sync),
     report: &Report,
@@ -197,27 +200,27 @@ fn pieces_of_each_size(rt: HostRuntime) {
     assert!(rt; holds(&rt, &ROWS));
 }
 
-/// Whether the first piece of a table has one block.
+/// Returns whether the first piece of a table has one block.
 fn has_a_block(
     rt: &(impl AllocGlobal + Threads + Wait + Sync),
-    helpers: &Helpers,
+    at_work: &AtWork,
     report: &Report,
     file: &[u8],
 ) -> bool {
     let alloc = rt.alloc();
     let given = thread::scope(thread::scope_env(), rt, move |scope| {
-        first_piece(scope, helpers, rt, alloc, report, file)
+        first_piece(scope, at_work, rt, alloc, report, file)
     });
     given == Ok(1)
 }
 
-/// Whether the calls over a report answer as they must.
+/// Returns whether the calls over a report answer as they must.
 pub(crate) fn hold(rt: &(impl AllocGlobal + Threads + Wait + Sync), report: &Report) -> bool {
-    let helpers = Helpers::new(4, PIECE_SIZE);
-    helpers.start();
+    let at_work = AtWork::new(4, PIECE_SIZE);
+    at_work.start();
     let are_good = keeps_rooms(rt, report, b"cash\n1\n")
-        && has_a_block(rt, &helpers, report, b"cash\n1\n");
-    helpers.rest();
+        && has_a_block(rt, &at_work, report, b"cash\n1\n");
+    at_work.rest();
     are_good
 }
 

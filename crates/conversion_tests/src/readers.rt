@@ -5,8 +5,8 @@ use std::io::Read;
 use std::sync::atomic::{AtomicUsize, Ordering};
 use std::{io, thread};
 
-/// What a reader does at its end: it ends, it fails, it counts itself and waits until this many are counted, or it waits until a
-/// count is this.
+/// A reader's behaviour at its end: it ends; it fails; it counts itself and waits until this many
+/// are counted; or it waits until a count is this.
 #[derive(Clone, Copy)]
 pub(crate) enum AtEnd<'a> {
     Ends,
@@ -15,7 +15,8 @@ pub(crate) enum AtEnd<'a> {
     Waits(&'a AtomicUsize, usize),
 }
 
-/// A reader of these bytes and then of the same row forever, if there is one, which gives at most `step` bytes per call.
+/// A reader of these bytes and then of the same row forever, if there is one, which gives at most
+/// `step` bytes per call.
 #[derive(Clone, Copy)]
 pub(crate) struct Slow<'a> {
     pub(crate) bytes: &'a [u8],
@@ -24,7 +25,7 @@ pub(crate) struct Slow<'a> {
     pub(crate) at_end: AtEnd<'a>,
 }
 
-/// A reader of these bytes that does this at its end.
+/// Returns a reader of these bytes that does this at its end.
 pub(crate) fn ending<'a>(bytes: &'a [u8], step: usize, at_end: AtEnd<'a>) -> Slow<'a> {
     Slow {
         bytes,
@@ -34,10 +35,11 @@ pub(crate) fn ending<'a>(bytes: &'a [u8], step: usize, at_end: AtEnd<'a>) -> Slo
     }
 }
 
-/// The number of turns that a reader may wait. Then the test fails, so that a broken schedule shows within the minute that a test has.
+/// The number of turns that a reader may wait. Then the test fails, so that a broken schedule shows
+/// within the minute that a test has.
 const TURNS: u32 = 20_000_000;
 
-/// Whether a count reaches this value in time.
+/// Returns whether a count reaches this value in time.
 fn comes_to(count: &AtomicUsize, wanted: usize) -> bool {
     for _ in 0..TURNS {
         if count.load(Ordering::SeqCst) >= wanted {
@@ -49,7 +51,7 @@ fn comes_to(count: &AtomicUsize, wanted: usize) -> bool {
 }
 
 impl Slow<'_> {
-    /// Whether the reader may end.
+    /// Returns whether the reader may end.
     fn may_end(&mut self) -> bool {
         match self.at_end {
             AtEnd::Ends => true,
@@ -77,7 +79,7 @@ impl Read for Slow<'_> {
     }
 }
 
-/// These readers, as those of a report's tables.
+/// Returns these readers, as those of a report's tables.
 pub(crate) fn readers_of<R: Drop + Copy>(
     alloc: Global,
     readers: &[R],

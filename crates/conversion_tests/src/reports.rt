@@ -10,14 +10,14 @@ const METADATA: &str =
 pub(crate) const TYPES: &[u8] =
     b"namespace,name,type\nhttp://example.com/eg,Cash,integer\nhttp://example.com/eg,Note,text\n";
 
-/// The beginning of each document, before its facts.
+/// The prefix of each document, before its facts.
 pub(crate) const HEAD: &str =
     r#"{"documentInfo":{"documentType":"https://xbrl.org/2021/xbrl-json","namespaces":{"eg":"http://example.com/eg","iso4217":"http://www.xbrl.org/2003/iso4217"},"taxonomy":["http://example.com/eg.xsd"]},"facts":{"#;
 
-/// The end of a whole document, behind its facts.
+/// The end of a whole document, after its facts.
 pub(crate) const TAIL: &str = "}}\n";
 
-/// The text of a fact of the value 1, behind the number of its row.
+/// The text of a fact of the value 1, after the number of its row.
 const ONE: &str =
     r#".cash":{"dimensions":{"concept":"eg:Cash","entity":"eg:A1","period":"2021-01-01T00:00:00/2022-01-01T00:00:00","unit":"iso4217:EUR"},"value":"1"}"#;
 
@@ -30,7 +30,8 @@ fn push_table(alloc: Global, text: &mut String, table: usize) -> Result<(), Allo
     text.push_str(one.as_str())
 }
 
-/// The metadata of this many tables of one template: `t1`, `t2` and so on, which are in the order of their numbers up to 9.
+/// Returns the metadata of this many tables of one template: `t1`, `t2` and so on, whose names are
+/// in the order of their numbers up to 9.
 pub(crate) fn metadata_of(alloc: Global, tables: usize) -> Result<String, AllocError> {
     let mut text = String::from_str(alloc, METADATA)?;
     for table in 1..=tables {
@@ -47,7 +48,7 @@ fn push_fact(alloc: Global, text: &mut String, table: usize, row: usize) -> Resu
     text.push_str(fact.as_str())
 }
 
-/// Adds those of this many tables of this many rows.
+/// Appends the facts of this many tables of this many rows.
 fn push_facts(
     alloc: Global,
     text: &mut String,
@@ -62,7 +63,8 @@ fn push_facts(
     Ok(())
 }
 
-/// The document of this many tables of this many rows, each with a cash of 1, up to and with these last bytes.
+/// Returns the document of this many tables of this many rows, each with a cash of 1, with these
+/// last bytes.
 pub(crate) fn document_of(
     alloc: Global,
     tables: usize,
@@ -75,7 +77,7 @@ pub(crate) fn document_of(
     Ok(text)
 }
 
-/// A table of this many rows, each with a cash of 1.
+/// Returns a table of this many rows, each with a cash of 1.
 pub(crate) fn file_of(alloc: Global, rows: usize) -> Result<String, AllocError> {
     let mut text = String::from_str(alloc, "cash\n")?;
     for _ in 0..rows {

@@ -12,7 +12,8 @@ use oim_rows::{TableFault, TableKind};
 use std::sync::Wait;
 use std::thread::Threads;
 
-/// Whether a conversion by this many workers, or on one thread where that is 0, refuses these tables.
+/// Returns whether a conversion by this many workers, or on one thread if that is 0, refuses these
+/// tables.
 fn ends(
     rt: &(impl AllocGlobal + Threads + Wait + Sync),
     report: &Report,
@@ -33,7 +34,7 @@ fn ends(
     }
 }
 
-/// Whether it does, and writes this document but for so many bytes at its end.
+/// Returns whether it does, and writes this document without this many bytes at its end.
 fn is_refused(
     rt: &(impl AllocGlobal + Threads + Wait + Sync),
     report: &Report,
@@ -62,11 +63,12 @@ const TABLE: &[u8] = b"cash,note\n100,first\n200,second\n";
 const BOTH: &str =
     r#""t1.r_1.cash":{"dimensions":{"concept":"eg:Cash","entity":"eg:A1","period":"2021-01-01T00:00:00/2022-01-01T00:00:00","unit":"iso4217:EUR"},"value":"100"},"t1.r_1.note":{"dimensions":{"concept":"eg:Note","entity":"eg:A1","period":"2021-01-01T00:00:00/2022-01-01T00:00:00"},"value":"first"},"t1.r_2.cash":{"dimensions":{"concept":"eg:Cash","entity":"eg:A1","period":"2021-01-01T00:00:00/2022-01-01T00:00:00","unit":"iso4217:EUR"},"value":"200"},"t1.r_2.note":{"dimensions":{"concept":"eg:Note","entity":"eg:A1","period":"2021-01-01T00:00:00/2022-01-01T00:00:00"},"value":"second"}"#;
 
-/// Those of its second row, behind those of the first.
+/// The facts of its second row, after those of the first.
 const SECOND: &str =
     r#","t1.r_2.cash":{"dimensions":{"concept":"eg:Cash","entity":"eg:A1","period":"2021-01-01T00:00:00/2022-01-01T00:00:00","unit":"iso4217:EUR"},"value":"200"},"t1.r_2.note":{"dimensions":{"concept":"eg:Note","entity":"eg:A1","period":"2021-01-01T00:00:00/2022-01-01T00:00:00"},"value":"second"}"#;
 
-/// How much of these is not written where the reader fails at a place from the first number up to but not including the second.
+/// The places of a failure, from the first number up to but not including the second, and the count
+/// of bytes that are not written then.
 const PLACES: &[(usize, usize, usize)] = &[
     (0, 20, BOTH.len()),
     (20, 31, SECOND.len()),
@@ -86,7 +88,8 @@ const FAILED: TableFault = TableFault {
     kind: TableKind::Read,
 };
 
-/// Whether the first `place` bytes of the table give this document, if its reader then fails.
+/// Returns whether the first `place` bytes of the table give this document, if its reader then
+/// fails.
 fn is_cut(
     rt: &(impl AllocGlobal + Threads + Wait + Sync),
     report: &Report,
@@ -100,7 +103,7 @@ fn is_cut(
     is_refused(rt, report, &[cut], pace.1, limits, document, &[FAILED])
 }
 
-/// The same for each of these places.
+/// Does the same for each of these places.
 fn is_cut_at(
     rt: &(impl AllocGlobal + Threads + Wait + Sync),
     report: &Report,
@@ -116,7 +119,7 @@ fn is_cut_at(
     true
 }
 
-/// The same for each place.
+/// Does the same for each place.
 fn is_cut_anywhere(
     rt: &(impl AllocGlobal + Threads + Wait + Sync),
     report: &Report,
@@ -131,7 +134,7 @@ fn is_cut_anywhere(
     true
 }
 
-/// The same at each pace.
+/// Does the same at each pace.
 pub(crate) fn are_cut(
     rt: &(impl AllocGlobal + Threads + Wait + Sync),
     report: &Report,
@@ -159,7 +162,7 @@ fn a_reader_cut_at_each_place(rt: HostRuntime) {
     assert!(rt; holds(&rt, &CUTS));
 }
 
-/// The files of three tables, and whether the reader fails behind theirs, and the faults.
+/// The files of three tables, whether each reader fails after its file, and the faults.
 type Between = (&'static [(&'static [u8], bool)], &'static [TableFault]);
 
 const CASES: &[Between] = &[
@@ -199,13 +202,13 @@ const CASES: &[Between] = &[
     ),
 ];
 
-/// A reader of a file, which may fail behind it.
+/// Returns a reader of a file, which may fail after it.
 fn reader_of(file: &(&'static [u8], bool)) -> Slow<'static> {
     let at_end = if file.1 { AtEnd::Fails } else { AtEnd::Ends };
     ending(file.0, 64, at_end)
 }
 
-/// Whether the case of this number ends so, on one thread and by two workers.
+/// Returns whether the case of this number ends so, on one thread and by two workers.
 pub(crate) fn fail_between(
     rt: &(impl AllocGlobal + Threads + Wait + Sync),
     report: &Report,
@@ -229,7 +232,7 @@ pub(crate) fn fail_between(
         )
 }
 
-/// The number of the tables of whose first row the fact is written, and the case.
+/// The number of tables whose first row's fact is written, and the case.
 const BETWEEN: &[Case] = &[
     Case {
         tables: 3,
@@ -260,7 +263,7 @@ const ONES_FOREVER: Slow<'static> = Slow {
     at_end: AtEnd::Ends,
 };
 
-/// Limits of a thousand rows per table.
+/// Returns limits of a thousand rows per table.
 fn thousand_rows() -> Limits
     ensures { result.rows ≤ 4294967294 }
 {
@@ -278,7 +281,8 @@ const TOO_MANY: TableFault = TableFault {
     kind: TableKind::TooManyRows,
 };
 
-/// Whether the table without end is refused at the first row past the limit by this many workers.
+/// Returns whether the table without end is refused at the first row past the limit by this many
+/// workers.
 fn is_ended(
     rt: &(impl AllocGlobal + Threads + Wait + Sync),
     report: &Report,
@@ -297,7 +301,7 @@ fn is_ended(
     )
 }
 
-/// Whether it is by two workers, and on one thread.
+/// Returns whether it is by two workers, and on one thread.
 pub(crate) fn are_ended(
     rt: &(impl AllocGlobal + Threads + Wait + Sync),
     report: &Report,

@@ -1,4 +1,4 @@
-//! Rings at run time: what a full and an empty ring answer.
+//! Rings at run time: the answers of full and empty rings.
 
 ghost use Rattle.std.specs.Prelude.{◌≡◌, IfSome, true};
 
@@ -25,7 +25,7 @@ const FIRST: One = ("a", r#""a":{"dimensions":{},"value":null}"#);
 
 const SECOND: One = ("b", r#""b":{"dimensions":{},"value":null}"#);
 
-/// A block of one fact.
+/// Returns a block of one fact.
 fn block(alloc: Global, one: One) -> Result<Block, AllocError> {
     match Text::from_str(alloc, one.0) {
         Ok(id) => block_of(alloc, &[Fact::new(id, None, None, Items::new(alloc))]),
@@ -33,12 +33,12 @@ fn block(alloc: Global, one: One) -> Result<Block, AllocError> {
     }
 }
 
-/// Whether a block is this one.
+/// Returns whether a block is this one.
 fn is_block(block: &Block, one: One) -> bool {
     block.count() == 1 && block.bytes() == one.1.as_bytes()
 }
 
-/// Whether an item is this block.
+/// Returns whether an item is this block.
 fn gives(item: Option<Item>, one: One) -> bool {
     match item {
         Some(Item::Block(block)) => is_block(&block, one),
@@ -46,7 +46,7 @@ fn gives(item: Option<Item>, one: One) -> bool {
     }
 }
 
-/// Whether the feed takes this block.
+/// Returns whether the feed takes this block.
 fn puts(alloc: Global, feed: &mut Feed, one: One) -> bool
     ensures { feed.new.ring ≡ feed.old.ring }
 {
@@ -56,7 +56,7 @@ fn puts(alloc: Global, feed: &mut Feed, one: One) -> bool
     }
 }
 
-/// Whether the feed, whose ring is full, gives back this block.
+/// Returns whether the feed, whose ring is full, gives back this block.
 fn gives_back(alloc: Global, feed: &mut Feed, one: One) -> bool {
     match block(alloc, one) {
         Ok(block) => match feed.put(block) {
@@ -67,7 +67,7 @@ fn gives_back(alloc: Global, feed: &mut Feed, one: One) -> bool {
     }
 }
 
-/// Whether the empty ring of one item takes this block, and no other until it is taken.
+/// Returns whether the empty ring of one item takes this block, and no other until it is taken.
 fn hands_over(alloc: Global, feed: &mut Feed, drain: &mut Drain, one: One) -> bool {
     drain.take().is_none()
         && puts(alloc, feed, one)
@@ -76,7 +76,7 @@ fn hands_over(alloc: Global, feed: &mut Feed, drain: &mut Drain, one: One) -> bo
         && drain.take().is_none()
 }
 
-/// Whether a ring of one item hands over two blocks, one after the other.
+/// Returns whether a ring of one item hands over two blocks, one after the other.
 fn hands_over_two(alloc: Global) -> bool {
     match lane(alloc, 1) {
         Ok((mut feed, mut drain)) => {
@@ -92,7 +92,7 @@ fn a_full_ring_gives_blocks_back(rt: HostRuntime) {
     assert!(rt; hands_over_two(rt.alloc()));
 }
 
-/// The feed that `close` gives back because the ring is full.
+/// Returns the feed that `close` gives back because the ring is full.
 fn not_closed(feed: Feed) -> Option<Feed>
     ensures { IfSome result (λ f. f.ring ≡ feed.ring) }
 {
@@ -108,7 +108,7 @@ fn not_closed(feed: Feed) -> Option<Feed>
     }
 }
 
-/// The token of the feed, whose ring has room, once it is closed.
+/// Returns the token of the feed, whose ring has room, after its close.
 fn closed(feed: Feed) -> Option<Closed>
     ensures { IfSome result (λ c. c.ring ≡ feed.ring) }
 {
@@ -118,7 +118,7 @@ fn closed(feed: Feed) -> Option<Closed>
     }
 }
 
-/// Whether a drain finds no item.
+/// Returns whether a drain finds no item.
 fn finds_nothing(drain: &mut Drain) -> bool
     ensures ring { drain.new.ring ≡ drain.old.ring }
     ensures same { result ≡ true → drain.new.taken ≡ drain.old.taken }
@@ -129,7 +129,7 @@ fn finds_nothing(drain: &mut Drain) -> bool
     }
 }
 
-/// Whether the ending is there and nothing behind it, after which the drain settles.
+/// Returns whether the ending is next and nothing follows it; then the drain settles.
 fn settled(drain: Drain, closed: Closed) -> bool
     requires { closed.ring ≡ drain.ring }
 {
@@ -146,7 +146,7 @@ fn settled(drain: Drain, closed: Closed) -> bool
     }
 }
 
-/// Whether the drain gives the first block and then, once the feed is closed, the ending.
+/// Returns whether the drain gives the first block and, after the feed is closed, the ending.
 fn gives_all(feed: Feed, drain: Drain) -> bool
     requires { drain.ring ≡ feed.ring }
 {
@@ -160,7 +160,7 @@ fn gives_all(feed: Feed, drain: Drain) -> bool
     }
 }
 
-/// Whether a ring that the first block fills can be closed once the block is taken.
+/// Returns whether a ring that the first block fills can be closed after the block is taken.
 fn closes_later(feed: Feed, drain: Drain) -> bool
     requires { drain.ring ≡ feed.ring }
 {
@@ -170,7 +170,7 @@ fn closes_later(feed: Feed, drain: Drain) -> bool
     }
 }
 
-/// Whether a ring of one item that is full can be closed later.
+/// Returns whether a ring of one item that is full can be closed later.
 fn full_closes_later(alloc: Global) -> bool {
     match lane(alloc, 1) {
         Ok((mut feed, drain)) => puts(alloc, &mut feed, FIRST) && closes_later(feed, drain),

@@ -1,4 +1,5 @@
-//! The conversion on threads at run time: tables that are open at once, shared out among workers, and merged before they end.
+//! The conversion on threads at run time: tables that are open at the same time, shared out among
+//! workers, and merged before they end.
 
 use crate::endings::{WHOLE, ends_so};
 use crate::readers::{AtEnd, Slow, ending};
@@ -11,7 +12,7 @@ use std::sync::Wait;
 use std::sync::atomic::AtomicUsize;
 use std::thread::Threads;
 
-/// Readers of tables of one row, each of which waits at its end for this many ends.
+/// Returns readers of tables of one row, each of which waits at its end for this many ends.
 fn waiting<'a>(
     alloc: Global,
     ends: &'a AtomicUsize,
@@ -25,7 +26,7 @@ fn waiting<'a>(
     Ok(readers)
 }
 
-/// Whether this many workers convert such tables to this document.
+/// Returns whether this many workers convert such tables to this document.
 pub(crate) fn meet(
     rt: &(impl AllocGlobal + Threads + Wait + Sync),
     report: &Report,
@@ -52,8 +53,8 @@ pub(crate) fn meet(
     }
 }
 
-/// For how many ends each table waits, and the number of workers. As many tables are open as there are workers, and a worker
-/// that waits keeps no table from the other.
+/// The count of ends for which each table waits, and the number of workers. As many tables are open
+/// as there are workers, and a worker that waits keeps no table from the other.
 const WAITS: &[(&[usize], usize)] = &[
     (&[2, 2], 2),
     (&[8, 8, 8, 8, 8, 8, 8, 8], 8),
@@ -62,7 +63,7 @@ const WAITS: &[(&[usize], usize)] = &[
     (&[1, 1, 3], 2),
 ];
 
-/// Whether tables that wait so are converted.
+/// Returns whether tables that wait so are converted.
 fn are_converted(
     rt: &(impl AllocGlobal + Threads + Wait + Sync),
     wanted: &'static [usize],
@@ -78,7 +79,7 @@ fn are_converted(
     holds(rt, &case)
 }
 
-/// Whether each of these are.
+/// Returns whether each of these are.
 fn all_are_converted(rt: &(impl AllocGlobal + Threads + Wait + Sync)) -> bool {
     for (wanted, workers) in WAITS {
         if !are_converted(rt, wanted, *workers) {
@@ -93,8 +94,8 @@ fn tables_that_wait_for_one_another(rt: HostRuntime) {
     assert!(rt; all_are_converted(&rt));
 }
 
-/// Whether a table of these bytes, which come in two halves and end only once a member is written, is converted to this document by so
-/// many workers with a ring of this size.
+/// Returns whether a table of these bytes is converted to this document, with the workers and the
+/// ring size of `way`. The bytes are given in two halves and end only after a member is written.
 fn ends_late(
     rt: &(impl AllocGlobal + Threads + Wait + Sync),
     report: &Report,
@@ -118,7 +119,7 @@ fn ends_late(
 /// Workers and the size of a ring.
 const WAYS: &[(usize, usize)] = &[(1, 1), (1, 1024), (2, 1), (2, 1024), (4, 1), (4, 1024)];
 
-/// Whether it is in each of these ways.
+/// Returns whether it is in each of these ways.
 fn ends_late_in_each_way(
     rt: &(impl AllocGlobal + Threads + Wait + Sync),
     report: &Report,
@@ -133,7 +134,7 @@ fn ends_late_in_each_way(
     true
 }
 
-/// The same of a table of 1,200 rows.
+/// Does the same for a table of 1,200 rows.
 pub(crate) fn end_late(
     rt: &(impl AllocGlobal + Threads + Wait + Sync),
     report: &Report,

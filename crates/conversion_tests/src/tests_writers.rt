@@ -13,7 +13,8 @@ use std::sync::Wait;
 use std::sync::atomic::{AtomicUsize, Ordering};
 use std::thread::Threads;
 
-/// How a merge ends whose writer takes only this many bytes of so many, and then fails, or answers 0.
+/// Returns the end of a merge whose writer takes only `room` of `whole` bytes, and then fails, or
+/// answers 0.
 fn end_of(room: usize, whole: usize, fails: bool, end: MergeEnd) -> MergeEnd {
     if room >= whole {
         end
@@ -24,7 +25,8 @@ fn end_of(room: usize, whole: usize, fails: bool, end: MergeEnd) -> MergeEnd {
     }
 }
 
-/// Whether a writer took as much of so many bytes as it had room for, and was asked once for more.
+/// Returns whether a writer took as much of `whole` bytes as it had room for, and was asked once
+/// for more.
 fn is_filled(narrow: &Narrow<'_>, room: usize, whole: usize) -> bool {
     match whole.checked_sub(room) {
         None | Some(0) => narrow.has_left(0, 0),
@@ -44,7 +46,8 @@ const WAYS: &[Way] = &[
     (8, 4, false),
 ];
 
-/// Whether three tables, of which two are refused, fill such a writer. All their faults are given, whether a write fails or not.
+/// Returns whether three tables, two of them refused, fill such a writer. All their faults are
+/// given, whether a write fails or not.
 fn is_full(
     rt: &(impl AllocGlobal + Threads + Wait + Sync),
     report: &Report,
@@ -75,7 +78,7 @@ fn is_full(
     }
 }
 
-/// The same for each room.
+/// Does the same for each room.
 fn are_full(
     rt: &(impl AllocGlobal + Threads + Wait + Sync),
     report: &Report,
@@ -90,7 +93,7 @@ fn are_full(
     true
 }
 
-/// The same in each way.
+/// Does the same in each way.
 pub(crate) fn fill(
     rt: &(impl AllocGlobal + Threads + Wait + Sync),
     report: &Report,
@@ -104,7 +107,7 @@ pub(crate) fn fill(
     true
 }
 
-/// What three tables with two faults write.
+/// The document of three tables with two faults.
 const ROOMS: Case = Case {
     tables: 3,
     written: 2,
@@ -118,8 +121,8 @@ fn writers_of_each_room(rt: HostRuntime) {
     assert!(rt; holds(&rt, &ROOMS));
 }
 
-/// Writers for a conversion on one thread, each given by the bytes that it takes per call, its room, and whether it fails or answers 0
-/// after that.
+/// Writers for a conversion on one thread, each by its bytes per call, its room, and whether it
+/// fails or answers 0 after that.
 type Writer = (usize, usize, bool);
 
 const WRITERS: &[Writer] = &[
@@ -129,7 +132,7 @@ const WRITERS: &[Writer] = &[
     (64, 40, false),
 ];
 
-/// Whether a table of one row fills such a writer.
+/// Returns whether a table of one row fills such a writer.
 fn is_full_alone(alloc: Global, report: &Report, writer: &Writer, whole: &[u8]) -> bool {
     let (most, room, fails) = *writer;
     let mut narrow = taking(whole, most, room, fails);
@@ -144,7 +147,7 @@ fn is_full_alone(alloc: Global, report: &Report, writer: &Writer, whole: &[u8]) 
     }
 }
 
-/// The same for each writer.
+/// Does the same for each writer.
 pub(crate) fn fill_alone(alloc: Global, report: &Report, whole: &[u8]) -> bool {
     for writer in WRITERS {
         if !is_full_alone(alloc, report, writer, whole) {
@@ -174,8 +177,8 @@ const FAILED: End<'static> = End {
     merge: MergeEnd::Write(WriteFault::Failed),
 };
 
-/// Whether three tables of these bytes, by three workers over rings of one block, fail to write once a part of this document is
-/// written, and still come to their ends.
+/// Returns whether three tables of these bytes reach their ends, by three workers over rings of one
+/// block, although writing fails after a part of this document.
 fn comes_to_ends(
     rt: &(impl AllocGlobal + Threads + Wait + Sync),
     report: &Report,
@@ -203,7 +206,7 @@ fn comes_to_ends(
     }
 }
 
-/// The same once none, a quarter, two and three quarters are written.
+/// Does the same after none, a quarter, two and three quarters are written.
 fn come_to_ends(
     rt: &(impl AllocGlobal + Threads + Wait + Sync),
     report: &Report,
@@ -219,7 +222,7 @@ fn come_to_ends(
     true
 }
 
-/// The same of tables of 600 rows.
+/// Does the same for tables of 600 rows.
 pub(crate) fn fail_behind(
     rt: &(impl AllocGlobal + Threads + Wait + Sync),
     report: &Report,

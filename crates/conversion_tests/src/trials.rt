@@ -1,4 +1,4 @@
-//! What is tried over a report and its document, and the making of both.
+//! The trials over a report and its document, and the making of both.
 
 use crate::reports::{TYPES, document_of, metadata_of};
 use crate::{conversions, pieces, tests_readers, tests_threads, tests_writers};
@@ -6,7 +6,7 @@ use oim_meta::{Limits, Parameters, Report, Types, read_report, read_types};
 use std::sync::Wait;
 use std::thread::Threads;
 
-/// What is tried.
+/// A trial.
 #[derive(Clone, Copy)]
 pub(crate) enum Trial {
     /// Tables that wait for this many others each, with this many workers.
@@ -15,7 +15,7 @@ pub(crate) enum Trial {
     Late,
     /// A reader that is cut at each place.
     Cuts,
-    /// Readers that fail beside other faults: the case of this number.
+    /// Readers that fail next to other faults: the case of this number.
     Between(usize),
     /// A table that never ends.
     Endless,
@@ -23,7 +23,7 @@ pub(crate) enum Trial {
     Rooms,
     /// Writers of some rooms, on one thread.
     Alone,
-    /// Tables behind a failed write.
+    /// Tables after a failed write.
     Behind,
     /// A table in pieces of each size.
     Pieces,
@@ -35,8 +35,8 @@ pub(crate) enum Trial {
     Conversions,
 }
 
-/// The number of the report's tables, the tables and the rows of the document, what stands behind these, and what is tried over
-/// both.
+/// The number of the report's tables, the tables and rows of the document, the text after these,
+/// and the trial over both.
 #[derive(Clone, Copy)]
 pub(crate) struct Case {
     pub(crate) tables: usize,
@@ -46,7 +46,7 @@ pub(crate) struct Case {
     pub(crate) trial: Trial,
 }
 
-/// Whether a trial over a report and a document ends as it must.
+/// Returns whether a trial over a report and a document ends as it must.
 fn succeeds(
     rt: &(impl AllocGlobal + Threads + Wait + Sync),
     report: &Report,
@@ -71,7 +71,7 @@ fn succeeds(
     }
 }
 
-/// Whether a case over a report ends as it must.
+/// Returns whether a case over a report ends as it must.
 fn holds_over(
     rt: &(impl AllocGlobal + Threads + Wait + Sync),
     report: &Report,
@@ -83,7 +83,7 @@ fn holds_over(
     }
 }
 
-/// The same over the report of a metadata and these types.
+/// Does the same over the report of a metadata and these types.
 fn holds_with(
     rt: &(impl AllocGlobal + Threads + Wait + Sync),
     metadata: &[u8],
@@ -97,7 +97,7 @@ fn holds_with(
     }
 }
 
-/// The same over the report of a metadata.
+/// Does the same over the report of a metadata.
 fn holds_of(rt: &(impl AllocGlobal + Threads + Wait + Sync), metadata: &[u8], case: &Case) -> bool {
     match read_types(rt.alloc(), TYPES) {
         Ok(types) => holds_with(rt, metadata, types, case),
@@ -105,7 +105,7 @@ fn holds_of(rt: &(impl AllocGlobal + Threads + Wait + Sync), metadata: &[u8], ca
     }
 }
 
-/// Whether a case ends as it must.
+/// Returns whether a case ends as it must.
 pub(crate) fn holds(rt: &(impl AllocGlobal + Threads + Wait + Sync), case: &Case) -> bool {
     match metadata_of(rt.alloc(), case.tables) {
         Ok(metadata) => holds_of(rt, metadata.as_bytes(), case),
@@ -113,7 +113,7 @@ pub(crate) fn holds(rt: &(impl AllocGlobal + Threads + Wait + Sync), case: &Case
     }
 }
 
-/// Whether each of these cases does.
+/// Returns whether each of these cases does.
 pub(crate) fn all_hold(rt: &(impl AllocGlobal + Threads + Wait + Sync), cases: &[Case]) -> bool {
     for case in cases {
         if !holds(rt, case) {

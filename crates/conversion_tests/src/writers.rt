@@ -4,8 +4,8 @@ use std::io;
 use std::io::Write;
 use std::sync::atomic::{AtomicUsize, Ordering};
 
-/// A writer that compares what it takes with a document: at most `most` bytes per call, and `room` bytes in all. After that it
-/// fails, or answers 0, and counts how often it is asked.
+/// A writer that compares the bytes that it takes with a document: at most `most` bytes per call,
+/// and `room` bytes in all. After that it fails, or answers 0, and counts its calls.
 #[derive(Clone, Copy)]
 pub(crate) struct Narrow<'a> {
     left: &'a [u8],
@@ -17,7 +17,7 @@ pub(crate) struct Narrow<'a> {
     taken: Option<&'a AtomicUsize>,
 }
 
-/// Such a writer that took nothing yet.
+/// Returns such a writer that took nothing yet.
 pub(crate) fn taking(document: &[u8], most: usize, room: usize, fails: bool) -> Narrow<'_> {
     Narrow {
         left: document,
@@ -30,12 +30,12 @@ pub(crate) fn taking(document: &[u8], most: usize, room: usize, fails: bool) -> 
     }
 }
 
-/// A writer that takes the whole document.
+/// Returns a writer that takes the whole document.
 pub(crate) fn taking_all(document: &[u8]) -> Narrow<'_> {
     taking(document, usize::MAX, usize::MAX, true)
 }
 
-/// A writer that does, and counts the bytes where others see it.
+/// Returns a writer that does, and counts the bytes where others see it.
 pub(crate) fn counting<'a>(document: &'a [u8], taken: &'a AtomicUsize) -> Narrow<'a> {
     Narrow {
         taken: Some(taken),
@@ -55,7 +55,8 @@ impl Narrow<'_> {
         }
     }
 
-    /// Whether it took the document but for this many bytes at its end, and refused this often.
+    /// Returns whether it took the document except this many bytes at its end, and refused this
+    /// often.
     pub(crate) fn has_left(&self, left: usize, refused: u32) -> bool {
         self.is_same && self.left.len() == left && self.refused == refused
     }

@@ -10,7 +10,7 @@ pub trait Denotes<T> {
     ghost denoted: { Self → T };
 }
 
-/// A value of `T` that only contracts see, by the name `value`.
+/// A value of `T` that only contracts see, as its field `value`.
 ///
 /// It has no bytes and owns nothing, so it may be dropped, sent and shared whatever `T` is.
 pub struct GhostValue<T> {
@@ -32,7 +32,7 @@ impl<T> Denotes<T> for Itself<'_, T> {
     ghost denoted = { λ a. a.value.now };
 }
 
-/// Denotes what a `GhostValue` remembers.
+/// Denotes the value of a `GhostValue`.
 #[derive(Drop)]
 struct Once<'a, T> {
     before: &'a GhostValue<T>,
@@ -43,7 +43,7 @@ impl<T> Denotes<T> for Once<'_, T> {
 }
 
 impl<T> GhostValue<T> {
-    /// Remembers what `value` is now. It copies nothing.
+    /// Makes a `GhostValue` of the value that `value` has now. Copies nothing.
     #[inline(always)]
     pub fn seen(value: &T) -> GhostValue<T>
         ensures { result.value ≡ value.now }
@@ -51,7 +51,7 @@ impl<T> GhostValue<T> {
         GhostValue::of(&Itself { value })
     }
 
-    /// Remembers the same value once more.
+    /// Makes another `GhostValue` of the same value.
     #[inline(always)]
     pub fn again(&self) -> GhostValue<T>
         ensures { result.value ≡ self.now.value }
@@ -59,7 +59,7 @@ impl<T> GhostValue<T> {
         GhostValue::of(&Once { before: self })
     }
 
-    /// Remembers the value that `note` denotes. No code of the note runs.
+    /// Makes a `GhostValue` of the value that `note` denotes. Runs no code of `note`.
     #[inline(always)]
     pub fn of<N: Denotes<T>>(note: &N) -> GhostValue<T>
         ensures { result.value ≡ N.denoted note.now }

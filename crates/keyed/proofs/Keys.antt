@@ -1,4 +1,4 @@
--- Each step keeps the rule of a channel of which one thing is known.
+-- Each step keeps the rule of a channel whose items match one key.
 use Rattle.std.proofs.Common.{◌≡◌, ℕ, zero, suc, List, [], ◌∷◌, ◌++◌, set, Option, Some, None, sym, refl, ◌∙◌, subst, inl, inr, ⊎_elim, true≢false}
 use Rattle.std.specs.Prelude.{⊤, IfSome, IsSome}
 use mathlib.Core.Option.{some, some-ne-none, some-injective}
@@ -6,14 +6,14 @@ use lib.ListN.{get_elem?}
 use Rattle.crossbeam_channel.specs.Fifo.{Pushes, Pops, Forks}
 use Rattle.keyed.specs.state.Keyed.{AllFit, AllKnow, IsKeyed}
 
--- one more who knows
+-- Another end that knows the key.
 snoc_know : {K : Type 0} (k : K) (views : List (Option K)) → AllKnow k views → AllKnow k (views ++ Some k ∷ [])
 snoc_know k [] all zero v at = sym (some-injective (Some k) v at)
 snoc_know k [] all (suc j) v at = absurd (some-ne-none v (sym at))
 snoc_know k (u ∷ us) all zero v at = all zero v at
 snoc_know k (u ∷ us) all (suc j) v at = snoc_know k us (λ p w e. all (suc p) w e) j v at
 
--- one who goes on knowing
+-- An end that still knows the key.
 set_know : {K : Type 0} (k : K) (views : List (Option K)) (port : ℕ) → AllKnow k views → AllKnow k (set views port (Some k))
 set_know k [] port all j v at = all j v at
 set_know k (u ∷ us) zero all zero v at = sym (some-injective (Some k) v at)
@@ -21,7 +21,7 @@ set_know k (u ∷ us) zero all (suc j) v at = all (suc j) v at
 set_know k (u ∷ us) (suc p) all zero v at = all zero v at
 set_know k (u ∷ us) (suc p) all (suc j) v at = set_know k us p (λ q w e. all (suc q) w e) j v at
 
--- the one alone gets to know
+-- The only end learns the key.
 one_know : {K : Type 0} (k : K) (port : ℕ) (u : Option K) → get_elem? (u ∷ []) port ≡ some u → AllKnow k (set (u ∷ []) port (Some k))
 one_know k zero u was zero v at = sym (some-injective (Some k) v at)
 one_know k zero u was (suc j) v at = absurd (some-ne-none v (sym at))
@@ -58,7 +58,7 @@ alone_none views pass v is at = by pass (subst (λ l. get_elem? l pass ≡ some 
     by (suc p) at' = absurd (some-ne-none v (sym at'))
 
 module _ {K T : Type 0} (fits : K → T → Type 0) where
-  -- what is sent first is known from then on
+  -- The first item fixes the key.
   pub first_sent : (n pass : ℕ) (v : Option K) (x : T) (key : T → Option K) → v ≡ None → IsSome (key x) → IfSome (key x) (λ k. fits k x)
       → Pushes (IsKeyed fits) n pass v x (λ w. w ≡ key x)
   first_sent n pass v x key none known mine items views room holds at = by (key x) refl known mine
@@ -74,7 +74,7 @@ module _ {K T : Type 0} (fits : K → T → Type 0) where
           (λ (all : (j : K) × AllKnow j views × AllFit fits j items). absurd (none_is all.0 (sym none ∙ all.1 pass v at)))
           holds
 
-  -- a further one fits what is known
+  -- A later item matches the key.
   pub more_sent : (n pass : ℕ) (v : Option K) (x : T) → IsSome v → IfSome v (λ k. fits k x) → Pushes (IsKeyed fits) n pass v x (λ w. w ≡ v)
   more_sent n pass None x known mine items views room holds at = absurd (true≢false (sym known))
   more_sent n pass (Some k) x known mine items views room holds at = ⊎_elim
@@ -87,7 +87,7 @@ module _ {K T : Type 0} (fits : K → T → Type 0) where
       ))
       holds
 
-  -- what is taken fits what is known
+  -- A received item matches the key.
   pub taken : (pass : ℕ) (v : Option K) → Pops (IsKeyed fits) pass v (λ x w. (w ≡ v) × IfSome v (λ k. fits k x))
   taken pass None x items views holds at = ⊎_elim
       (λ (alone : (x ∷ items ≡ []) × (views ≡ None ∷ [])). absurd (no_item x items alone.0))
@@ -103,7 +103,7 @@ module _ {K T : Type 0} (fits : K → T → Type 0) where
       ))
       holds
 
-  -- two know what one knew
+  -- Two ends know the key that one end knew.
   pub forked : (pass : ℕ) (v : Option K) → IsSome v → Forks (IsKeyed fits) pass v v v
   forked pass None known items views holds at = absurd (true≢false (sym known))
   forked pass (Some k) known items views holds at = ⊎_elim

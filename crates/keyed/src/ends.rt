@@ -1,4 +1,4 @@
-//! The ends of a channel of which one thing is known.
+//! The ends of a channel whose items all match one key.
 
 ghost use Rattle.std.specs.Prelude.{◌≡◌, ◌<◌, IfErr, IfOk, IfSome, IsSome};
 
@@ -8,13 +8,13 @@ use std::alloc::Global;
 use std::marker::Model;
 use std::sync::Wait;
 
-/// An end that takes items. A contract sees what is known of them.
+/// An end that receives items. Contracts see the key.
 pub struct Taker<T: Drop, K, F: Fit<K, T>> {
     from: RuledReceiver<T, Option<K>, Keyed<F>, Global>,
     pass: Pass<T, Option<K>>,
 }
 
-// By hand, so that who lets one go elsewhere makes one call.
+// Written by hand, so that a drop in another crate is one call.
 impl<T: Drop, K, F: Fit<K, T>> Drop for Taker<T, K, F> {
     fn drop(self) {
         let Self { from: _, pass: _ } = self;
@@ -33,14 +33,14 @@ impl<T: Drop, K, F: Fit<K, T>> Model for Taker<T, K, F> {
     ghost invariant = { λ a. IsSeatAt (receives_on a.from) a.pass × IsSome (known a.pass) };
 }
 
-/// An end that sends items and takes them. A contract sees what is known of them.
+/// An end that sends and receives items. Contracts see the key.
 pub struct Giver<T: Drop, K, F: Fit<K, T>> {
     to: RuledSender<T, Option<K>, Keyed<F>, Global>,
     from: RuledReceiver<T, Option<K>, Keyed<F>, Global>,
     pass: Pass<T, Option<K>>,
 }
 
-// By hand, so that who lets one go elsewhere makes one call.
+// Written by hand, so that a drop in another crate is one call.
 impl<T: Drop, K, F: Fit<K, T>> Drop for Giver<T, K, F> {
     fn drop(self) {
         let Self {
@@ -64,7 +64,8 @@ impl<T: Drop, K, F: Fit<K, T>> Model for Giver<T, K, F> {
 }
 
 impl<T: Drop, K, F: Fit<K, T>> Giver<T, K, F> {
-    /// Both ends of a channel of this many items, with its first item. Gives that back where memory is short.
+    /// Makes a channel for `size` items, with its first item, and returns both ends. Returns the
+    /// item if memory runs out.
     pub fn open<R: Wait>(
         rt: &R,
         alloc: Global,
@@ -96,7 +97,7 @@ impl<T: Drop, K, F: Fit<K, T>> Giver<T, K, F> {
         Ok((Giver { to, from, pass }, taker))
     }
 
-    /// Sends an item. Gives it back where there is no room.
+    /// Sends an item. Returns it if the channel is full.
     pub fn give<R: Wait>(&mut self, rt: &R, item: T) -> Result<(), T>
         requires { IfSome self.old (λ k. F.fits k item) }
         ensures same { self.new ≡ self.old }
@@ -108,7 +109,7 @@ impl<T: Drop, K, F: Fit<K, T>> Giver<T, K, F> {
         }
     }
 
-    /// Takes an item, if one is there.
+    /// Receives an item without waiting, or returns `None` if the channel is empty.
     pub fn look<R: Wait>(&mut self, rt: &R) -> Option<T>
         ensures same { self.new ≡ self.old }
         ensures item { IfSome result (λ x. IfSome self.old (λ k. F.fits k x)) }
@@ -116,7 +117,7 @@ impl<T: Drop, K, F: Fit<K, T>> Giver<T, K, F> {
         self.from.try_recv_as::<Took<F>, R>(rt, &mut self.pass).ok()
     }
 
-    /// One more end that takes items. `None` where there are too many.
+    /// Makes another receiving end. Returns `None` if the channel has too many.
     pub fn taker(&mut self) -> Option<Taker<T, K, F>>
         ensures same { self.new ≡ self.old }
         ensures taker { IfSome result (λ t. t ≡ self.old) }
@@ -130,7 +131,10 @@ impl<T: Drop, K, F: Fit<K, T>> Giver<T, K, F> {
 }
 
 impl<T: Drop, K, F: Fit<K, T>> Taker<T, K, F> {
-    /// Takes an item, if one is there. The fault says whether none was there, or none comes any more.
+    /// Receives an item without waiting.
+    ///
+    /// Fails with `Empty` if the channel is empty, and with `Disconnected` if it will get no more
+    /// items.
     pub fn look<R: Wait>(&mut self, rt: &R) -> Result<T, TryRecvError>
         ensures same { self.new ≡ self.old }
         ensures item { IfOk result (λ x. IfSome self.old (λ k. F.fits k x)) }
@@ -138,7 +142,7 @@ impl<T: Drop, K, F: Fit<K, T>> Taker<T, K, F> {
         self.from.try_recv_as::<Took<F>, R>(rt, &mut self.pass)
     }
 
-    /// Takes an item, waiting for one. `None` where none comes any more.
+    /// Receives an item, and waits for it. Returns `None` if the channel will get no more items.
     pub fn take<R: Wait>(&mut self, rt: &R) -> Option<T>
         ensures same { self.new ≡ self.old }
         ensures item { IfSome result (λ x. IfSome self.old (λ k. F.fits k x)) }

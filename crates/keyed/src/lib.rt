@@ -1,10 +1,12 @@
-//! Channels of which one thing is known to all who have an end: what the first item says, and all further ones fit.
+//! Channels whose items all match a key that the first item fixes.
 //!
-//! A [`Fit`] says what that is: the key of the first item, and which items fit a key. `Giver::open` makes a channel with its first item. A [`Giver`]
-//! sends items that fit and takes them too, a [`Taker`] takes them; what is taken fits the key that the end knows. Of the order no clause says anything, and
-//! none says that an item which was sent is taken.
+//! A [`Fit`] defines the key of an item and which items match a key. `Giver::open` makes a channel
+//! from its first item. A [`Giver`] sends and receives, a [`Taker`] receives. Both ends know the
+//! key, and every received item is proved to match it.
 //!
-//! A call:
+//! Not proved: the order of items, and that a sent item is received.
+//!
+//! Example:
 //!
 //! ```
 //! /// A number by way of a channel of numbers that are all the same.

@@ -1,19 +1,19 @@
-//! The rule of a channel of which one thing is known.
+//! The rule of a channel whose items all match one key.
 
 use crossbeam_channel::protocol::{Lesson, Outcome, Protocol, Split};
 
-/// What an item of a channel says of all others, and what an item has to be where that is known.
+/// The key of an item, and which items match a key.
 pub trait Fit<K, T> {
     ghost use Rattle.std.specs.Prelude.{Option};
 
-    /// What an item says of all items of its channel, if it says anything.
+    /// The key that an item fixes for its channel, if it has one.
     ghost key: { T → Option K };
 
-    /// What an item is to be where this is known.
+    /// Which items match a key.
     ghost fits: { K → T → Type 0 };
 }
 
-/// The rule of a channel whose items fit what the first one said.
+/// The rule of a channel: its items match the first item's key.
 pub struct Keyed<F> {
     of: F,
 }
@@ -44,7 +44,7 @@ impl<K, T, F: Fit<K, T>> Lesson<T, Option<K>> for First<F> {
     ghost fact = { λ v items. ⊤ };
 }
 
-/// A further item is sent.
+/// A later item is sent.
 pub(crate) struct More<F> {
     of: F,
 }
@@ -61,7 +61,7 @@ impl<K, T, F: Fit<K, T>> Lesson<T, Option<K>> for More<F> {
     ghost fact = { λ v items. ⊤ };
 }
 
-/// An item is taken.
+/// An item is received.
 pub(crate) struct Took<F> {
     of: F,
 }
@@ -78,7 +78,7 @@ impl<K, T, F: Fit<K, T>> Lesson<T, Option<K>> for Took<F> {
     ghost fact = { λ v items. ⊤ };
 }
 
-/// Two know what one knew.
+/// Two ends know the key that one end knew.
 pub(crate) struct Same;
 
 impl<V> Split<V> for Same {

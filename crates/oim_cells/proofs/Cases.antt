@@ -1,8 +1,8 @@
--- What a text that is written out means.
+-- The meaning of a text that is written out.
 use Rattle.std.proofs.Common.{◌≡◌, ◌≢◌, ℕ, List, [], ◌∷◌, drop, refl, sym, ap, arith, length, get_or, codes}
 use Rattle.oim_cells.specs.Cells.{Meaning, Absent, Nil, Empty, Text, Unknown, Means, nothing, none, nil, empty, doubled, other, plain, IsOther}
 
--- what two equal texts have in common
+-- Properties that two equal texts share.
 clash : {s t : List ℕ} → s ≡ t → (length s ≡ length t) × (get_or s 0 0 ≡ get_or t 0 0) × (get_or s 1 0 ≡ get_or t 1 0)
 clash e = (ap length e, ap (λ s. get_or s 0 0) e, ap (λ s. get_or s 1 0) e)
 

@@ -1,4 +1,4 @@
--- Decimals and doubles hold few characters, so that a mark stands in them once.
+-- Decimals and doubles have few characters, so a mark occurs in them once.
 use Rattle.std.proofs.Common.{◌≡◌, ◌≢◌, ◌↔◌, ◌⊎◌, inl, inr, ℕ, ◌<◌, List, [], ◌∷◌, ◌++◌, drop, refl, sym, subst, ◌∙◌, arith, append_assoc, codes, Bool, true, false, cond, ◌==◌}
 use Rattle.std.proofs.lemmas.Bool.Decides.{nat_tests}
 use Rattle.std.specs.Str.Parse.{without_leading_sign}
@@ -35,7 +35,7 @@ decimal_lacks m s h d =
           (subst (Lacks m) (sym o.2) (lacks-append m o.0 (46 ∷ o.1) (digits_lack m o.0 (inl h) o.3) (λ e. absurd (omega arith), digits_lack m o.1 (inl h) o.4)))
     ]
 
--- what a double is made of
+-- The parts of a double.
 pub of_double : {s : List ℕ} → IsDouble s
     → IsDecimal s ⊎ ((front : List ℕ) × (mark : ℕ) × (back : List ℕ) × (s ≡ front ++ mark ∷ back) × ((mark ≡ 101) ⊎ (mark ≡ 69)) × IsDecimal front × IsInteger back)
 of_double (no_power s d) = inl d

@@ -1,5 +1,5 @@
--- The definitions on special values, numerals and decimals that show each rule. The answers come from xBRL-CSV 1.0, the lexical forms of
--- XML Schema Part 2 and the Open Information Model 1.0.
+-- The definitions on special values, numerals and decimals. The results are from xBRL-CSV 1.0, the
+-- lexical forms of XML Schema Part 2 and the Open Information Model 1.0.
 use Rattle.std.proofs.Common.{◌≡◌, ℕ, List, [], ◌∷◌, Bool, true, false, refl, codes, Some, None, is_some, pos, negsuc, map}
 use Rattle.std.specs.List.{list_all, list_any}
 use Rattle.oim_cells.specs.declared.cells.Accuracy.TheVariants.{Infinite, Places}
@@ -9,7 +9,7 @@ use Rattle.oim_cells.specs.Blanks.{is_blank, trimmed}
 use Rattle.oim_cells.specs.Boolean.{is_boolean_text}
 use Rattle.oim_cells.specs.Cells.{Absent, Nil, Empty, Text, Unknown, meaning_of, accuracy_of, numeral_of}
 
--- SPECIAL VALUES
+-- SPECIAL VALUES (xBRL-CSV 1.0).
 special : map meaning_of ([] ∷ codes "#none" ∷ codes "#nil" ∷ codes "#empty" ∷ []) ≡ Absent ∷ Absent ∷ Nil ∷ Empty ∷ []
 unfolding meaning_of
 special = refl
@@ -26,21 +26,22 @@ plain : map meaning_of (codes "a#" ∷ codes " " ∷ codes "none" ∷ codes " #n
 unfolding meaning_of
 plain = refl
 
--- BLANKS: tab, line feed, carriage return and space, but not vertical tab, form feed or the characters beside the blanks
+-- BLANKS (XML 1.0): tab, line feed, carriage return and space, but not vertical tab, form feed or
+-- the characters next to the blanks.
 blanks : (list_all is_blank (9 ∷ 10 ∷ 13 ∷ 32 ∷ []) ≡ true) × (list_any is_blank (0 ∷ 8 ∷ 11 ∷ 12 ∷ 14 ∷ 31 ∷ 33 ∷ 160 ∷ []) ≡ false)
 blanks = (refl, refl)
 
 trims : map trimmed ((9 ∷ 10 ∷ 49 ∷ 13 ∷ 32 ∷ []) ∷ (32 ∷ 49 ∷ 32 ∷ 50 ∷ []) ∷ (32 ∷ 9 ∷ []) ∷ []) ≡ codes "1" ∷ codes "1 2" ∷ [] ∷ []
 trims = refl
 
--- BOOLEAN VALUES, each as it is written
+-- BOOLEAN VALUES (XML Schema Part 2).
 booleans : list_all is_boolean_text (codes "true" ∷ codes "false" ∷ codes "1" ∷ codes "0" ∷ []) ≡ true
 booleans = refl
 
 no_booleans : list_any is_boolean_text ([] ∷ codes "TRUE" ∷ codes "True" ∷ codes "t" ∷ codes "yes" ∷ codes "2" ∷ codes "10" ∷ codes "01" ∷ codes "+1" ∷ codes " true " ∷ codes "truefalse" ∷ []) ≡ false
 no_booleans = refl
 
--- NUMERALS of each kind, without a suffix
+-- NUMERALS (XML Schema Part 2) of each kind, without a suffix.
 bare : NumberKind → List ℕ → Bool
 unfolding numeral_of
 bare kind text = is_some (numeral_of kind text)
@@ -73,7 +74,7 @@ no_doubles :
 unfolding bare numeral_of accuracy_of
 no_doubles = refl
 
--- NUMERALS with the accuracy that they state
+-- NUMERALS with the accuracy that they state (xBRL-CSV 1.0, decimals suffix).
 suffixed :
     map (numeral_of Decimal) (codes "1250.5d-2" ∷ codes "1dINF" ∷ codes "-0d+1" ∷ codes " 7 " ∷ codes " 7d0\t" ∷ [])
     ≡ Some (codes "1250.5", Some (Places (negsuc 1))) ∷ Some (codes "1", Some Infinite) ∷ Some (codes "-0", Some (Places (pos 1))) ∷ Some (codes "7", None)
@@ -93,7 +94,7 @@ badly_suffixed :
 unfolding bare numeral_of accuracy_of
 badly_suffixed = refl
 
--- TEXTS OF DECIMALS, at the limits of 32 bits
+-- TEXTS OF DECIMALS (Open Information Model 1.0), at the limits of 32 bits.
 accuracies :
     map accuracy_of (codes "INF" ∷ codes "0" ∷ codes "+2" ∷ codes "2147483647" ∷ codes "-2147483648" ∷ codes "0000000000000000000007" ∷ [])
     ≡ Some Infinite ∷ Some (Places (pos 0)) ∷ Some (Places (pos 2)) ∷ Some (Places (pos 2_147_483_647)) ∷ Some (Places (negsuc 2_147_483_647)) ∷ Some (Places (pos 7)) ∷ []

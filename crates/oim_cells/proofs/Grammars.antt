@@ -1,4 +1,4 @@
--- The tests of the grammars answer as the grammars do.
+-- The tests of the grammars agree with the grammars.
 use Rattle.std.proofs.Common.{◌≡◌, ◌⊎◌, inl, inr, ℕ, ◌+◌, ◌<◌, ◌==◌, ◌||◌, nat_lt, List, [], ◌∷◌, ◌++◌, refl, sym, ap, subst, ◌∙◌, arith, length, append_assoc, codes}
 use Rattle.std.proofs.Common.{true, None, Some, ℤ, pos, negsuc, FitsSigned}
 use Rattle.std.specs.Bool.{Decides}
@@ -25,7 +25,7 @@ digits_Decides s = Decides-and (nat_lt 0 (length s)) (all_ascii_digits s) (Decid
 pub integer_Decides : (s : List ℕ) → Decides (is_integer_text s) (IsInteger s)
 integer_Decides s = digits_Decides (without_leading_sign s)
 
--- a point taken out
+-- A text without its first point.
 point_cases : (s : List ℕ) → (without_point s ≡ s) ⊎ ((before : List ℕ) × (after : List ℕ) × (s ≡ before ++ 46 ∷ after) × (without_point s ≡ before ++ after))
 point_cases [] = inl refl
 point_cases (c ∷ s) =
@@ -81,7 +81,7 @@ decimal_Decides s =
     let d = digits_Decides (without_point u) in
     (λ t. pointed_from u (d.0 t), λ i. d.1 (pointed_to u i))
 
--- the parts at a first mark
+-- The parts at a first mark.
 pub parts_at-mark : (m : ℕ) (s t : List ℕ) → Lacks m s → parts_at m (s ++ m ∷ t) ≡ Some (s, t)
 parts_at-mark m [] t l = rw (eq-eqb m m refl) refl
 parts_at-mark m (c ∷ s) t l = rw (ne_eqb c m l.0, parts_at-mark m s t l.1) refl

@@ -7,7 +7,7 @@ use Rattle.std.specs.Str.Parse.{AllDigits, without_leading_sign}
 use Rattle.oim_cells.specs.Numeral.{IsInteger, IsDecimal, IsPointed, pointed}
 use Rattle.oim_cells.proofs.Digits.{digits_all}
 
--- the mark does not stand in the text
+-- The text does not contain the mark.
 abbrev pub Lacks : ℕ → List ℕ → Type 0
 Lacks m s = AllByRecursion (λ c. c ≢ m) s
 
@@ -29,7 +29,7 @@ tail_same e = ap (drop 1) e
 head_same : {s t : List ℕ} {a b : ℕ} → a ∷ s ≡ b ∷ t → a ≡ b
 head_same e = ap (λ s. get_or s 0 0) e
 
--- there is one first mark
+-- The first mark is unique.
 pub first_mark : (m : ℕ) (s t s₂ t₂ : List ℕ) → Lacks m s → Lacks m s₂ → s ++ m ∷ t ≡ s₂ ++ m ∷ t₂ → (s ≡ s₂) × (t ≡ t₂)
 first_mark m [] t [] t₂ h k e = (refl, tail_same e)
 first_mark m [] t (c ∷ s₂) t₂ h k e = absurd (k.0 (sym (head_same e)))
@@ -46,7 +46,7 @@ pub digits_lack : (m : ℕ) (s : List ℕ) → (57 < m) ⊎ (m < 48) → AllDigi
 digits_lack m [] h d = tt
 digits_lack m (c ∷ s) h d = (digit_is_not m c h d.0, digits_lack m s h d.1)
 
--- what a pointed text is made of
+-- The parts of a pointed text.
 pub of_pointed : {s : List ℕ} → IsPointed s → (before : List ℕ) × (after : List ℕ) × (s ≡ before ++ 46 ∷ after) × AllDigits 10 before × AllDigits 10 after × (0 < length before + length after)
 of_pointed (pointed b a d e n) = (b, a, append_assoc b (codes ".") a, d, e, n)
 

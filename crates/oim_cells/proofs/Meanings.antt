@@ -1,4 +1,4 @@
--- The function of meanings gives what the table says.
+-- The function of meanings agrees with the table.
 use Rattle.std.proofs.Common.{◌≡◌, ◌≢◌, ℕ, List, [], ◌∷◌, refl, sym, ap, codes, false, nat_eq}
 use Rattle.std.specs.List.{starts_with}
 use Rattle.std.specs.Str.{bytes_eq}

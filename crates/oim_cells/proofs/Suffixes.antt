@@ -1,4 +1,4 @@
--- How a numeral and its suffix are taken apart.
+-- The parts of a numeral with its suffix.
 use Rattle.std.proofs.Common.{◌≡◌, ◌⊎◌, inl, inr, ℕ, List, ◌∷◌, ◌++◌, refl, sym, subst, ◌∙◌, arith, append_assoc, codes, Option, Some, None}
 use Rattle.oim_cells.specs.declared.cells.Accuracy.{Accuracy}
 use Rattle.oim_cells.specs.declared.cells.NumberKind.{NumberKind}
@@ -21,7 +21,7 @@ pub of_split : {kind : NumberKind} {s v : List ℕ} {a : Option Accuracy} → Is
 of_split (suffixed kind v d accuracy n i) = inl (d, accuracy, append_assoc v (codes "d") d, n, i, refl)
 of_split (bare kind v n) = inr (refl, n, refl)
 
--- the splitting of a text that has the mark
+-- The split of a text that has the mark.
 pub split_at : (kind : NumberKind) (s v d : List ℕ) → s ≡ v ++ 100 ∷ d → Lacks 100 v → (w : List ℕ) (a : Option Accuracy) → IsSplit kind s w a
     → (v ≡ w) × IsNumeralOf kind v × ((accuracy : Accuracy) × IsDecimals d accuracy × (a ≡ Some accuracy))
 split_at kind s v d e l w a p =
@@ -31,7 +31,7 @@ split_at kind s v d e l w a p =
       | inr i ↦ absurd (lacks_not 100 v d (subst (Lacks 100) (sym i.0 ∙ e) (numeral_lacks kind w i.1)))
     ]
 
--- and of one that lacks it
+-- The split of a text that does not have the mark.
 pub split_bare : (kind : NumberKind) (s : List ℕ) → Lacks 100 s → (w : List ℕ) (a : Option Accuracy) → IsSplit kind s w a → (s ≡ w) × IsNumeralOf kind s × (a ≡ None)
 split_bare kind s l w a p =
     elim (of_split p) [ inl i ↦ absurd (lacks_not 100 w i.0 (subst (Lacks 100) i.2 l)) | inr i ↦ (i.0, subst (IsNumeralOf kind) (sym i.0) i.1, i.2) ]

@@ -1,4 +1,4 @@
--- The functions of `specs.Cells` give what the relations say.
+-- The functions of `specs.Cells` agree with the relations.
 use Rattle.std.proofs.Common.{◌≡◌, ◌↔◌, ◌⊎◌, inl, inr, ℕ, ◌&&◌, List, ◌∷◌, ◌++◌, refl, sym, ap, subst, ◌∙◌, arith, append_assoc, codes, Bool, true, false, cond, Option, None, Some, FitsSigned}
 use Rattle.std.specs.Borrow.{Bor}
 use Rattle.std.specs.Prelude.{IfSome, IsSomeAnd}
@@ -17,7 +17,7 @@ use Rattle.oim_cells.specs.Cells.{accuracy_of, numeral_at, numeral_of, seen_nume
 use Rattle.oim_cells.proofs.Suffixes.{numeral_lacks}
 use Rattle.oim_cells.proofs.Grammars.{integer_Decides, numeral_Decides, places_Decides, parts_at-mark, parts_at-none, parts_cases}
 
--- two answers of which the same is true are the same
+-- Two answers with the same values are the same.
 pub same_answer : {X : Type 0} (o p : Option X) → ((x : X) → (o ≡ Some x) ↔ (p ≡ Some x)) → o ≡ p
 same_answer None None h = refl
 same_answer None (Some y) h = (h y).1 refl
@@ -68,7 +68,7 @@ accuracy_to (places t i f) = accuracy_by t false true (not_infinite t i) (when_p
 pub accuracy_law : (t : List ℕ) (a : Accuracy) → (accuracy_of t ≡ Some a) ↔ IsDecimals t a
 accuracy_law t a = (accuracy_from t a, accuracy_to)
 
--- a text that is not one states nothing
+-- A text that is not of the grammar states nothing.
 pub no_accuracy : (t : List ℕ) → ((a : Accuracy) → IsDecimals t a → ⊥) → None ≡ accuracy_of t
 no_accuracy t n = same_answer None (accuracy_of t) (λ a. (λ e. absurd (cc), λ e. absurd (n a (accuracy_from t a e))))
 
@@ -115,7 +115,7 @@ pub numeral_law : (kind : NumberKind) (text v : List ℕ) (a : Option Accuracy) 
 unfolding numeral_of
 numeral_law kind text v a = (numeral_from kind (trimmed text) v a, numeral_to)
 
--- an answer of a program that is one splitting and the only one
+-- The program's answer is a split, and the only one.
 pub numeral_seen : (kind : NumberKind) (text s : List ℕ) (o : Option (Bor (List ℕ) × Option Accuracy)) → s ≡ trimmed text → IfSome o (λ r. IsSplit kind s r.0.now r.1)
     → ((v : List ℕ) (a : Option Accuracy) → IsSplit kind s v a → IsSomeAnd o (λ r. (r.0.now ≡ v) × (r.1 ≡ a))) → option_map seen_numeral o ≡ numeral_of kind text
 numeral_seen kind text s None e h k =

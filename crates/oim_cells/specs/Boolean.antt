@@ -1,4 +1,5 @@
--- The boolean values (XML Schema Part 2, second edition: the lexical forms of boolean), as a table and as a test.
+-- The boolean values (XML Schema Part 2, second edition: the lexical forms of boolean), as a table
+-- and as a test.
 use Rattle.std.specs.Prelude.{ℕ, Bool, ◌||◌, List, codes}
 use Rattle.std.specs.Str.{bytes_eq}
 

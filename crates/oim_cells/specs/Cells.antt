@@ -1,5 +1,6 @@
--- What the text of a cell means (xBRL-CSV 1.0, special values), and which numeral and which accuracy a text states (xBRL-CSV 1.0, the
--- decimals suffix of a numeral; Open Information Model 1.0, decimals).
+-- The meaning of a cell's text (xBRL-CSV 1.0, special values). And the numeral and the accuracy
+-- that a text states (xBRL-CSV 1.0, the decimals suffix of a numeral; Open Information Model 1.0,
+-- decimals).
 use Rattle.std.specs.Prelude.{◌≢◌, ℕ, List, [], ◌∷◌, ◌++◌, ◌||◌, ◌&&◌, nat_eq, drop, Option, Some, None, if◌then◌else◌, codes}
 use Rattle.std.specs.Borrow.{Bor}
 use Rattle.std.specs.List.{starts_with}
@@ -14,7 +15,7 @@ use Rattle.oim_cells.specs.declared.cells.CellMeaning.TheVariants as seen
 use Rattle.oim_cells.specs.Blanks.{trimmed}
 use Rattle.oim_cells.specs.Numeral.{is_integer_text, is_in_places, is_numeral_text, parts_at}
 
--- what a text means
+-- The meanings.
 pub data Meaning : Type 0 where
   Absent : Meaning
   Nil : Meaning
@@ -22,11 +23,11 @@ pub data Meaning : Type 0 where
   Text : List ℕ → Meaning
   Unknown : Meaning
 
--- what follows the `#` of a text that is neither a special value nor begins with two `#`
+-- The text after the `#` of a text that is not a special value and does not begin with two `#`.
 abbrev pub IsOther : List ℕ → Type 0
 IsOther rest = (rest ≢ codes "none") × (rest ≢ codes "nil") × (rest ≢ codes "empty") × ((more : List ℕ) → rest ≢ codes "#" ++ more)
 
--- the text means this, as a table
+-- The text has this meaning, as a table.
 pub data Means : List ℕ → Meaning → Type 0 where
   nothing : Means [] Absent
   none : Means (codes "#none") Absent
@@ -36,7 +37,7 @@ pub data Means : List ℕ → Meaning → Type 0 where
   other : (rest : List ℕ) → IsOther rest → Means (codes "#" ++ rest) Unknown
   plain : (first : ℕ) (rest : List ℕ) → first ≢ 35 → Means (first ∷ rest) (Text (first ∷ rest))
 
--- the same table as a function; the contract of `meaning` says that they agree
+-- The same table as a function. The contract of `meaning` states that they agree.
 unfoldable pub meaning_of : List ℕ → Meaning
 meaning_of t =
     if bytes_eq t [] || bytes_eq t (codes "#none") then Absent
@@ -46,7 +47,7 @@ meaning_of t =
     else if starts_with nat_eq t (codes "#") then Unknown
     else Text t
 
--- a meaning, as a program holds it
+-- The program's meaning of a cell as a meaning of the table.
 abbrev pub seen_meaning : CellMeaning → Meaning
 seen_meaning seen.Absent = Absent
 seen_meaning seen.Nil = Nil
@@ -54,24 +55,25 @@ seen_meaning seen.Empty = Empty
 seen_meaning (seen.Text t) = Text t.now
 seen_meaning seen.Unknown = Unknown
 
--- the accuracy that a text of decimals states, as a function; the contract of `decimals` says that it agrees with `IsDecimals`
+-- The accuracy that a text of decimals states, as a function. The contract of `decimals` states
+-- that it agrees with `IsDecimals`.
 unfoldable pub accuracy_of : List ℕ → Option Accuracy
 accuracy_of t =
     if bytes_eq t (codes "INF") then Some Infinite
     else if is_integer_text t && is_in_places (signed_digits_value 10 t) then Some (Places (signed_digits_value 10 t))
     else None
 
--- the numeral of a text, by the parts before and behind its first `d`: the part before is the numeral, and the part behind states its
--- accuracy. Without a `d` the whole text is the numeral
+-- The numeral of a text, by the parts before and after its first `d`. The part before is the
+-- numeral, and the part after states its accuracy. Without a `d` the whole text is the numeral.
 abbrev pub numeral_at : NumberKind → List ℕ → Option (List ℕ × List ℕ) → Option (List ℕ × Option Accuracy)
 numeral_at kind t None = if is_numeral_text kind t then Some (t, None) else None
 numeral_at kind t (Some p) = if is_numeral_text kind p.0 then option_map (λ a. (p.0, Some a)) (accuracy_of p.1) else None
 
--- the numeral that a text writes between the blanks at its ends, and the accuracy that it states, as a function; the contract of
--- `split_numeral` says that it agrees with `IsSplit`
+-- The numeral that a text writes between the blanks at its ends, and the accuracy that it states,
+-- as a function. The contract of `split_numeral` states that it agrees with `IsSplit`.
 unfoldable pub numeral_of : NumberKind → List ℕ → Option (List ℕ × Option Accuracy)
 numeral_of kind text = let t = trimmed text in numeral_at kind t (parts_at 100 t)
 
--- a numeral and its accuracy, as a program holds them
+-- The program's pair of a numeral and its accuracy, as bytes.
 abbrev pub seen_numeral : Bor (List ℕ) × Option Accuracy → List ℕ × Option Accuracy
 seen_numeral p = (p.0.now, p.1)

@@ -3,14 +3,14 @@
 ghost use Rattle.std.specs.Prelude.{◌≡◌, ◌<◌, length, MatchOption};
 ghost use Rattle.oim_cells.specs.Blanks.{is_blank as is_blank_byte, without_front, without_back, trimmed as without_blanks};
 
-/// Whether the byte is a space, a tab, a carriage return or a line feed.
+/// Returns whether the byte is a space, a tab, a carriage return or a line feed.
 fn is_blank(byte: u8) -> bool
     ensures { result ≡ is_blank_byte byte }
 {
     matches!(byte, b' ' | b'\t' | b'\r' | b'\n')
 }
 
-/// A text without a blank at its front, or without more of them. `None` where it does not begin with a blank.
+/// Returns the text without its first byte if that is a blank, else `None`.
 fn after_blank(text: &str) -> Option<&str>
     ensures { MatchOption result (without_front text.now ≡ text.now)
         (λ r. (without_front text.now ≡ without_front r.now) × (length r.now < length text.now)) }
@@ -21,7 +21,7 @@ fn after_blank(text: &str) -> Option<&str>
     }
 }
 
-/// A text without a blank at its end, or without more of them. `None` where it does not end with a blank.
+/// Returns the text without its last byte if that is a blank, else `None`.
 fn before_blank(text: &str) -> Option<&str>
     ensures { MatchOption result (without_back text.now ≡ text.now)
         (λ r. (without_back text.now ≡ without_back r.now) × (length r.now < length text.now)) }
@@ -32,7 +32,7 @@ fn before_blank(text: &str) -> Option<&str>
     }
 }
 
-/// The text without the blanks at its front.
+/// Returns the text without the blanks at its start.
 fn trim_front(text: &str) -> &str
     ensures { result.now ≡ without_front text.now }
 {
@@ -43,7 +43,7 @@ fn trim_front(text: &str) -> &str
     trimmed
 }
 
-/// The text without the blanks at its end.
+/// Returns the text without the blanks at its end.
 fn trim_back(text: &str) -> &str
     ensures { result.now ≡ without_back text.now }
 {
@@ -54,9 +54,8 @@ fn trim_back(text: &str) -> &str
     trimmed
 }
 
-/// The text without the spaces, tabs, carriage returns and line feeds at both ends (XML 1.0 fifth edition, white space).
-///
-/// The answer is a part of `text`. It takes no memory.
+/// Returns the text without the spaces, tabs, carriage returns and line feeds at both ends (XML 1.0
+/// fifth edition, white space).
 pub fn trimmed(text: &str) -> &str
     ensures { result.now ≡ without_blanks text.now }
 {

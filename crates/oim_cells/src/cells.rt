@@ -3,7 +3,7 @@
 ghost use Rattle.std.specs.Prelude.{◌≡◌, ◌↔◌};
 ghost use Rattle.oim_cells.specs.Cells.{Meaning, Means, meaning_of, seen_meaning};
 
-/// What a text means as a cell, a parameter or a literal.
+/// The meaning of a text as a cell, a parameter or a literal.
 #[derive(Clone, Copy, Debug, PartialEq, Eq)]
 pub enum CellMeaning<'a> {
     /// Nothing is reported: the empty text or `#none`.
@@ -12,7 +12,7 @@ pub enum CellMeaning<'a> {
     Nil,
     /// The empty text as a value: `#empty`.
     Empty,
-    /// A value: the text itself, or without its first `#` where it begins with two.
+    /// A value: the text itself, or without its first `#` if it begins with two.
     Text(&'a str),
     /// A text that begins with a single `#` and is not a special value.
     Unknown,
@@ -29,7 +29,7 @@ pub enum NumberKind {
     Double,
 }
 
-/// How exact a number is.
+/// The accuracy of a number.
 #[derive(Clone, Copy, Debug, PartialEq, Eq)]
 pub enum Accuracy {
     /// Exact: `INF`.
@@ -38,11 +38,11 @@ pub enum Accuracy {
     Places(i32),
 }
 
-/// The meaning of a text (xBRL-CSV 1.0, special values).
+/// Returns the meaning of a text (xBRL-CSV 1.0, special values).
 ///
-/// The empty text and `#none` are `Absent`, `#nil` is `Nil`, and `#empty` is `Empty`. A text that begins with `##` is `Text`
-/// without its first `#`. Any other text that begins with `#` is `Unknown`, and every other text is `Text` as it is. It takes
-/// no memory.
+/// The empty text and `#none` are `Absent`, `#nil` is `Nil`, and `#empty` is `Empty`. A text that
+/// begins with `##` is `Text` without its first `#`. Any other text that begins with `#` is
+/// `Unknown`, and every other text is `Text` as it is.
 pub fn meaning(text: &str) -> CellMeaning<'_>
     ensures means { (m : Meaning) → Means text.now m ↔ (m ≡ seen_meaning result) }
     ensures value { seen_meaning result ≡ meaning_of text.now }

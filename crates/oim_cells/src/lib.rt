@@ -1,16 +1,20 @@
-//! What the text of a cell, a parameter or a literal means in xBRL-CSV 1.0 and the Open Information Model 1.0.
+//! The meaning of a cell's, parameter's or literal's text in xBRL-CSV 1.0 and the Open Information
+//! Model 1.0.
 //!
 //! What is proved, for every text:
 //!
-//! - [`meaning`] tells the special values (`#none`, `#nil`, `#empty`, a doubled `#`) from plain text. Each text has one meaning.
-//! - [`split_numeral`] gives the numeral that a text writes between the blanks at its ends, and the decimals behind it, as in
-//!   `1250.5d-2`, exactly where it writes one. No text is split in two ways.
-//! - [`decimals`] gives `Infinite` or a number of places exactly where the text says so.
-//! - [`is_boolean`] is true exactly of the four boolean values, and [`trimmed`] takes the blanks off both ends of a text.
+//! - [`meaning`] separates the special values (`#none`, `#nil`, `#empty`, a doubled `#`) from plain
+//!   text. Each text has one meaning.
+//! - [`split_numeral`] returns the numeral between the blanks at a text's ends, and the decimals
+//!   after it, as in `1250.5d-2`, exactly if the text writes a numeral. No text can be split in two
+//!   ways.
+//! - [`decimals`] returns `Infinite` or a number of places exactly if the text states it.
+//! - [`is_boolean`] accepts exactly the four boolean values, and [`trimmed`] removes the blanks at
+//!   both ends of a text.
 //!
 //! The calls take no memory and never fail.
 //!
-//! A call:
+//! Example:
 //!
 //! ```
 //! /// A number and the places that its suffix states.

@@ -13,10 +13,11 @@ ghost use Rattle.oim_cells.specs.Numeral.{IsDecimals, IsInteger, IsDecimal, IsDo
 use crate::blanks;
 use crate::cells::{Accuracy, NumberKind};
 
-/// The accuracy that a text of decimals states (Open Information Model 1.0, decimals).
+/// Returns the accuracy that a text of decimals states (Open Information Model 1.0, decimals).
 ///
-/// `INF` gives `Infinite`. An optional `+` or `-` and one or more digits give that number of `Places`, if it is from
-/// -2147483648 to 2147483647. Leading zeros do not count. Any other text gives `None`. It takes no memory.
+/// `INF` gives `Infinite`. An optional `+` or `-` and one or more digits give that number of
+/// `Places`, if it is from -2147483648 to 2147483647. Leading zeros do not count. Any other text
+/// gives `None`.
 pub fn decimals(text: &str) -> Option<Accuracy>
     ensures means { (a : Decimals) → (result ≡ Some a) ↔ IsDecimals text.now a }
     ensures value { result ≡ accuracy_of text.now }
@@ -30,7 +31,7 @@ pub fn decimals(text: &str) -> Option<Accuracy>
     }
 }
 
-/// The text without a `+` or `-` in front.
+/// Returns the text without a leading `+` or `-`.
 fn without_sign(text: &str) -> &str
     ensures { result.now ≡ without_leading_sign text.now }
 {
@@ -43,14 +44,14 @@ fn without_sign(text: &str) -> &str
     }
 }
 
-/// Whether all characters are digits.
+/// Returns whether all characters are digits.
 fn are_digits(text: &str) -> bool
     ensures { IsTrue result ↔ All (IsInRange 48 57) text.now }
 {
     text.as_bytes().iter().all(|byte| byte.is_ascii_digit())
 }
 
-/// Whether the text is an optional sign and one or more digits.
+/// Returns whether the text is an optional sign and one or more digits.
 fn is_integer(text: &str) -> bool
     ensures { IsTrue result ↔ IsInteger text.now }
 {
@@ -58,7 +59,8 @@ fn is_integer(text: &str) -> bool
     !digits.is_empty() && are_digits(digits)
 }
 
-/// Whether the text is an optional sign and then digits with at most one point, at least one digit in all.
+/// Returns whether the text is an optional sign and then digits with at most one point, at least
+/// one digit in all.
 fn is_decimal(text: &str) -> bool
     ensures { IsTrue result ↔ IsDecimal text.now }
 {
@@ -69,7 +71,7 @@ fn is_decimal(text: &str) -> bool
     }
 }
 
-/// Whether what stands before a point and what stands behind it are digits, at least one in all.
+/// Returns whether the texts before and after a point have only digits, and at least one in all.
 fn is_pointed(before: &str, after: &str) -> bool
     ensures { IsTrue result ↔ ((0 < length before.now + length after.now)
         × All (IsInRange 48 57) before.now × All (IsInRange 48 57) after.now) }
@@ -77,7 +79,7 @@ fn is_pointed(before: &str, after: &str) -> bool
     !(before.is_empty() && after.is_empty()) && are_digits(before) && are_digits(after)
 }
 
-/// Whether the text is a decimal, with a power of ten or without.
+/// Returns whether the text is a decimal, with or without a power of ten.
 fn is_double(text: &str) -> bool
     ensures { IsTrue result ↔ IsDouble text.now }
 {
@@ -90,14 +92,14 @@ fn is_double(text: &str) -> bool
     }
 }
 
-/// Whether a decimal stands before the mark of a power, and an integer behind it.
+/// Returns whether `front` is a decimal and `back`, the power of ten, is an integer.
 fn has_power(front: &str, back: &str) -> bool
     ensures { IsTrue result ↔ (IsDecimal front.now × IsInteger back.now) }
 {
     is_decimal(front) && is_integer(back)
 }
 
-/// Whether the text is a numeral of the kind.
+/// Returns whether the text is a numeral of the kind.
 fn is_numeral(kind: NumberKind, text: &str) -> bool
     ensures { IsTrue result ↔ IsNumeralOf kind text.now }
 {
@@ -108,7 +110,8 @@ fn is_numeral(kind: NumberKind, text: &str) -> bool
     }
 }
 
-/// The numeral and the accuracy of a text that has no blanks at its ends. `None` where it does not write a numeral.
+/// Splits a text without blanks at its ends into its numeral and its accuracy. Returns `None` if
+/// the text does not write a numeral.
 fn split(kind: NumberKind, text: &str) -> Option<(&str, Option<Accuracy>)>
     ensures numeral { IfSome result (λ r. IsSplit kind text.now r.0.now r.1) }
     ensures only { (v : List ℕ) (a : Option Decimals) → IsSplit kind text.now v a
@@ -128,12 +131,17 @@ fn split(kind: NumberKind, text: &str) -> Option<(&str, Option<Accuracy>)>
     Some((numeral, Some(accuracy)))
 }
 
-/// The numeral that a text writes, and the accuracy that it states (xBRL-CSV 1.0, decimals suffix).
+/// Returns the numeral that a text writes, and the accuracy that it states (xBRL-CSV 1.0, decimals
+/// suffix).
 ///
-/// Spaces, tabs, carriage returns and line feeds at both ends are passed over. Where the rest is a numeral of this kind, the
-/// letter `d` and a text of decimals, as in `1250.5d-2`, the answer is the numeral and what [`decimals`] gives for the text
-/// behind the `d`. Where the rest is a numeral alone, the answer is the numeral and `None`. Any other text gives `None`. No
-/// text can be split in two ways. The numeral is a part of `text`. It takes no memory.
+/// Spaces, tabs, carriage returns and line feeds at both ends are ignored. The rest is one of
+/// these:
+///
+/// - A numeral of this kind, the letter `d` and a text of decimals, as in `1250.5d-2`. Returns the
+///   numeral and what [`decimals`] returns for the text after the `d`.
+/// - Only a numeral of this kind. Returns the numeral and `None`.
+///
+/// Any other text gives `None`. No text can be split in two ways.
 pub fn split_numeral(kind: NumberKind, text: &str) -> Option<(&str, Option<Accuracy>)>
     ensures means { (v : List ℕ) (a : Option Decimals)
         → (option_map seen_numeral result ≡ Some (v, a)) ↔ IsSplit kind (trimmed text.now) v a }

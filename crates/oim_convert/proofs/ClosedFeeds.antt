@@ -5,7 +5,7 @@ use Rattle.std.proofs.lemmas.Option.{slice_get-get_or}
 use Rattle.std.proofs.Common.{get_or}
 use Rattle.oim_convert.specs.Tasks.{Each}
 
--- emptying a place leaves the others as they are
+-- Emptying a place keeps the others.
 pub closed_kept : {X : Type 0} (xs : List (Option X)) (i k : ℕ) (x : X) → slice_get (slice_set xs i None) k ≡ Some (Some x) → slice_get xs k ≡ Some (Some x)
 closed_kept [] i k x e = absurd (cc)
 closed_kept (y ∷ ys) zero zero x e = absurd (cc)

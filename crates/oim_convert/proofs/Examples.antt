@@ -1,4 +1,4 @@
--- The definitions on small worked cases.
+-- The definitions of this crate, executed on worked cases (xBRL-CSV 1.0, xBRL-JSON 1.0).
 use Rattle.std.specs.Prelude.{◌≡◌, ℕ, Bool, true, false, List, [], ◌∷◌, ◌++◌, Option, Some, None, Ok, Err, map}
 use Rattle.std.proofs.Common.{arith, refl, sym, ◌∙◌, codes, inl, inr}
 use Rattle.std.specs.Global.{Vec}
@@ -36,7 +36,7 @@ use Rattle.oim_convert.specs.declared.fault.ConvertFault.TheVariants as fault
 use Rattle.oim_convert.specs.declared.table_task.TableTask.{TableTask}
 use Rattle.oim_convert.specs.declared.table_task.TaskResult.{TaskResult}
 
--- EARLY FAULTS: workers, the ring's size, readers, tables
+-- Early faults: workers, the ring's size, readers, tables.
 
 no_workers : early_fault 0 1 2 2 ≡ Some fault.BadWorkers
 no_workers = refl
@@ -62,7 +62,7 @@ workers_come_first = refl
 size_comes_second : early_fault 1 65537 1 2 ≡ Some fault.BadSize
 size_comes_second = refl
 
--- THE FAULTS' NUMBERS AND NAMES
+-- The faults' numbers and names.
 
 numbers : map number_of (fault.BadWorkers ∷ fault.BadSize ∷ fault.WrongReaders ∷ fault.Memory ∷ fault.Lost ∷ fault.Write write.Zero ∷ []) ≡ 50 ∷ 51 ∷ 52 ∷ 53 ∷ 54 ∷ 56 ∷ []
 numbers = refl
@@ -77,7 +77,7 @@ tables_number faults = refl
 tables_name : (faults : _) → name_of (fault.Tables faults) ≡ codes "Tables"
 tables_name faults = refl
 
--- HISTORIES
+-- Histories.
 
 fact : List ℕ → Fact
 fact id = record { id = id; value = None; decimals = None; dimensions = [] }
@@ -91,7 +91,7 @@ second = fact (codes "a.2.x")
 third : Fact
 third = fact (codes "b.1.x")
 
--- a table of two rows without a fault, and one whose second row is ragged
+-- A table of two rows without a fault, and one whose second row is ragged.
 whole : Stream
 whole = record { rows = (first ∷ []) ∷ (second ∷ []) ∷ []; fault = None }
 
@@ -104,12 +104,12 @@ ragged = fault_at 1 2 0 kind.Ragged
 broken : Stream
 broken = record { rows = (third ∷ []) ∷ []; fault = Some ragged }
 
--- both rows in one block
+-- Both rows in one block.
 one_block : IsStream whole (Block (first ∷ second ∷ []) ∷ Ending Closed ∷ [])
 unfolding whole
 one_block = record { before = Block (first ∷ second ∷ []) ∷ []; blocks = refl; holds = refl; is = refl }
 
--- each row in a block of its own
+-- Each row in its own block.
 two_blocks : IsStream whole (Block (first ∷ []) ∷ Block (second ∷ []) ∷ Ending Closed ∷ [])
 unfolding whole
 two_blocks = record { before = Block (first ∷ []) ∷ Block (second ∷ []) ∷ []; blocks = refl; holds = refl; is = refl }
@@ -118,7 +118,7 @@ refused_stream : IsStream broken (Block (third ∷ []) ∷ Ending (Refused ragge
 unfolding broken
 refused_stream = record { before = Block (third ∷ []) ∷ []; blocks = refl; holds = refl; is = refl }
 
--- the reader failed after the first row
+-- The reader failed after the first row.
 unread : IsDecoded 0 whole (Block (first ∷ []) ∷ Ending (Refused (file_fault 0 kind.Read)) ∷ [])
 unfolding whole
 unread = record {
@@ -128,18 +128,18 @@ unread = record {
   is = record { before = Block (first ∷ []) ∷ []; blocks = refl; holds = refl; is = refl };
 }
 
--- the history of a table whose reader failed is cut short
+-- The history of a table whose reader failed is cut short.
 unread_is_cut : IsCut (Block (first ∷ []) ∷ Ending (Refused (file_fault 0 kind.Read)) ∷ [])
 unread_is_cut = record { before = Block (first ∷ []) ∷ []; fault = file_fault 0 kind.Read; outside = inl refl; is = refl }
 
--- there was no thread for two tables
+-- No thread could be made for two tables.
 unserved : AreUnserved 0 (whole ∷ broken ∷ []) ((Ending (Refused (file_fault 0 kind.NoThread)) ∷ []) ∷ (Ending (Refused (file_fault 1 kind.NoThread)) ∷ []) ∷ [])
 unserved = (refl, (refl, tt))
 
 both : AreStreams (whole ∷ broken ∷ []) ((Block (first ∷ second ∷ []) ∷ Ending Closed ∷ []) ∷ (Block (third ∷ []) ∷ Ending (Refused ragged) ∷ []) ∷ [])
 both = (one_block, (refused_stream, tt))
 
--- STREAMS: three tables without a file, the second of which is optional
+-- Streams: three tables without a file, the second of which is optional.
 
 table_without_file : Bool → Table
 table_without_file is_optional = record { id = codes "t"; url = codes "t.csv"; is_optional = is_optional; template = 0; parameters = [] }
@@ -162,7 +162,7 @@ without_files : streams three_tables 10 (None ∷ None ∷ None ∷ []) ≡ miss
 unfolding three_tables table_without_file missing
 without_files = refl
 
--- ANSWERS: the second table of three is refused, and the fourth too
+-- Answers: the second table of three is refused, and the fourth too.
 
 late : TableFault
 late = fault_at 3 0 1 kind.UnknownHeader
@@ -174,7 +174,7 @@ answered : facts_before (all_of (histories_of (whole ∷ broken ∷ whole ∷ un
 unfolding whole broken unread_header
 answered = refl
 
--- each refused table's fault, in table order
+-- Each refused table's fault, in table order.
 answered_faults : refusals (all_of (histories_of (whole ∷ broken ∷ whole ∷ unread_header ∷ []))) ≡ ragged ∷ late ∷ []
 unfolding whole broken unread_header
 answered_faults = refl
@@ -183,7 +183,7 @@ no_faults : refusals (all_of (histories_of (whole ∷ whole ∷ []))) ≡ []
 unfolding whole
 no_faults = refl
 
--- the document is the head and the facts up to the refusal, without a tail
+-- The document is the head and the facts up to the refusal, without a tail.
 unfinished_document : (l : Layout) → document l (codes "head") ((Block (first ∷ second ∷ []) ∷ Ending Closed ∷ []) ∷ (Block (third ∷ []) ∷ Ending (Refused ragged) ∷ []) ∷ [])
     ≡ text_after l (codes "head") (first ∷ second ∷ third ∷ []) ++ []
 unfinished_document l = refl
@@ -191,7 +191,8 @@ unfinished_document l = refl
 finished_document : (l : Layout) → document l (codes "head") ((Block (first ∷ []) ∷ Ending Closed ∷ []) ∷ (Ending Closed ∷ []) ∷ []) ≡ text_after l (codes "head") (first ∷ []) ++ tail_text l
 finished_document l = refl
 
--- a report of two rows in lines: a line feed directly after the head, after each comma and before the closing braces
+-- A report of two rows in lines: a line feed directly after the head, after each comma and before
+-- the closing braces.
 two_rows_in_lines : document Lines (codes "{") (histories_of (whole ∷ [])) ≡ codes "{\n\"a.1.x\":{\"dimensions\":{},\"value\":null},\n\"a.2.x\":{\"dimensions\":{},\"value\":null}\n}}\n"
 unfolding whole first second fact members member_text decimals_text dimension_text value_text quoted escaped_byte
 two_rows_in_lines = refl
@@ -200,39 +201,39 @@ two_rows_compact : document Compact (codes "{") (histories_of (whole ∷ [])) �
 unfolding whole first second fact members member_text decimals_text dimension_text value_text quoted escaped_byte
 two_rows_compact = refl
 
--- a report without tables
+-- A report without tables.
 no_tables_in_lines : document Lines (codes "{") (histories_of []) ≡ codes "{\n}}\n"
 unfolding members
 no_tables_in_lines = refl
 
--- the first table has a bad header: only the head, in each layout
+-- The first table has a bad header: only the head is written, in each layout.
 first_refused : (l : Layout) → document l (codes "{") (histories_of (unread_header ∷ whole ∷ [])) ≡ codes "{"
 unfolding unread_header members
 first_refused l = refl
 
--- the second table is refused after a row of its own: nothing follows its last member
+-- The second table is refused after its first row: nothing follows its last member.
 second_refused_in_lines : document Lines (codes "{") (histories_of (one_row ∷ broken ∷ [])) ≡ codes "{\n\"a.1.x\":{\"dimensions\":{},\"value\":null},\n\"b.1.x\":{\"dimensions\":{},\"value\":null}"
 unfolding one_row broken first third fact members member_text decimals_text dimension_text value_text quoted escaped_byte
 second_refused_in_lines = refl
 
--- two tables without a thread are two faults
+-- Two tables without a thread are two faults.
 unserved_faults : refusals (all_of ((Ending (Refused (file_fault 0 kind.NoThread)) ∷ []) ∷ (Ending (Refused (file_fault 1 kind.NoThread)) ∷ [])
     ∷ [])) ≡ file_fault 0 kind.NoThread ∷ file_fault 1 kind.NoThread ∷ []
 unserved_faults = refl
 
--- IDENTIFIERS
+-- Identifiers.
 
--- three facts before the refusal, each with an identifier of its own
+-- Three facts before the refusal, each with its own identifier.
 own_ids : WriteOwnIds (histories_of (whole ∷ broken ∷ whole ∷ []))
 unfolding IsDistinct whole broken first second third fact
 own_ids = ((refl, (refl, tt)), ((refl, tt), (tt, tt)))
 
--- two tables with one fact
+-- Two tables with one fact.
 repeated_id : WriteOwnIds (histories_of (whole ∷ one_row ∷ [])) → ⊥
 unfolding IsDistinct whole one_row first second fact
 repeated_id own = let e : true ≡ false = own.0.1.0 in cc
 
--- answers that are never given
+-- Answers that are never given.
 module _ (l : Layout) (report : ReportValue) (old new : SinkView) where
   not_the_first_alone : IsAnswer l report (whole ∷ broken ∷ unread_header ∷ []) old new (ragged ∷ []) end.Refused → ⊥
   unfolding whole broken unread_header
@@ -241,7 +242,7 @@ module _ (l : Layout) (report : ReportValue) (old new : SinkView) where
   not_complete : IsAnswer l report (whole ∷ broken ∷ []) old new (ragged ∷ []) end.Complete → ⊥
   not_complete answer = let e = answer.1.0 in cc
 
--- WRITING
+-- Writing.
 
 module _ (old new : SinkView) where
   keeps_the_mark : Leaves old old (Ok tt)
@@ -250,7 +251,7 @@ module _ (old new : SinkView) where
   never_lost_on_one_thread : Leaves old new (Err fault.Lost) → ⊥
   never_lost_on_one_thread leaves = leaves
 
--- TABLES THAT ONE THREAD READS
+-- Tables that one thread reads.
 
 fault_of_its_own : IsEndingOf 1 (Refused ragged) × IsEndingOf 1 Closed
 unfolding ragged
@@ -260,7 +261,7 @@ fault_of_another_table : IsEndingOf 0 (Refused ragged) → ⊥
 unfolding ragged
 fault_of_another_table own = omega (arith, own)
 
--- readers that do not tell their bytes
+-- Readers whose bytes contracts do not see.
 abbrev silent : ℕ → Option (List ℕ)
 silent reader = None
 
@@ -268,7 +269,7 @@ untold : (limit table reader : ℕ) (history : List Item) → IsKept silent thre
 untold limit table reader history None told = absurd told
 untold limit table reader history (Some bytes) told = absurd (cc)
 
--- any facts, and a fault of the table
+-- Any facts, and a fault of the table.
 any_facts : IsRead silent three_tables 10 1 (Some 7) (Block (third ∷ []) ∷ Ending (Refused ragged) ∷ [])
 unfolding ragged
 any_facts = record {
@@ -279,7 +280,7 @@ any_facts = record {
   kept = untold 10 1 7 (Block (third ∷ []) ∷ Ending (Refused (fault_at 1 2 0 kind.Ragged)) ∷ []);
 }
 
--- a table that has no file, and is not optional: this fault alone
+-- A table without a file that is not optional: only this fault.
 no_file_kept : IsKept silent three_tables 10 true 0 None (Ending (Refused (file_fault 0 kind.NoFile)) ∷ [])
 unfolding three_tables table_without_file
 no_file_kept None told = record {
@@ -299,7 +300,7 @@ no_file_read = record {
   kept = no_file_kept;
 }
 
--- the two, in table order
+-- The two histories, in table order.
 two_read : AreRead silent three_tables 10 0 (None ∷ Some 7 ∷ []) ((Ending (Refused (file_fault 0 kind.NoFile)) ∷ []) ∷ (Block (third ∷ []) ∷ Ending (Refused ragged) ∷ []) ∷ [])
 two_read = (no_file_read, (any_facts, tt))
 
@@ -307,7 +308,7 @@ one_history_for_each_reader :
     (AreRead silent three_tables 10 0 (None ∷ []) [] → ⊥) × (AreRead silent three_tables 10 0 [] ((Ending Closed ∷ []) ∷ []) → ⊥)
 one_history_for_each_reader = (λ read. read, λ read. read)
 
--- their document is the head alone, and each has its fault
+-- Their document is only the head, and each has its fault.
 module _ (l : Layout) (old new : SinkView) (faults : Vec TableFault) where
   two_refused : faults.items ≡ file_fault 0 kind.NoFile ∷ ragged ∷ [] → Wrote old new (text_after l (head_text three_tables) [] ++ [])
       → WritesAlone silent l three_tables 10 (None ∷ Some 7 ∷ []) old new (Err (fault.Tables faults))
@@ -325,7 +326,7 @@ module _ (l : Layout) (old new : SinkView) (faults : Vec TableFault) where
   never_lost_alone : WritesAlone silent l three_tables 10 [] old new (Err fault.Lost) → ⊥
   never_lost_alone writes = writes
 
--- TABLES AND RECEIPTS
+-- Tables and results.
 
 faults_of_the_second : AreBelow 2 (ragged ∷ [])
 unfolding ragged
@@ -338,7 +339,7 @@ fault_of_no_table below = omega (arith, below.0)
 task_result : ℕ → ClosedView → TaskResult
 task_result table closed = record { table = table; closed = Some closed }
 
--- results in any order fill the closed feeds in table order
+-- Results in any order fill the closed feeds in table order.
 results_in_table_order : (a b : ClosedView) → placed (task_result 1 b ∷ task_result 0 a ∷ []) (None ∷ None ∷ None ∷ []) ≡ Some a ∷ Some b ∷ None ∷ []
 unfolding task_result
 results_in_table_order a b = refl

@@ -1,5 +1,5 @@
--- What a conversion on threads makes beforehand, and how many faults of tables an answer may have, on small worked cases. A vector is told
--- by its items and by how many it has room for.
+-- The preparation of a conversion on threads, and the count of faults of an answer, on worked
+-- cases. A vector is given by its items and its capacity.
 use Rattle.std.specs.Prelude.{◌≡◌, ℕ, List, [], ◌∷◌, Some, None, Ok, Err, All, length, vec_capacity, vec_len}
 use Rattle.std.specs.Global.{Vec}
 use Rattle.std.proofs.Common.{arith, sym, ◌∙◌, refl}
@@ -27,7 +27,7 @@ use Rattle.oim_convert.specs.declared.returning.ReturnRoom.{ReturnRoom}
 use Rattle.oim_convert.specs.declared.scope.Unmerged.{Unmerged}
 use Rattle.oim_crew.specs.declared.worker.Station.{Station}
 
--- WORKERS: 1 to 64
+-- Workers: 1 to 64.
 least_and_most_workers : IsWorkerCount 1 × IsWorkerCount 64
 least_and_most_workers = ((omega arith, omega arith), (omega arith, omega arith))
 
@@ -37,7 +37,7 @@ no_workers count = omega (arith, count.0)
 too_many_workers : IsWorkerCount 65 → ⊥
 too_many_workers count = omega (arith, count.1)
 
--- FAULTS OF TABLES: at most so many
+-- Faults of tables: at most `most`.
 module _ (faults : Vec TableFault) where
   two_of_two : length faults.items ≡ 2 → AreFew 2 (Err (fault.Tables faults))
   two_of_two two = omega (arith, two)
@@ -45,18 +45,18 @@ module _ (faults : Vec TableFault) where
   two_of_one : length faults.items ≡ 2 → AreFew 1 (Err (fault.Tables faults)) → ⊥
   two_of_one two few = omega (arith, two, few)
 
--- every other answer has no fault of a table
+-- Every other answer has no fault of a table.
 others_have_none : AreFew 0 (Ok tt) × AreFew 0 (Err (fault.Write write.Zero)) × AreFew 0 (Err fault.WrongReaders) × AreFew 0 (Err fault.Memory)
 others_have_none = (tt, tt, tt, tt)
 
--- RUNS: the only fault of a conversion that ran is Lost
+-- Runs: the only fault of a conversion that ran is Lost.
 ran_or_lost : HasRun (Err fault.Lost)
 ran_or_lost = tt
 
 no_memory_for_a_run : HasRun (Err fault.Memory) → ⊥
 no_memory_for_a_run none = none
 
--- ROOM FOR WHAT COMES BACK, here of two tables and three workers
+-- Room for the end, here of two tables and three workers.
 module _ {R : Type 0} (room : ReturnRoom R) where
   room_for_two :
       room.closed_feeds.items ≡ None ∷ None ∷ [] → room.seats.items ≡ [] → vec_capacity room.seats ≡ 3 → room.settled.items ≡ [] → vec_capacity room.settled ≡ 2
@@ -75,7 +75,7 @@ module _ {R : Type 0} (room : ReturnRoom R) where
   closed_in_use : (closed : ClosedView) → room.closed_feeds.items ≡ None ∷ Some closed ∷ [] → IsReturnRoom 2 3 room → ⊥
   closed_in_use closed used r = let e : None ∷ Some closed ∷ [] ≡ None ∷ None ∷ [] = sym used ∙ r.closed_feeds in cc
 
--- JOBS of two tables, and the drains of their rings
+-- Tasks of two tables, and the drains of their rings.
 abbrev task : {R : Type 0} → TableTask R → ℕ → Ring → List Item → TableTask R
 task some table ring sent = record some { table = table; reader = None; feed = record { ring = ring; size = 4; sent = sent } }
 
@@ -104,11 +104,11 @@ module _ {R : Type 0} (some : TableTask R) (a b : Ring) where
   lane_in_use : IsLane plan 1 (drain b (Ending Closed ∷ [])) → ⊥
   lane_in_use it = let e = it.fresh in cc
 
--- STATIONS of workers that share two items
+-- Stations of workers that share two items.
 abbrev two_items : TableId → Claiming ℕ
 two_items id = record { id = id; items = 5 ∷ 6 ∷ []; workers = 3 }
 
--- a seat that has drawn the first of them
+-- A seat that has drawn the first of them.
 abbrev drawn : TableId → Drawer ℕ
 drawn id = record (fresh (two_items id)) { numbers = 0 ∷ [] }
 
@@ -122,7 +122,7 @@ module _ (id : TableId) (station : Station ℕ TaskResult) where
   has_drawn : station.seat ≡ drawn id → IsStation (two_items id) station → ⊥
   has_drawn seat it = let e : length (drawn id).numbers ≡ length (fresh (two_items id)).numbers = λ i. length ((sym seat ∙ it.0) i).numbers in omega (arith, e)
 
--- CREWS: a station and a flag for each of three workers
+-- Crews: a station and a flag for each of three workers.
 module _ {S T C : Type 0} (id : TableId) (posts : Posts ℕ TaskResult S T C) where
   three_posts :
       All (IsStation (two_items id)) posts.stations.items → vec_len posts.stations ≡ 3 → posts.room.started.items ≡ [] → posts.room.shifts.items ≡ []
@@ -143,11 +143,11 @@ module _ {S T C : Type 0} (id : TableId) (posts : Posts ℕ TaskResult S T C) wh
   no_room_for_shifts : vec_capacity posts.room.shifts ≡ 2 → ArePosts (two_items id) posts → ⊥
   no_room_for_shifts two it = omega (arith, two, it.count, it.room.1)
 
--- a crew with a flag too few
+-- A crew with one flag too few.
 two_flags : {S T C : Type 0} (crew : Crew ℕ TaskResult S T C) → crew.claims.workers ≡ 3 → length crew.stops.items ≡ 2 → IsCrew crew → ⊥
 two_flags crew three two it = omega (arith, three, two, it.stops)
 
--- MERGING: there is room for a fault of each drain, and none was taken from
+-- Merging: there is room for a fault of each drain, and nothing was taken from the drains.
 module _ (ring : Ring) (unmerged : Unmerged) where
   can_merge : IsFresh unmerged.drains.items → unmerged.faults.items ≡ [] → length unmerged.drains.items ≡ 2 → vec_capacity unmerged.faults ≡ 2 → CanMerge unmerged
   can_merge taken none two room = (taken, none, omega (arith, two, room))

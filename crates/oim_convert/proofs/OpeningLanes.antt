@@ -16,7 +16,7 @@ pub get_last : {X : Type 0} (xs : List X) (y : X) → slice_get (xs ++ y ∷ [])
 get_last [] y = refl
 get_last (z ∷ zs) y = get_last zs y
 
--- a plan with one more task keeps its lanes
+-- A plan with one more task keeps its lanes.
 pub lanes_more : {R : Type 0} (plan : List (TableTask R)) (task : TableTask R) (n : ℕ) (drains : List DrainView) → Each (IsLane plan) n drains → Each (IsLane (plan ++ task ∷ [])) n drains
 lanes_more plan task n [] each = tt
 lanes_more plan task n (d ∷ ds) each =

@@ -153,7 +153,7 @@ own_stream : (report : ReportValue) (table limit : ℕ) (rs : List Record) → I
 own_stream report table limit [] = (refl, refl)
 own_stream report table limit (r ∷ rs) = own_under report table limit r rs (header_fault report table r) refl
 
--- the fault of a table's stream names that table, and is not NoThread
+-- The fault of a table's stream names that table, and is not NoThread.
 pub own_table : (report : ReportValue) (table limit : ℕ) (file : Option (List ℕ)) → IsOwn table (table_stream report table limit file).fault
 own_table report table limit None = own_unless (table_of report table).is_optional table kind.NoFile refl
 own_table report table limit (Some bytes) = own_stream report table limit (grid bytes)

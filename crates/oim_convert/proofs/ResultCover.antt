@@ -18,7 +18,7 @@ use Rattle.oim_convert.specs.declared.table_task.TableTask.{TableTask}
 use Rattle.oim_convert.specs.declared.table_task.TaskResult.{TaskResult}
 use Rattle.oim_crew.specs.declared.worker.Shift.{Shift}
 
--- THE NUMBERS THAT THE SEATS HAVE DRAWN
+-- The numbers that the seats have drawn.
 
 either : (b : Bool) → (b ≡ true) ⊎ (b ≡ false)
 either true = inl refl
@@ -56,7 +56,7 @@ module _ {R : Type 0} (told : R → Option (List ℕ)) (report : ReportValue) (l
       (numbers_tables s.seat.numbers s.done.items (All-head IsShiftOf s ss all).served) (drawn_tables ss (All-tail IsShiftOf s ss all))
       ∙ sym (map-append table_of s.done.items (results_of ss))
 
-  -- the results cover the tables as the seats cover the numbers
+  -- The results cover the tables as the seats cover the numbers.
   pub covered : (shifts : List (Shift (TableTask R) TaskResult)) (seats : List (Drawer (TableTask R))) → All IsShiftOf shifts → seats ≡ seats_of shifts
       → EachOnceBelow (length claims.items) (flat_map (λ (seat : Drawer (TableTask R)). seat.numbers) seats) → EachOnceBelow (length claims.items) (tables_promised shifts)
   covered shifts seats all same each =
@@ -100,13 +100,13 @@ module _ {R : Type 0} (told : R → Option (List ℕ)) (report : ReportValue) (l
         ends_seats ss,
       )
 
-  -- if some worker has drawn, its seat has found that none are left
+  -- If some worker has drawn, its seat has found that no item is left.
   pub some_finished : (shifts : List (Shift (TableTask R) TaskResult)) (seats : List (Drawer (TableTask R))) → All IsShiftOf shifts → seats ≡ seats_of shifts
       → list_all (λ (shift : Shift (TableTask R) TaskResult). shift.stopped) shifts ≡ false → 0 < count_by (λ (seat : Drawer (TableTask R)). seat.finished) seats
   some_finished shifts seats all same e =
       subst (λ (l : List (Drawer (TableTask R))). 0 < count_by (λ (seat : Drawer (TableTask R)). seat.finished) l) (sym same) (subst (λ (n : ℕ). 0 < n) (sym (ends_seats shifts)) (some_end shifts all e))
 
--- IF THE END OF A RING WAS LOST
+-- The case that a ring's token was lost.
 
 abbrev IsLost : TaskResult → Type 0
 IsLost token = token.closed ≡ None
@@ -117,7 +117,7 @@ lost_first t ts e = (0, t, omega arith, refl, e)
 lost_later : (t : TaskResult) (ts : List TaskResult) → Any IsLost ts → Any IsLost (t ∷ ts)
 lost_later t ts (k, x, lt, at, e) = (suc k, x, omega arith, at, e)
 
--- a place stays empty if no result is for its table, or becomes empty if the token was lost
+-- A place stays empty if no result is for its table, or becomes empty if the token was lost.
 empty_place : (tokens : List TaskResult) (closed_feeds : List (Option ClosedView)) (n : ℕ) → n < length closed_feeds → get_or (placed tokens closed_feeds) n None ≡ None
     → ((times n (map (λ (t : TaskResult). t.table) tokens) ≡ 0) × (get_or closed_feeds n None ≡ None)) ⊎ Any IsLost tokens
 empty_place [] closed_feeds n lt e = inl (refl, e)
@@ -148,7 +148,7 @@ placed_len (t ∷ ts) closed_feeds = placed_len ts (set closed_feeds t.table t.c
 once_for : (n k : ℕ) → k < n → once_below n k ≡ 1
 once_for n k lt = grind (arith, nat_tests)
 
--- if there is one result for each table, a place is empty only if a token was lost
+-- If there is one result for each table, a place is empty only if a token was lost.
 pub lost_result : (tokens : List TaskResult) (closed_feeds after : List (Option ClosedView)) (n : ℕ) → length closed_feeds ≡ n → after ≡ placed tokens closed_feeds → EachOnceBelow n (map (λ (t : TaskResult). t.table) tokens)
     → Contains after None → Any (λ (t : TaskResult). t.closed ≡ None) tokens
 lost_result tokens closed_feeds after n len is each gap =

@@ -1,4 +1,4 @@
--- The results that workers give, and the drains that their tokens settle.
+-- The results of the workers, and the drains that their tokens settle.
 use Rattle.std.specs.Prelude.{◌≡◌, ◌<◌, ◌≤◌, ℕ, ◌+◌, zero, suc, Bool, false, List, [], ◌∷◌, ◌++◌, Option, Some, IfSome, All, length, slice_get}
 use Rattle.std.proofs.Common.{arith, refl, ap, sym, ◌∙◌, subst}
 use Rattle.std.specs.List.{AllZip}
@@ -29,7 +29,7 @@ module _ {R : Type 0} (told : R → Option (List ℕ)) (report : ReportValue) (l
   results_fulfill [] (t ∷ ts) all = absurd all
   results_fulfill (n ∷ ns) (t ∷ ts) all = All-cons (Fulfills told report limit served plan) t ts (token_fulfills n t all.0) (results_fulfill ns ts all.1)
 
--- JOBS AND DRAINS
+-- Tasks and drains.
 
 has_ending : (before : List Item) (e : Ending) → blocks_only (before ++ items.Ending e ∷ []) ≡ false
 has_ending [] e = refl
@@ -60,7 +60,7 @@ opened_at n k [] task each at = absurd (cc)
 opened_at n zero (j ∷ js) task each at = let same : j ≡ task = cc in (sym (ap (λ x. x.table) same) ∙ (each.0.numbered ∙ omega arith), omega arith, sym (ap (λ x. x.feed.sent) same) ∙ each.0.fresh)
 opened_at n (suc k) (j ∷ js) task each at = let rest = opened_at (suc n) k js task each.1 at in (rest.0 ∙ omega arith, omega (arith, rest.1), rest.2)
 
--- new tasks can be served
+-- New tasks can be served.
 pub opened_serve : {R : Type 0} (report : ReportValue) (limit : ℕ) (tasks : List (TableTask R)) → Each IsOpened 0 tasks → length tasks ≡ length report.tables
     → limit ≤ 4294967294 → CanServeAll (CanServe report limit) tasks
 opened_serve report limit tasks each count rows number task at =

@@ -31,7 +31,7 @@ use Rattle.oim_convert.specs.declared.run.Run.{Run}
 use Rattle.oim_convert.proofs.OwnFaults.{IsOwn, has_thread, own_table}
 use Rattle.oim_convert.proofs.StreamHistories.{stream_of_whole, streams_answer}
 
--- ROOM
+-- The counts of places, and the closed feeds at the start.
 
 none_closed : {X : Type 0} (n t : ℕ) (x : X) (closed : Option X) → closed ≡ None → slice_get (replicate n closed) t ≡ Some (Some x) → ⊥
 none_closed zero t x closed is e = cc
@@ -58,7 +58,7 @@ as_many f xs ys e = sym (ap length e) ∙ map_len f xs
 pub rings_len : (new old : List DrainView) → rings_of new ≡ rings_of old → length new ≡ length old
 rings_len new old e = sym (map_len (λ (d : DrainView). d.ring) new) ∙ (ap length e ∙ map_len (λ (d : DrainView). d.ring) old)
 
--- THE HISTORIES OF THE FILES
+-- The histories of the files.
 
 get_mapped : {X Y : Type 0} (f : X → Y) (xs : List X) (k : ℕ) (x : X) → slice_get xs k ≡ Some x → slice_get (map f xs) k ≡ Some (f x)
 get_mapped f [] k x e = absurd (cc)
@@ -66,7 +66,7 @@ get_mapped f (y ∷ ys) zero x e = let same : y ≡ x = cc in ap (λ z. Some (f 
 get_mapped f (y ∷ ys) (suc k) x e = get_mapped f ys k x e
 
 module _ {R : Type 0} (told : R → Option (List ℕ)) (report : ReportValue) (limit : ℕ) (plan : List (TableTask R)) (readers : List (Option R)) (same : map (λ (task : TableTask R). task.reader) plan ≡ readers) where
-  -- the readers from place n on
+  -- The readers from place n on.
   abbrev AreFrom : ℕ → List (Option R) → Type 0
   AreFrom n rs = (k : ℕ) → slice_get rs k ≡ slice_get readers (n + k)
 
@@ -114,14 +114,14 @@ module _ {R : Type 0} (told : R → Option (List ℕ)) (report : ReportValue) (l
   tables_are starts hs files len fs (true, none, each) = inl (decoded_from 0 hs readers files from_all len fs each)
   tables_are starts hs files len fs (false, none, each) = inr (unserved_from 0 hs readers files len fs each)
 
-  -- if no worker was to be started
+  -- The histories if no worker was to be started.
   pub tables_unserved : (starts : ℕ) (hs : List (List Item)) (files : List (Option (List ℕ))) → length hs ≡ length readers
       → AreFilesOf told readers files → HasTables told report limit starts plan hs → starts ≡ 0
       → AreUnserved 0 (streams report limit files) hs
   tables_unserved starts hs files len fs (true, none, each) nil = absurd (let no = none nil in cc)
   tables_unserved starts hs files len fs (false, none, each) nil = unserved_from 0 hs readers files len fs each
 
-  -- table by table, whatever the other readers tell
+  -- Each table by itself, whatever contracts see of the other readers.
   served_from : (served : Bool) (n : ℕ) (hs : List (List Item)) → Each (IsTable told report limit served plan) n hs → Each (IsServed told report limit served readers) n hs
   served_from served n [] each = tt
   served_from served n (h ∷ hs) each = (
@@ -136,7 +136,7 @@ module _ {R : Type 0} (told : R → Option (List ℕ)) (report : ReportValue) (l
   pub tables_served : (starts : ℕ) (hs : List (List Item)) → length hs ≡ length readers → HasTables told report limit starts plan hs → AreServed told report limit starts readers hs
   tables_served starts hs len has = (has.0, has.1, len, served_from has.0 0 hs has.2)
 
--- HISTORIES THAT WERE NOT CUT SHORT
+-- Histories that were not cut short.
 
 cut_is : (facts : List Fact) (ending : Endings.Ending) (h : List Item) (table : ℕ) (k : TableKind) → IsFromOutside k → ending ≡ Refused (file_fault table k) → IsHistory facts ending h → IsCut h
 cut_is facts ending h table k outside e is = record { before = is.before; fault = file_fault table k; outside = outside; is = is.is ∙ ap (λ (x : Endings.Ending). is.before ++ Ending x ∷ []) e }
@@ -162,7 +162,7 @@ pub uncut_streams : (ss : List Stream) (hs : List (List Item)) → AreHistories 
 uncut_streams ss hs (inl decoded) uncut = uncut_decoded 0 ss hs decoded uncut
 uncut_streams ss hs (inr unserved) uncut = uncut_unserved 0 ss hs unserved uncut
 
--- NO THREAD
+-- No thread.
 
 last_or : Item → List Item → Item
 last_or d [] = d
@@ -212,7 +212,7 @@ threads_of : (report : ReportValue) (limit : ℕ) (files : List (Option (List �
 threads_of report limit files hs (inl decoded) = inr (all_threaded report limit 0 hs files decoded)
 threads_of report limit files hs (inr unserved) = inl unserved
 
--- A RUN
+-- A run.
 
 module _ (l : Layout) {R : Type 0} (told : R → Option (List ℕ)) (report : ReportValue) (limit starts : ℕ) (plan : List (TableTask R))
     (readers : List (Option R)) (same : map (λ (task : TableTask R). task.reader) plan ≡ readers)
@@ -242,7 +242,7 @@ module _ (l : Layout) {R : Type 0} (told : R → Option (List ℕ)) (report : Re
   run_unserved (Ok run) has writes none = tables_unserved told report limit plan readers same starts run.drains.items files (writes.count ∙ sym count) are has none
   run_unserved (Err e) has writes none = tt
 
--- where the readers need not tell their bytes
+-- The run, also if contracts do not see the readers' bytes.
 pub run_served : (l : Layout) {R : Type 0} (told : R → Option (List ℕ)) (report : ReportValue) (limit starts : ℕ) (plan : List (TableTask R)) (readers : List (Option R))
     → map (λ (task : TableTask R). task.reader) plan ≡ readers → length readers ≡ length report.tables → (old new : SinkView) (r : Result Run ConvertFault)
     → IfOk r (λ run. HasTables told report limit starts plan run.drains.items) → Writes l report (length report.tables) old new r

@@ -21,19 +21,19 @@ use Rattle.oim_records.specs.Reads.{IsFileOf}
 use Rattle.oim_convert.specs.Histories.{IsDecoded, IsGiven, facts_in}
 use Rattle.oim_convert.proofs.TableFiles.{has_file, has_no_file, refused_header}
 
--- BLOCKS
+-- Blocks.
 
 pub facts_push : (items : List Item) (facts : List Fact) → facts_in (items ++ Block facts ∷ []) ≡ facts_in items ++ facts
 facts_push [] facts = append-nil facts
 facts_push (Block fs ∷ items) facts = ap (λ l. fs ++ l) (facts_push items facts) ∙ sym (append_assoc fs (facts_in items) facts)
 facts_push (Ending e ∷ items) facts = facts_push items facts
 
--- ROWS
+-- Rows.
 
 pub rows_append : (xs ys : List (List Fact)) → facts_of_rows (xs ++ ys) ≡ facts_of_rows xs ++ facts_of_rows ys
 rows_append xs ys = flat_map-append (λ (row : List Fact). row) xs ys
 
--- the facts of the first rows are the first of the table
+-- The facts of the first rows are a prefix of the table's.
 first_facts : (whole : Stream) (rows : List (List Fact)) (given more : List Fact) → IsPrefix rows whole.rows → given ++ more ≡ facts_of_rows rows → IsPrefix given (facts_of whole)
 first_facts whole rows given more (later, is) all = (
   more ++ facts_of_rows later,
@@ -48,7 +48,7 @@ rows_before table whole rows (Some rest) (inr (some, e, outside, only)) = some
 same_stream : (s : Stream) (o : Option TableFault) → [] ≡ s.rows → o ≡ s.fault → s ≡ ending o
 same_stream s o none same = ap (λ (rows : List (List Fact)). record { rows = rows; fault = s.fault }) (sym none) ∙ ap ending (sym same)
 
--- rows that were read after others
+-- Rows that were read after others.
 reads_on : (table : ℕ) (whole mid : Stream) (rows more : List (List Fact)) (left : Option Stream) → ReadsRows table whole rows (Some mid)
     → ReadsRows table mid more left → ReadsRows table whole (rows ++ more) left
 reads_on table whole mid rows more None first next = absurd next
@@ -66,9 +66,9 @@ reads_on table whole mid rows [] (Some rest) (inr (some, e, outside, only)) (inr
 reads_on table whole mid rows (m ∷ more) (Some rest) (inr (some, e, outside, only)) (inr (some2, e2, outside2, only2)) =
     let no : m ∷ (more ++ some2.0) ≡ [] = some2.1 ∙ ap (λ (x : Stream). x.rows) only in absurd (cc no)
 
--- THE BLOCKS OF A TABLE
+-- The blocks of a table.
 
--- the facts of the rows read so far are those given and those pending, and this stream is left
+-- The facts of the rows read so far are those given and those pending, and this stream is left.
 pub record IsReading (table : ℕ) (whole : Stream) (given pending : List Fact) (left : Option Stream) : Type 0 where
   pub rows : List (List Fact)
   pub reads : ReadsRows table whole rows left
@@ -78,7 +78,7 @@ pub reading_begins : (table : ℕ) (left : Option Stream) (given pending : List 
 reading_begins table None given pending none waits = tt
 reading_begins table (Some s) given pending none waits = record { rows = []; reads = inl (refl, refl); holds = ap (λ l. l ++ pending) none ∙ waits }
 
--- all rows read, after one more answer
+-- All rows read, after one more answer.
 record HasRead (table : ℕ) (whole : Stream) (given : List Fact) (result : Result (Option (List Fact)) TableFault) (pending : List Fact) (left : Option Stream) : Type 0 where
   rows : List (List Fact)
   reads : ReadsRows table whole rows left
@@ -106,23 +106,23 @@ module _ (table : ℕ) (whole : Stream) (given before pending : List Fact) (afte
       let h = has_read left (Ok (Some block)) r gives in
       record { rows = h.rows; reads = h.reads; holds = ap (λ l. l ++ pending) more ∙ (append_assoc given block pending ∙ (ap (λ l. given ++ l) (sym h.answers) ∙ h.holds)) }
 
--- the facts given are the first of the table
+-- The facts given are a prefix of the table's.
 pub so_far : (table : ℕ) (whole : Stream) (given pending : List Fact) (left : Option Stream) → IsReading table whole given pending left → IsPrefix given (facts_of whole)
 so_far table whole given pending left r = first_facts whole r.rows given pending (rows_before table whole r.rows left r.reads) r.holds
 
--- a table that ends before its stream does
+-- A table that ends before its stream does.
 pub cut_short : (table : ℕ) (whole : Stream) (given pending : List Fact) (left : Option Stream) (e : Endings.Ending)
     → IsReading table whole given pending left → e ≡ Refused (file_fault table kind.Memory) → IsGiven table whole given e
 cut_short table whole given pending left e r is = inr (inr (record { some = so_far table whole given pending left r; refused = is }))
 
--- the reader failed, or memory ran out, after these rows
+-- The reader failed, or memory ran out, after these rows.
 outside_given : (table : ℕ) (whole : Stream) (rows : List (List Fact)) (given : List Fact) (e f : TableFault) → IsPrefix rows whole.rows
     → IsOutside table e → f ≡ e → given ≡ facts_of_rows rows → IsGiven table whole given (Refused f)
 outside_given table whole rows given e f some (inl unread) is all = inr (inl (record { rows = rows; some = some; holds = all; refused = ap (λ x. Refused x) (is ∙ unread) }))
 outside_given table whole rows given e f some (inr short) is all =
     inr (inr (record { some = first_facts whole rows given [] some (append-nil given ∙ all); refused = ap (λ x. Refused x) (is ∙ short) }))
 
--- all facts read are given, and only an ending is left
+-- All facts read are given, and only an ending is left.
 all_given : (table : ℕ) (whole : Stream) (rows : List (List Fact)) (given : List Fact) (o : Option TableFault)
     → ReadsRows table whole rows (Some (ending o)) → given ≡ facts_of_rows rows → IsGiven table whole given (ending_of o)
 all_given table whole rows given o (inl (split, same)) all = inl (all ∙ sym (ap facts_of_rows (split ∙ append-nil rows)), ap ending_of (sym same))
@@ -151,9 +151,9 @@ module _ (table : ℕ) (whole : Stream) (given before pending : List Fact) (left
       by (inr short) =
           inr (inr (record { some = first_facts whole h.rows given h.facts (rows_before table whole h.rows after h.reads) h.holds; refused = ap (λ x. Refused x) short }))
 
--- FILES
+-- Files.
 
--- a file whose header has a fault, or could not be read
+-- A file whose header has a fault, or could not be read.
 pub unopened_given : (report : ReportValue) (table limit : ℕ) (bytes : List ℕ) (sent : List Fact) (e : TableFault) → IsOutside table e
     ⊎ (file_header_fault report table (grid bytes) ≡ Some e) → sent ≡ []
     → IsGiven table (table_stream report table limit (Some bytes)) sent (Refused e)
@@ -162,14 +162,14 @@ unopened_given report table limit bytes sent e (inl outside) none =
 unopened_given report table limit bytes sent e (inr bad) none =
     let is = refused_header report table limit (grid bytes) e bad in inl (none ∙ sym (ap facts_of is), ap (λ (s : Stream). ending_of s.fault) (sym is))
 
--- the blocks of a file that was opened
+-- The blocks of a file that was opened.
 pub opened_given : (report : ReportValue) (table opened limit : ℕ) (o : Option (List ℕ)) (left : Option Stream) (sent : List Fact) (e : Endings.Ending) → opened ≡ table
     → IfSome o (λ bytes. left ≡ Some (stream_of report table limit (grid bytes))) → IfSome left (λ s. IsGiven opened s sent e)
     → IfSome o (λ bytes. IsGiven table (table_stream report table limit (Some bytes)) sent e)
 opened_given report table opened limit None left sent e same is given = tt
 opened_given report table opened limit (Some bytes) left sent e same is given = rw (is, same) at given
 
--- the facts given and the ending are the table's history
+-- The facts given and the ending are the table's history.
 pub decoded : (table : ℕ) (s : Stream) (before history : List Item) (e : Endings.Ending) → IsGiven table s (facts_in before) e
     → blocks_only before ≡ true → history ≡ before ++ Ending e ∷ [] → IsDecoded table s history
 decoded table s before history e given only is = record { facts = facts_in before; ending = e; given = given; is = record { before = before; blocks = only; holds = refl; is = is } }

@@ -1,4 +1,4 @@
--- What the answer of a conversion on one thread says, by the histories of its tables.
+-- The answer of a conversion on one thread, by the histories of its tables.
 use Rattle.std.specs.Prelude.{◌≡◌, ℕ, ◌+◌, false, ◌≤◌, List, [], ◌∷◌, ◌++◌, Option, Result, Ok, Err, length}
 use Rattle.std.proofs.Common.{refl, sym, ap, ◌∙◌, subst, append_assoc, append-nil, arith, inl, inr}
 use Rattle.std.proofs.lemmas.List.{length-append}
@@ -32,7 +32,7 @@ use Rattle.oim_convert.proofs.FaultTables.{ending_below, one_at_most}
 use Rattle.oim_convert.proofs.StreamHistories.{facts_with, open_streams, refusals_with, streams_answer, streams_text}
 use Rattle.oim_convert.proofs.WrittenIds.{behind_table, first_rows, no_facts, refused_table}
 
--- THE FIRST FACTS OF A REPORT
+-- The first facts of a report.
 
 same_ending : (e : Endings.Ending) (xs ys : List Item) → IsPrefix (facts_before xs) (facts_before ys) → IsPrefix (facts_before (Ending e ∷ xs)) (facts_before (Ending e ∷ ys))
 same_ending Closed xs ys first = first
@@ -60,10 +60,10 @@ decoded_first i (s ∷ ss) (h ∷ hs) all =
     subst (λ (fs : List Fact). IsPrefix fs (facts_of s ++ facts_before (Ending (ending_of s.fault) ∷ later))) (sym (facts_with d.facts d.ending h (all_of hs) d.is))
     (given_first i s d.facts d.ending (all_of hs) later d.given (decoded_first (i + 1) ss hs all.1))
 
--- THE DOCUMENT
+-- The document.
 
 module _ (l : Layout) (report : ReportValue) (ss : List Stream) where
-  -- the text of a report's first facts is a beginning of its document
+  -- The text of a report's first facts is a prefix of its document.
   pub text_first : (items : List Item) → IsPrefix (facts_before items) (facts_before (all_of (histories_of ss))) → IsPrefix (unfinished l (head_text report) items) (answer_text l report ss)
   text_first items (more, is) =
       let facts = facts_before items in
@@ -76,7 +76,7 @@ module _ (l : Layout) (report : ReportValue) (ss : List Stream) where
       ∙ (ap (λ t. t ++ tail) (sym (append_assoc head (members l facts) rest)) ∙ append_assoc (head ++ members l facts) rest tail)) in
       (rest ++ tail, sym whole)
 
-  -- the document of decoded tables is a beginning of the report's
+  -- The document of decoded tables is a prefix of the report's.
   pub document_first : (hs : List (List Item)) → AreDecoded 0 ss hs → IsPrefix (document l (head_text report) hs) (answer_text l report ss)
   document_first hs decoded = by (refusals (all_of hs)) refl
     where
@@ -90,7 +90,7 @@ module _ (l : Layout) (report : ReportValue) (ss : List Stream) where
 broke_first : (a b : SinkView) (text whole : List ℕ) (w : WriteFault) → IsPrefix text whole → Broke a b text w → Broke a b whole w
 broke_first a b text whole w (rest, is) broke = subst (λ (t : List ℕ). Broke a b t w) is (broke_before a b text rest w broke)
 
--- THE ANSWER
+-- The answer.
 
 module _ {R : Type 0} (told : R → Option (List ℕ)) (report : ReportValue) (limit : ℕ) where
   read_decoded : (i : ℕ) (readers : List (Option R)) (files : List (Option (List ℕ))) (hs : List (List Item)) → AreFilesOf told readers files → AreRead told report limit i readers hs

@@ -38,7 +38,7 @@ use Rattle.oim_convert.proofs.OwnFaults.{own_table}
 use Rattle.oim_convert.proofs.SentFacts.{facts_push}
 use Rattle.oim_convert.proofs.WrittenIds.{no_facts}
 
--- THE BLOCKS OF A TABLE
+-- The blocks of a table.
 
 pub took_nothing : (w : WriterView) (Holds : List Fact → Type 0) → Holds [] → TookBlocks w w Holds
 took_nothing w Holds none = record { blocks = []; only = refl; is = given_nothing w [] w.sink refl refl; facts = none }
@@ -71,13 +71,13 @@ took_refusals v u Holds faults took first =
     let none : [] ≡ refusals took.blocks = sym (ap refusals (sym (append-nil took.blocks)) ∙ blocks_refusals took.blocks [] took.only) in
     sym (append-nil faults) ∙ refusals_more v v u took.blocks u.sink took.is faults [] first none
 
--- HISTORIES ONE AFTER ANOTHER
+-- Histories one after another.
 
 all_append : (hs js : List (List Item)) → all_of (hs ++ js) ≡ all_of hs ++ all_of js
 all_append [] js = refl
 all_append (h ∷ hs) js = ap (λ xs. h ++ xs) (all_append hs js) ∙ sym (append_assoc h (all_of hs) (all_of js))
 
--- memory ran out before anything of the table was read, and of each table from this one on
+-- Memory ran out before anything of the table was read, and of each table from this one on.
 abbrev unread : ℕ → List Item
 unread table = Ending (Refused (file_fault table kind.Memory)) ∷ []
 
@@ -85,7 +85,7 @@ abbrev all_unread : {R : Type 0} → ℕ → List (Option R) → List (List Item
 all_unread i [] = []
 all_unread i (r ∷ rs) = unread i ∷ all_unread (i + 1) rs
 
--- the readers that are left, and what was read of the tables before
+-- The readers that are left, and what was read of the tables before.
 pub record HasRead {R : Type 0} (told : R → Option (List ℕ)) (report : ReportValue) (limit table : ℕ) (items : List Item) (readers left : List (Option R)) : Type 0 where
   pub done : List (Option R)
   pub split : readers ≡ done ++ left
@@ -107,7 +107,7 @@ module _ {R : Type 0} (told : R → Option (List ℕ)) (report : ReportValue) (l
       let is : IsHistory (facts_in blocks) e (blocks ++ Ending e ∷ []) = record { before = blocks; blocks = only; holds = refl; is = refl } in
       record { facts = facts_in blocks; ending = e; is = is; own = own; kept = λ file one. record { facts = facts_in blocks; ending = e; given = given file one; is = is } }
 
-  -- memory ran out behind the first facts of a table
+  -- Memory ran out after the first facts of a table.
   short_read : (table : ℕ) (reader : Option R) (blocks : List Item) → blocks_only blocks ≡ true
       → ((file : Option (List ℕ)) → IsFileOf told reader file → IsPrefix (facts_in blocks) (facts_of (table_stream report table limit file)))
       → IsRead told report limit table reader (blocks ++ unread table)
@@ -122,7 +122,8 @@ module _ {R : Type 0} (told : R → Option (List ℕ)) (report : ReportValue) (l
   read_begin items readers none = record { done = []; split = refl; count = refl; read = record { histories = []; read = tt; are = none } }
 
   module _ (table : ℕ) (v u : WriterView) (reader : Option R) (readers left : List (Option R)) (h : HasRead told report limit table v.items readers (reader ∷ left)) where
-    -- the blocks of one more table were given to the writer, and then its ending, with the table's number
+    -- The blocks of one more table were given to the writer, and then its ending, with the number
+    -- of the table.
     pub next_read : (w : WriterView) (e x : Endings.Ending) (s : SinkView) → w ≡ given u (Ending x ∷ []) s
         → TookBlocks v u (λ facts. GaveTable told report table limit reader facts (Ok e)) → IsEndingOf table x → (IsEndingOf table e → x ≡ e)
         → HasRead told report limit (table + 1) w.items readers left
@@ -143,7 +144,7 @@ module _ {R : Type 0} (told : R → Option (List ℕ)) (report : ReportValue) (l
           };
         }
 
-    -- a write failed at one of its blocks
+    -- A write failed at one of its blocks.
     pub next_broke : (w : WriteFault) → TookBlocks v u (λ facts. GaveTable told report table limit reader facts (Err w)) → ReadsTables told report limit readers u.items (Err w)
     next_broke w took =
         let blocks = took.blocks in let last = blocks ++ unread table in let later = all_unread (table + 1) left in let hs = h.read.histories in
@@ -159,7 +160,7 @@ module _ {R : Type 0} (told : R → Option (List ℕ)) (report : ReportValue) (l
               }),
         )
 
-  -- a write failed before a table was read
+  -- A write failed before a table was read.
   pub none_read : (w : WriteFault) (items : List Item) (readers : List (Option R)) → items ≡ [] → ReadsTables told report limit readers items (Err w)
   none_read w items readers none =
       let hs = all_unread 0 readers in (all_of hs, record { histories = hs; read = unread_read 0 readers; are = ap (λ xs. xs ++ all_of hs) none })
@@ -167,7 +168,7 @@ module _ {R : Type 0} (told : R → Option (List ℕ)) (report : ReportValue) (l
   pub read_end : (table : ℕ) (items : List Item) (readers : List (Option R)) → HasRead told report limit table items readers [] → AreItemsOf told report limit readers items
   read_end table items readers h = subst (λ rs. AreItemsOf told report limit rs items) (sym (h.split ∙ append-nil h.done)) h.read
 
-  -- THE DOCUMENT
+  -- The document.
 
   module _ (readers : List (Option R)) (v w : WriterView) (now : SinkView) (head : v.head ≡ head_text report) (continues : Continues v w) where
     pub broken_tables : (x : WriteFault) → w.sink ≡ now → ReadsTables told report limit readers w.items (Err x) → IsBroken w x

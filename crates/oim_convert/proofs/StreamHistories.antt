@@ -22,7 +22,7 @@ use Rattle.oim_convert.specs.Answer.{IsAnswer, answer_text, ending_of, histories
 use Rattle.oim_convert.specs.Histories.{AreDecoded, IsDecoded, IsGiven, IsHistory, IsStream, facts_in}
 use Rattle.oim_convert.specs.Runs.{AreStreams}
 
--- ONE HISTORY
+-- One history.
 
 pub blocks_facts : (before more : List Item) → blocks_only before ≡ true → facts_before (before ++ more) ≡ facts_in before ++ facts_before more
 blocks_facts [] more only = refl
@@ -43,7 +43,7 @@ behind : (e : Endings.Ending) (xs ys : List Item) → facts_before xs ≡ facts_
 behind Closed xs ys same = same
 behind (Refused f) xs ys same = refl
 
--- ALL HISTORIES
+-- All histories.
 
 pub streams_refusals : (ss : List Stream) (hs : List (List Item)) → AreStreams ss hs → refusals (all_of hs) ≡ refusals (all_of (histories_of ss))
 streams_refusals [] [] all = refl
@@ -67,13 +67,13 @@ streams_text l report ss hs all =
     ap (λ fs. text_after l (head_text report) fs ++ tail_for l (refusals (all_of hs))) (streams_facts ss hs all)
     ∙ ap (λ fs. text_after l (head_text report) (facts_before (all_of (histories_of ss))) ++ tail_for l fs) (streams_refusals ss hs all)
 
--- merging the streams gives the answer
+-- Merging the streams gives the answer.
 pub streams_answer : (l : Layout) (report : ReportValue) (ss : List Stream) (hs : List (List Item)) (old new : SinkView) (faults : List TableFault) (e : MergeEnd) → AreStreams ss hs
     → Merges l old new (head_text report) hs faults e → IsAnswer l report ss old new faults e
 streams_answer l report ss hs old new faults e all m =
     (m.0 ∙ streams_refusals ss hs all, subst (λ (t : List ℕ). EndsWith old new t faults e) (streams_text l report ss hs all) m.1)
 
--- HISTORIES WITHOUT A FAULT
+-- Histories without a fault.
 
 pub none_of_first : (xs ys : List TableFault) → xs ++ ys ≡ [] → xs ≡ []
 none_of_first [] ys e = refl
@@ -95,7 +95,7 @@ open_given table s facts ending h (inl whole) is none = stream_of_whole s facts 
 open_given table s facts ending h (inr (inl unread)) is none = absurd (not_refused ending _ unread.refused none)
 open_given table s facts ending h (inr (inr short)) is none = absurd (not_refused ending _ short.refused none)
 
--- decoded tables of which none was refused have their streams as histories
+-- Decoded tables without a refusal have their streams as histories.
 pub open_streams : (i : ℕ) (ss : List Stream) (hs : List (List Item)) → AreDecoded i ss hs → refusals (all_of hs) ≡ [] → AreStreams ss hs
 open_streams i [] [] all none = tt
 open_streams i [] (h ∷ hs) all none = absurd all
@@ -107,9 +107,9 @@ open_streams i (s ∷ ss) (h ∷ hs) all none =
       open_streams (i + 1) ss hs all.1 (none_of_second (refusals (Ending d.ending ∷ [])) (refusals (all_of hs)) both),
     )
 
--- STREAMS AS HISTORIES
+-- Streams as histories.
 
--- a stream, read as a history, is that of a table that was decoded whole
+-- A stream, read as a history, is that of a table that was decoded whole.
 stream_decoded : (i : ℕ) (s : Stream) → IsDecoded i s (history_of s)
 stream_decoded i s = record {
   facts = facts_of s;

@@ -1,4 +1,4 @@
--- The files of tables: with a header that has a fault, and without a file.
+-- The files of tables: with a faulty header, and without a file.
 use Rattle.std.specs.Prelude.{◌≡◌, ℕ, List, [], ◌∷◌, Option, Some, None, length}
 use Rattle.std.proofs.Common.{refl, ap, arith}
 use Rattle.oim_records.specs.Grids.{Record}
@@ -8,7 +8,7 @@ use Rattle.oim_rows.specs.Streams.{ending, stream_of}
 use Rattle.oim_rows.specs.declared.fault.TableFault.{TableFault}
 use Rattle.oim_records.specs.Reads.{IsFileOf}
 
--- the stream of a table whose header has a fault is only that fault
+-- The stream of a table with a faulty header is only that fault.
 pub refused_header : (report : ReportValue) (table limit : ℕ) (rs : List Record) (e : TableFault) → file_header_fault report table rs ≡ Some e → stream_of report table limit rs ≡ ending (Some e)
 refused_header report table limit [] e is = ap ending is
 refused_header report table limit (r ∷ rs) e is = rw is refl

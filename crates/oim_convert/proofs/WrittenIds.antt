@@ -1,4 +1,5 @@
--- The facts of a document are the first facts of the report's tables, so that no two of them have one identifier.
+-- The facts of a document are a prefix of the report's facts, so no two of them have one
+-- identifier.
 use Rattle.std.specs.Prelude.{◌≡◌, ℕ, ◌+◌, Bool, false, List, [], ◌∷◌, ◌++◌, Option, map}
 use Rattle.std.proofs.Common.{refl, sym, ap, ◌∙◌, subst, append_assoc, append-nil, inl, inr}
 use Rattle.std.proofs.lemmas.List.{map-append}
@@ -22,7 +23,7 @@ use Rattle.oim_convert.specs.Runs.{AreHistories}
 use Rattle.oim_convert.proofs.SentFacts.{rows_append}
 use Rattle.oim_convert.proofs.StreamHistories.{facts_with, streams_decoded}
 
--- THE FIRST FACTS OF A LIST
+-- The first facts of a list.
 
 first_all : {K : Type 0} (P : K → Type 0) (xs ys : List K) → AllByRecursion P (xs ++ ys) → AllByRecursion P xs
 first_all P [] ys all = tt
@@ -44,22 +45,22 @@ prefix_ids facts all (more, is) own = first_ids facts more (subst (λ (l : List 
 pub no_facts : (all : List Fact) → IsPrefix [] all
 no_facts all = (all, refl)
 
--- behind all facts of a table
+-- After all facts of a table.
 pub behind_table : (facts those more : List Fact) → IsPrefix those more → IsPrefix (facts ++ those) (facts ++ more)
 behind_table facts those more (rest, is) = (rest, append_assoc facts those rest ∙ ap (λ l. facts ++ l) is)
 
--- of a table whose later facts, and those of later tables, are left out
+-- A table without its later facts and those of later tables.
 pub cut_in_table : (facts all more : List Fact) → IsPrefix facts all → IsPrefix (facts ++ []) (all ++ more)
 cut_in_table facts all more (rest, is) =
     (rest ++ more, ap (λ l. l ++ (rest ++ more)) (append-nil facts) ∙ (sym (append_assoc facts rest more) ∙ ap (λ l. l ++ more) is))
 
--- THE FACTS OF HISTORIES
+-- The facts of histories.
 
 after_ending : (e : Endings.Ending) (items : List Item) (all : List Fact) → IsPrefix (facts_before items) all → IsPrefix (facts_before (Ending e ∷ items)) all
 after_ending Closed items all first = first
 after_ending (Refused x) items all first = no_facts all
 
--- a table that is refused with these first facts
+-- A table that is refused with these first facts.
 pub refused_table : (e : Endings.Ending) (x : TableFault) (items : List Item) (facts all more : List Fact) → e ≡ Refused x → IsPrefix facts all
     → IsPrefix (facts ++ facts_before (Ending e ∷ items)) (all ++ more)
 refused_table e x items facts all more is first =
@@ -96,7 +97,7 @@ unserved_first i [] (h ∷ hs) all are = absurd are
 unserved_first i (s ∷ ss) [] all are = absurd are
 unserved_first i (s ∷ ss) (h ∷ hs) all are = subst (λ (x : List Item). IsPrefix (facts_before (x ++ all_of hs)) all) (sym are.0) (no_facts all)
 
--- THE LAW
+-- The law.
 
 module _ (report : ReportValue) (limit : ℕ) (files : List (Option (List ℕ))) where
   pub run_ids : (hs : List (List Item)) → HaveOwnIds (facts_of_tables report limit 0 files) → AreHistories (streams report limit files) hs → WriteOwnIds hs

@@ -1,8 +1,8 @@
--- The files of a report's tables, as readers tell them.
+-- The files of a report's tables, by their readers.
 use Rattle.std.specs.Prelude.{⊤, ℕ, List, [], ◌∷◌, Option}
 use Rattle.oim_records.specs.Reads.{IsFileOf}
 
--- the files of the readers, one for each
+-- The files of the readers, one for each.
 abbrev pub AreFilesOf : {R : Type 0} → (R → Option (List ℕ)) → List (Option R) → List (Option (List ℕ)) → Type 0
 AreFilesOf told [] [] = ⊤
 AreFilesOf told [] (f ∷ fs) = ⊥

@@ -1,5 +1,5 @@
--- The identifiers of the facts that a conversion writes.
--- xBRL-CSV 1.0, the identifier of a fact.
+-- The identifiers of the facts that a conversion writes. Source: xBRL-CSV 1.0, the identifier of a
+-- fact.
 use Rattle.std.specs.Prelude.{◌<◌, ◌≤◌, ◌^◌, ℕ, List, Option, length}
 use Rattle.oim_merge.specs.Histories.{all_of, facts_before}
 use Rattle.oim_report.specs.ReportValue.{ReportValue}
@@ -8,16 +8,18 @@ use Rattle.oim_rows.specs.Identifiers.{HaveOwnIds}
 use Rattle.oim_convert.specs.Answer.{histories_of, streams}
 use Rattle.oim_convert.specs.Runs.{AreHistories}
 
--- no two facts of the document of these histories have one identifier
+-- No two facts of the document of these histories have one identifier.
 abbrev pub WriteOwnIds : List (List Item) → Type 0
 WriteOwnIds hs = HaveOwnIds (facts_before (all_of hs))
 
--- whatever files the tables have, and whatever the limit of rows is, no two facts of the defined answer have one identifier
+-- No two facts of the defined answer have one identifier, whatever the tables' files and the limit
+-- of rows are.
 abbrev pub AnswerIdsDiffer : ReportValue → Type 0
 AnswerIdsDiffer report =
     (limit : ℕ) (files : List (Option (List ℕ))) → limit < 2 ^ 32 → length files ≤ length report.tables → WriteOwnIds (histories_of (streams report limit files))
 
--- the same of the histories of any run, which a failed read or running out of memory or threads may have cut short
+-- No two facts that a run's histories write have one identifier, also if a failed read or running
+-- out of memory or threads has cut them short.
 abbrev pub RunIdsDiffer : ReportValue → Type 0
 RunIdsDiffer report =
     (limit : ℕ) (files : List (Option (List ℕ))) (hs : List (List Item)) → limit < 2 ^ 32 → length files ≤ length report.tables

@@ -1,10 +1,10 @@
 -- The number of workers that a conversion on threads accepts.
 use Rattle.std.specs.Prelude.{◌≤◌, ℕ}
 
--- the largest number of workers
+-- The largest number of workers.
 abbrev pub most_workers : ℕ
 most_workers = 64
 
--- there is at least one worker, and at most the largest number
+-- The count of workers: at least one, and at most `most_workers`.
 abbrev pub IsWorkerCount : ℕ → Type 0
 IsWorkerCount workers = (1 ≤ workers) × (workers ≤ most_workers)

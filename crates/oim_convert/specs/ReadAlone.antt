@@ -1,4 +1,4 @@
--- The histories of a report's tables that one thread reads, by the readers of their files.
+-- The histories of a report's tables on one thread, by the readers of their files.
 use Rattle.std.specs.Prelude.{⊤, ◌≡◌, ℕ, ◌+◌, true, List, [], ◌∷◌, Option}
 use Rattle.oim_report.specs.ReportValue.{ReportValue}
 use Rattle.oim_resolve.specs.FactParts.{FactParts as Fact}
@@ -8,14 +8,14 @@ use Rattle.oim_ring.specs.declared.item.Item.{Item}
 use Rattle.oim_convert.specs.Histories.{IsHistory}
 use Rattle.oim_convert.specs.Tasks.{IsKept}
 
--- the fault of the ending, if it has one, is of this table
+-- The fault of the ending, if it has one, is of this table.
 abbrev pub IsEndingOf : ℕ → Endings.Ending → Type 0
 IsEndingOf table Closed = ⊤
 IsEndingOf table (Refused fault) = fault.table ≡ table
 
 module _ {R : Type 0} where
-  -- the history of a table that was read: blocks, and then one ending of this table. It is decoded from the file of the table's reader, if that
-  -- tells its bytes
+  -- The history of a table that was read: blocks, then one ending of this table. It is decoded from
+  -- the file of the table's reader if contracts see the reader's bytes.
   pub record IsRead (told : R → Option (List ℕ)) (report : ReportValue) (limit table : ℕ) (reader : Option R) (history : List Item) : Type 0 where
     pub facts : List Fact
     pub ending : Endings.Ending
@@ -23,7 +23,7 @@ module _ {R : Type 0} where
     pub own : IsEndingOf table ending
     pub kept : IsKept told report limit true table reader history
 
-  -- one history for each reader, in order, where the first is of table i
+  -- One history for each reader, in order; the first is of table i.
   abbrev pub AreRead : (R → Option (List ℕ)) → ReportValue → ℕ → ℕ → List (Option R) → List (List Item) → Type 0
   AreRead told report limit i [] [] = ⊤
   AreRead told report limit i [] (h ∷ hs) = ⊥

@@ -1,4 +1,4 @@
--- What the conversion on one thread does.
+-- The conversion on one thread.
 use Rattle.std.specs.Prelude.{⊤, ◌≡◌, ◌<◌, ◌≤◌, ℕ, List, [], ◌∷◌, Option, Result, Ok, Err, length}
 use Rattle.oim_json.specs.Sinks.{SinkView, Broke, Unwritten, mark_of}
 use Rattle.oim_json.specs.declared.layout.Layout.{Layout}
@@ -13,8 +13,10 @@ use Rattle.oim_convert.specs.WrittenHistories.{WritesHistories}
 use Rattle.oim_convert.specs.declared.fault.ConvertFault.{ConvertFault}
 use Rattle.oim_convert.specs.declared.fault.ConvertFault.TheVariants as fault
 
--- Ok: the whole document is written, and no table is refused. Tables: the fault of each refused table, and the unfinished document up to
--- and including the first, where each table is whole or cut short by a failed read or by running out of memory. Write: a beginning of the defined text. WrongReaders and Memory: nothing is written
+-- If contracts see the readers' bytes. Ok: the whole document is written, and no table is refused.
+-- Tables: the fault of each refused table, and the unfinished document up to and including the
+-- first; each table is whole, or cut short by a failed read or by running out of memory. Write: a
+-- prefix of the defined text. WrongReaders and Memory: nothing is written.
 abbrev pub Converts : Layout → ReportValue → List Stream → SinkView → SinkView → Result (Unit {0}) ConvertFault → Type 0
 Converts layout report ss old new (Ok u) = IsAnswer layout report ss old new [] end.Complete
 Converts layout report ss old new (Err (fault.Tables faults)) = WritesHistories (AreDecoded 0 ss) layout report old new faults.items end.Refused
@@ -25,9 +27,10 @@ Converts layout report ss old new (Err fault.BadWorkers) = ⊥
 Converts layout report ss old new (Err fault.BadSize) = ⊥
 Converts layout report ss old new (Err fault.Lost) = ⊥
 
--- whatever the readers tell, there are histories of their tables, and the faults, the end and the text are theirs. Ok: no table is refused, and
--- the whole document is written. Tables: the fault of each refused table, and the unfinished document up to and including the first. Write: a
--- beginning of the document. WrongReaders and Memory: nothing is written
+-- Whatever contracts see of the readers, their tables have histories, and the faults, the end and
+-- the text are those of the histories. Ok: no table is refused, and the whole document is written.
+-- Tables: the fault of each refused table, and the unfinished document up to and including the
+-- first. Write: a prefix of the document. WrongReaders and Memory: nothing is written.
 abbrev pub WritesAlone : {R : Type 0} → (R → Option (List ℕ)) → Layout → ReportValue → ℕ → List (Option R) → SinkView → SinkView → Result (Unit {0}) ConvertFault → Type 0
 WritesAlone told layout report limit readers old new (Ok u) = WritesHistories (AreRead told report limit 0 readers) layout report old new [] end.Complete
 WritesAlone told layout report limit readers old new (Err (fault.Tables faults)) =
@@ -40,8 +43,8 @@ WritesAlone told layout report limit readers old new (Err fault.BadWorkers) = �
 WritesAlone told layout report limit readers old new (Err fault.BadSize) = ⊥
 WritesAlone told layout report limit readers old new (Err fault.Lost) = ⊥
 
--- whatever the readers tell: a write fault is the mark that the sink has, and without one the mark is kept; nothing is written with
--- WrongReaders and Memory; and the only other fault is Tables
+-- Whatever contracts see of the readers: a write fault is the sink's mark, and without one the mark
+-- is kept. Nothing is written with WrongReaders and Memory. The only other fault is Tables.
 abbrev pub Leaves : SinkView → SinkView → Result (Unit {0}) ConvertFault → Type 0
 Leaves old new (Ok u) = new.mark ≡ old.mark
 Leaves old new (Err (fault.Tables faults)) = (new.mark ≡ old.mark) × (¬ (faults.items ≡ []))
@@ -52,12 +55,12 @@ Leaves old new (Err fault.BadWorkers) = ⊥
 Leaves old new (Err fault.BadSize) = ⊥
 Leaves old new (Err fault.Lost) = ⊥
 
--- each fault is of a table with a number below this one
+-- Each fault is of a table with a number below `tables`.
 abbrev pub AreBelow : ℕ → List TableFault → Type 0
 AreBelow tables [] = ⊤
 AreBelow tables (e ∷ es) = (e.table < tables) × AreBelow tables es
 
--- the faults of tables are of these tables
+-- The faults of tables are of these tables.
 abbrev pub IsOfTables : ℕ → Result (Unit {0}) ConvertFault → Type 0
 IsOfTables tables (Ok u) = ⊤
 IsOfTables tables (Err (fault.Tables faults)) = AreBelow tables faults.items
@@ -68,7 +71,7 @@ IsOfTables tables (Err fault.BadWorkers) = ⊤
 IsOfTables tables (Err fault.BadSize) = ⊤
 IsOfTables tables (Err fault.Lost) = ⊤
 
--- there are at most this many faults of tables
+-- There are at most `most` faults of tables.
 abbrev pub AreFew : ℕ → Result (Unit {0}) ConvertFault → Type 0
 AreFew most (Ok u) = ⊤
 AreFew most (Err (fault.Tables faults)) = length faults.items ≤ most

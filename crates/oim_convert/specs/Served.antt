@@ -5,13 +5,15 @@ use Rattle.oim_ring.specs.declared.item.Item.{Item}
 use Rattle.oim_convert.specs.Tasks.{Each, IsKept}
 
 module _ {R : Type 0} where
-  -- the history of this table: it was decoded from the file of its reader, if that tells its bytes, or there was no thread for it
+  -- The history of this table: it was decoded from the file of its reader, if contracts see the
+  -- reader's bytes, or no thread could be made for it.
   pub record IsServed (told : R → Option (List ℕ)) (report : ReportValue) (limit : ℕ) (served : Bool) (readers : List (Option R)) (table : ℕ) (history : List Item) : Type 0 where
     pub reader : Option R
     pub given : slice_get readers table ≡ Some reader
     pub kept : IsKept told report limit served table reader history
 
-  -- one history for each reader, in order: there was a thread for all of them or for none, and for none if no worker was to be started
+  -- One history for each reader, in order. All tables were served or none was, and none if no
+  -- worker was to be started.
   abbrev pub AreServed : (R → Option (List ℕ)) → ReportValue → ℕ → ℕ → List (Option R) → List (List Item) → Type 0
   AreServed told report limit starts readers hs =
       (served : Bool) × (starts ≡ 0 → served ≡ false) × (length hs ≡ length readers) × Each (IsServed told report limit served readers) 0 hs

@@ -1,5 +1,5 @@
--- How the writing of a report's tables ends: as their histories say.
--- xBRL-CSV 1.0 (a report is the facts of its tables), xBRL-JSON 1.0 (the document).
+-- The end of writing a report's tables, by their histories. Sources: xBRL-CSV 1.0 (a report is the
+-- facts of its tables), xBRL-JSON 1.0 (the document).
 use Rattle.std.specs.Prelude.{List}
 use Rattle.oim_json.specs.JsonText.{head_text}
 use Rattle.oim_json.specs.Sinks.{SinkView}
@@ -10,7 +10,7 @@ use Rattle.oim_report.specs.ReportValue.{ReportValue}
 use Rattle.oim_ring.specs.declared.item.Item.{Item}
 use Rattle.oim_rows.specs.declared.fault.TableFault.{TableFault}
 
--- there are histories of this kind, and the faults, the end and the text written are theirs
+-- There are histories of this kind, and the faults, the end and the text written are those of them.
 pub record WritesHistories (Are : List (List Item) → Type 0) (layout : Layout) (report : ReportValue) (old new : SinkView)
     (faults : List TableFault) (end : MergeEnd) : Type 0 where
   pub histories : List (List Item)

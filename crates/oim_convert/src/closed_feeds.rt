@@ -1,4 +1,4 @@
-//! A place for the token of each table, with which its drain is settled.
+//! The tokens of all tables, by which their drains are settled.
 
 ghost use Rattle.std.specs.Prelude.{◌≡◌, ◌≤◌, [], None, length, map, All, Contains, IfNone, IfSome, slice_set, vec_len, vec_capacity};
 ghost use Rattle.oim_convert.specs.Tasks.{Each};
@@ -11,17 +11,18 @@ use oim_report::{Limits, Report};
 use oim_ring::{Closed, Drain, Drained};
 use std::io::Read;
 
-/// What the tables of a conversion were decoded by. Only clauses use it.
+/// The terms by which a conversion's tables were decoded. Only clauses use it.
 #[derive(Drop)]
 pub(crate) struct Terms<'a, R> {
     pub(crate) report: &'a Report,
     pub(crate) limits: Limits,
-    /// Whether workers served the tables, which otherwise are refused because no thread could be made.
+    /// Whether workers served the tables. Otherwise all are refused because no thread could be
+    /// made.
     pub(crate) served: bool,
     pub(crate) claims: &'a Claims<TableTask<R>>,
 }
 
-/// Puts the token of a result into the place of its table.
+/// Puts the token of a result into its table's place.
 fn place<R: Read>(
     terms: &Terms<'_, R>,
     task_result: TaskResult,
@@ -38,7 +39,7 @@ fn place<R: Read>(
     closed_feeds[table] = closed;
 }
 
-/// Puts the tokens of a shift into the closed feeds of their tables, and gives its seat back.
+/// Puts the tokens of a shift into their tables' places, and returns its seat.
 fn place_shift<R: Read + Drop>(
     terms: &Terms<'_, R>,
     shift: Shift<TableTask<R>, TaskResult>,
@@ -62,7 +63,7 @@ fn place_shift<R: Read + Drop>(
     seat
 }
 
-/// Puts the tokens of all shifts into the closed feeds of their tables, and gives their seats back.
+/// Puts the tokens of all shifts into their tables' places, and returns their seats.
 pub(crate) fn place_all<R: Read + Drop>(
     terms: &Terms<'_, R>,
     shifts: Vec<Shift<TableTask<R>, TaskResult>>,
@@ -85,7 +86,7 @@ pub(crate) fn place_all<R: Read + Drop>(
     seats
 }
 
-/// Settles each drain with the token of its table. `None` if a table has no token in its place.
+/// Settles each drain with its table's token. Returns `None` if a table has no token.
 pub(crate) fn settle_all<R: Read>(
     terms: &Terms<'_, R>,
     drains: Vec<Drain>,

@@ -20,15 +20,15 @@ use std::io::Read;
 use std::sync::Wait;
 use std::thread::Threads;
 
-/// The ending of a table that is refused as a whole.
+/// Returns the ending of a table that is refused as a whole.
 pub(crate) fn refused(table: usize, kind: TableKind) -> Ending
     ensures { result ≡ Refused (file_fault table kind) }
 {
     Ending::Refused(whole_fault(table, kind))
 }
 
-/// Decodes a table: sends its facts, and closes its feed with its ending. `None` if the token of the
-/// feed is lost.
+/// Decodes a table: sends its facts, and closes its feed with its ending. Returns `None` if the
+/// feed's token is lost.
 pub(crate) fn decode<R: Read + Drop, T: Threads + Wait>(
     rt: &T,
     alloc: Global,
@@ -46,9 +46,9 @@ pub(crate) fn decode<R: Read + Drop, T: Threads + Wait>(
         table,
         reader,
         mut feed,
-        helpers,
+        at_work,
     } = task;
-    helpers.start();
+    at_work.start();
     let ending = match reader {
         None => without_file(report, table),
         Some(reader) => {
@@ -58,14 +58,14 @@ pub(crate) fn decode<R: Read + Drop, T: Threads + Wait>(
                 reader,
                 limits,
             };
-            send_table(rt, alloc, file, &helpers, &mut feed)
+            send_table(rt, alloc, file, &at_work, &mut feed)
         }
     };
-    helpers.rest();
+    at_work.rest();
     close_waiting(rt, feed, ending)
 }
 
-/// The ending of a table without a file.
+/// Returns the ending of a table without a file.
 pub(crate) fn without_file(report: &Report, table: usize) -> Ending
     requires { table < length report.now.tables }
     ensures { (limit : ℕ) → result ≡ ending_of (table_stream report.now table limit None).fault }

@@ -20,7 +20,7 @@ pub enum ConvertFault {
     WrongReaders,
     /// 53: memory ran out before anything was written.
     Memory,
-    /// 54: the end of a ring was lost.
+    /// 54: a ring's token was lost. The clauses allow it only for `convert`.
     Lost,
     /// 55: tables have faults. It has the first fault of each such table, in table order.
     Tables(Vec<TableFault>),
@@ -29,7 +29,7 @@ pub enum ConvertFault {
 }
 
 impl ConvertFault {
-    /// What is wrong, as a sentence for people without capital and full stop.
+    /// Returns a sentence for people, without a capital and a full stop.
     pub fn explanation(&self) -> &'static str {
         match self {
             ConvertFault::BadWorkers => "the number of workers is not 1 to 64",
@@ -53,7 +53,7 @@ impl Display for ConvertFault {
 impl Error for ConvertFault {}
 
 impl ConvertFault {
-    /// The fault's number, 50 to 56.
+    /// Returns the fault's number, 50 to 56.
     pub fn number(&self) -> u32
         ensures { result ≡ number_of self.now }
     {
@@ -68,7 +68,7 @@ impl ConvertFault {
         }
     }
 
-    /// The fault's name, as the program prints it.
+    /// Returns the fault's name, as the program prints it.
     pub fn name(&self) -> &'static str
         ensures { result.now ≡ name_of self.now }
     {

@@ -6,21 +6,22 @@ ghost use Rattle.oim_convert.specs.state.Tasks.{IsLane, IsOpened};
 ghost use Rattle.oim_ring.specs.Limits.{IsRingSize};
 
 use crate::table_task::TableTask;
-use oim_pieces::{Helpers, PIECE_SIZE};
+use oim_pieces::{AtWork, PIECE_SIZE};
 use oim_ring::{Drain, Lanes};
 use std::alloc::{AllocError, Global};
 use std::sync::Arc;
 
-/// As many facts as fill this many rings may wait in all rings together.
+/// The count of full rings whose facts may wait in all rings together, up to `MOST_AHEAD`.
 const FULL_RINGS: usize = 4;
 
-/// Once so many facts wait in all rings together, tables before their turn wait.
+/// The most facts that may wait in all rings together before later tables wait.
 const MOST_AHEAD: usize = 4_096;
 
-/// How many facts a full block has.
+/// The count of facts in a full block.
 const FULL_BLOCK: usize = 256;
 
-/// A task and a drain for each reader, in order, for this many workers and rings of this size. Nothing was sent or taken yet.
+/// Returns a task and a drain for each reader, in order, for `workers` workers and rings of `size`
+/// blocks. Nothing was sent or taken yet.
 pub(crate) fn open_lanes<R: Drop>(
     alloc: Global,
     readers: Vec<Option<R>>,
@@ -38,18 +39,18 @@ pub(crate) fn open_lanes<R: Drop>(
         alloc,
         size.saturating_mul(FULL_RINGS * FULL_BLOCK).min(MOST_AHEAD),
     )?;
-    let helpers = Arc::new(alloc, Helpers::new(workers, PIECE_SIZE))?;
+    let at_work = Arc::new(alloc, AtWork::new(workers, PIECE_SIZE))?;
     let mut tasks = Vec::new(alloc);
     let mut drains = Vec::new(alloc);
     for reader in readers {
         let table = tasks.len();
         let (feed, drain) = lanes.open(alloc, size)?;
-        let shared = Arc::try_clone(&helpers)?;
+        let shared = Arc::try_clone(&at_work)?;
         tasks.push(TableTask {
             table,
             reader,
             feed,
-            helpers: shared,
+            at_work: shared,
         })?;
         drains.push(drain)?;
     }

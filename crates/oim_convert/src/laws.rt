@@ -5,9 +5,9 @@ ghost use Rattle.oim_convert.specs.Identifiers.{AnswerIdsDiffer, RunIdsDiffer};
 use oim_report::Report;
 use oim_rows::fact_identifiers_differ;
 
-/// Whatever files a report's tables have, no two facts of the document have one identifier: neither in
-/// the defined answer (`answer`) nor in what the histories of a run write (`runs`), also where tables
-/// were cut short or none was served.
+/// Proves that no two facts of a report's document have one identifier, whatever files its tables
+/// have: neither in the defined answer (`answer`) nor in what the histories of a run write
+/// (`runs`), also if tables were cut short or none was served.
 pub fn written_identifiers_differ(report: &Report)
     ensures answer { AnswerIdsDiffer report.now }
     ensures runs { RunIdsDiffer report.now }

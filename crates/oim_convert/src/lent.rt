@@ -1,8 +1,9 @@
-//! What ties a lent value to who lent it, for the proof alone.
+//! A function that ties a lent value to its lender, only for the proof.
 
 ghost use Rattle.std.specs.Prelude.{◌≡◌};
 
-/// Does nothing. Using a returned reference here ties it, for the proof, to the parameter that lent it.
+/// Does nothing. If a returned reference is used here, the proof ties it to the parameter that lent
+/// it.
 pub(crate) fn take_back<T>(x: &mut T)
     ensures { x.new ≡ x.old }
 {}

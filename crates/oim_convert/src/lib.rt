@@ -1,53 +1,63 @@
 //! The conversion of a whole report: from its tables to its document.
 //!
-//! What is proved of `convert_serial`, which works on one thread, over readers that tell their bytes:
+//! What is proved of `convert_serial`, which works on one thread, if contracts see the readers'
+//! bytes:
 //!
-//! - `Ok` means that exactly the document of all facts was written, in table order and in the given
-//!   layout (`specs/Answer.antt`);
-//! - `Tables` has the first fault of each refused table, in table order, and means that exactly the
-//!   unfinished document was written, up to and including the first refused table. A table whose
-//!   reader fails or for which memory runs out is refused too, and has then given the first of its
-//!   facts (`specs/Serial.antt`);
-//! - a write fault leaves a beginning of the defined bytes, and is the sink's mark;
-//! - `WrongReaders` is answered exactly if the number of readers is not the number of tables; with it
-//!   and with `Memory` nothing is written.
+//! - `Ok`: exactly the document of all facts was written, in table order and in the given layout
+//!   (`specs/Answer.antt`);
+//! - `Tables` has the first fault of each refused table, in table order. Exactly the unfinished
+//!   document was written, up to and including the first refused table. A failed read or running
+//!   out of memory refuses a table too, after a prefix of its facts (`specs/Serial.antt`);
+//! - `Write`: a prefix of the defined bytes was written, and the fault is the sink's mark;
+//! - `WrongReaders` is returned exactly if the number of readers is not the number of tables. With
+//!   it and with `Memory` nothing is written. It has no other end: `Lost` is impossible here.
 //!
-//! Over any readers there is one history for each, in table order, with one ending, which is that table's
-//! own; that of a table whose own reader tells its bytes is decoded from these (`specs/ReadAlone.antt`). The
-//! faults, the end and the text are those of these histories.
+//! Over any readers there is one history for each, in table order, with one ending, which is that
+//! table's own. If contracts see the bytes of a table's reader, its history is decoded from these
+//! (`specs/ReadAlone.antt`). The faults, the end and the text are those of these histories.
 //!
-//! What is proved of `convert`, which works on threads, where it returns, for every number of workers,
+//! What is proved of `convert`, which works on threads, if it returns, for every number of workers,
 //! ring size and schedule:
 //!
-//! - the history of each table is the table's stream, or a beginning of it that a failed read or
-//!   running out of memory ended; `NoThread` ends all tables or none (`specs/Histories.antt`). There is
-//!   one history for each reader, in table order, and what is said of one table rests on what its own
-//!   reader tells (`specs/Served.antt`);
-//! - the faults and the end are those of the histories, each of which has one ending. Their document
-//!   is written: whole, unfinished up to and including the first refused table, or after a failed
-//!   write a beginning of it;
+//! - the history of each table is the table's stream, or a prefix of it that a failed read or
+//!   running out of memory ended. `NoThread` ends all tables or none (`specs/Histories.antt`).
+//!   There is one history for each reader, in table order. The clause for a table requires only
+//!   that contracts see the bytes of its own reader (`specs/Served.antt`);
+//! - the faults and the end are those of the histories, each of which has one ending. Their
+//!   document is written: whole, unfinished up to and including the first refused table, or after a
+//!   failed write a prefix of it;
 //! - if nothing cut a history short, each is its table's stream, and faults, end and bytes are the
 //!   defined answer of the report (`specs/Runs.antt`);
-//! - `BadWorkers`, `BadSize` and `WrongReaders` are answered exactly if each is the first that applies.
-//!   With them and with `Memory` nothing is written, and `Lost` is answered after the document of some
-//!   histories, one for each table, or a beginning of it.
+//! - `BadWorkers`, `BadSize` and `WrongReaders` are returned exactly if each is the first that
+//!   applies. With them and with `Memory` nothing is written;
+//! - `Lost` (54), a fault of the program itself, is the one remaining end. Then the document of
+//!   some histories, one for each table, or a prefix of it, was written. No clause ties them to the
+//!   tables. `run` of `oim_run` calls `convert_serial` for one worker, which excludes this end.
 //!
-//! Inside, a run is answered only after its claims were closed with all their seats, so the workers gave
-//! one result for each table (`finish` in `src/returning.rt`). That no table is refused for want of a thread
-//! where a worker was started says `under_way` of `start_crew`, and no clause of `convert` can.
+//! A run is returned only after its claims were closed with all their seats, so the workers gave
+//! one result for each table (`finish` in `src/returning.rt`).
 //!
-//! What is proved of the facts (`written_identifiers_differ`): whatever files the tables have, no two
-//! facts of the defined answer have one identifier, and no two of those that the histories of a run
-//! write, also where tables were cut short or none was served (`specs/Identifiers.antt`).
+//! What is proved of the facts (`written_identifiers_differ`): whatever files the tables have, no
+//! two facts of the defined answer have one identifier. Nor have two facts that a run's histories
+//! write, also if tables were cut short or none was served (`specs/Identifiers.antt`).
 //!
-//! What only tests show: that workers are started at all and run side by side, that each worker that
-//! started is joined, and that memory, threads and tokens are given. That threads decode pieces of a table, a test of
-//! the program shows (`tests/refused.py`), which counts them; that they do so in the places of workers that rest, none.
+//! Not proved:
+//!
+//! - that memory or a read failed if `Memory` or `Read` is the fault; either may also replace a
+//!   table's own fault or its end, and rows that were read before it may be missing;
+//! - that `NoThread` occurs only if no thread started: `under_way` of `start_crew` has it, and no
+//!   clause of `convert` can;
+//! - for `convert`, that a fault has its table's number, if contracts do not see the reader's
+//!   bytes.
+//!
+//! Not proved, only tested: that workers are started and run in parallel, that each started worker
+//! is joined, and that memory, threads and tokens are given. `tests/refused.py` counts the threads
+//! that decode pieces of a table. No test shows that they run only while workers rest.
 //!
 //! A call:
 //!
 //! ```
-//! /// The document of a report with one table, on one thread.
+//! /// Converts a report with one table, on one thread.
 //! fn converts(alloc: Global, report: &Report, file: &[u8]) -> Result<Vec<u8>, ConvertFault> {
 //!     let readers = vec![in alloc; Some(file)].map_err(|_| ConvertFault::Memory)?;
 //!     let mut document = Vec::new(alloc);

@@ -10,7 +10,7 @@ use crate::lent::take_back;
 use crate::sending::put_waiting;
 use crate::table_file::TableFile;
 use oim_json::Block;
-use oim_pieces::{Helpers, TablePieces};
+use oim_pieces::{AtWork, TablePieces};
 use oim_ring::{Ending, Feed};
 use std::alloc::Global;
 use std::io::Read;
@@ -18,13 +18,13 @@ use std::sync::Wait;
 use std::thread::{Scope, Threads};
 use std::{mem, thread};
 
-/// Sends the facts of a table's file, and gives the table's ending. Where there are other workers, threads decode pieces of it in
-/// the places of those that rest.
+/// Sends the facts of a table's file, and returns the table's ending. If there are other workers,
+/// helper threads decode pieces of the file while those workers rest.
 pub(crate) fn send_table<R: Read + Drop, T: Threads + Wait>(
     rt: &T,
     alloc: Global,
     file: TableFile<'_, R>,
-    helpers: &Helpers,
+    at_work: &AtWork,
     feed: &mut Feed,
 ) -> Ending
     requires file { IsTableFile file }
@@ -32,7 +32,7 @@ pub(crate) fn send_table<R: Read + Drop, T: Threads + Wait>(
     ensures ring { feed.new.ring ≡ feed.old.ring }
     ensures given { IsSentOfFile R.remaining file.entry (facts_in feed.new.sent) result }
 {
-    send_in_scope(&Leave::of(rt), alloc, file, helpers, feed)
+    send_in_scope(&Leave::of(rt), alloc, file, at_work, feed)
 }
 
 /// The ending of a table, and its feed.
@@ -41,12 +41,12 @@ struct Sent<'a> {
     feed: &'a mut Feed,
 }
 
-/// Sends the facts of a table's file, with a scope for the threads that decode pieces of it.
+/// Sends the facts of a table's file, with a scope for its helper threads.
 fn send_in_scope<R: Read + Drop, T: Threads + Wait + Sync>(
     rt: &T,
     alloc: Global,
     file: TableFile<'_, R>,
-    helpers: &Helpers,
+    at_work: &AtWork,
     feed: &mut Feed,
 ) -> Ending
     requires file { IsTableFile file }
@@ -65,7 +65,7 @@ fn send_in_scope<R: Read + Drop, T: Threads + Wait + Sync>(
             ensures ring { result.feed.now.ring ≡ lent.entry.now.ring }
             ensures given { IsSentOfFile R.remaining file.entry (facts_in result.feed.now.sent) result.ending }
         {
-            let ending = send_pieces(scope, rt, alloc, file, helpers, lent);
+            let ending = send_pieces(scope, rt, alloc, file, at_work, lent);
             Sent { ending, feed: lent }
         },
     );
@@ -80,7 +80,7 @@ fn send_pieces<'s, E, R: Read + Drop, T: Threads + Wait + Sync + 's>(
     rt: &'s T,
     alloc: Global,
     file: TableFile<'s, R>,
-    helpers: &'s Helpers,
+    at_work: &'s AtWork,
     feed: &mut Feed,
 ) -> Ending
     requires file { IsTableFile file }
@@ -94,18 +94,18 @@ fn send_pieces<'s, E, R: Read + Drop, T: Threads + Wait + Sync + 's>(
         reader,
         limits,
     } = file;
-    match TablePieces::open(alloc, helpers, report, table, reader, limits) {
-        Ok(pieces) => send_opened(scope, rt, pieces, helpers, feed),
+    match TablePieces::open(alloc, at_work, report, table, reader, limits) {
+        Ok(pieces) => send_opened(scope, rt, pieces, at_work, feed),
         Err(fault) => Ending::Refused(fault),
     }
 }
 
-/// Sends the pieces of a table that was opened, in memory that goes round, lets go of the table, and gives its ending.
+/// Sends the pieces of an opened table with spare vectors, drops the table, and returns its ending.
 fn send_opened<'s, E, R: Read + Drop, T: Threads + Wait + Sync + 's>(
     scope: &Scope<'s, E>,
     rt: &'s T,
     pieces: TablePieces<'s, R>,
-    helpers: &Helpers,
+    at_work: &AtWork,
     feed: &mut Feed,
 ) -> Ending
     requires fresh { feed.old.sent ≡ [] }
@@ -113,22 +113,22 @@ fn send_opened<'s, E, R: Read + Drop, T: Threads + Wait + Sync + 's>(
     ensures given { IfSome pieces.entry.left (λ s. IsGiven pieces.entry.table s (facts_in feed.new.sent) result) }
 {
     let mut pieces = pieces;
-    let ending = send_left(scope, rt, &mut pieces, helpers, feed);
-    give_back_rooms(rt, &mut pieces, feed);
+    let ending = send_left(scope, rt, &mut pieces, at_work, feed);
+    give_back_spares(rt, &mut pieces, feed);
     mem::drop(pieces);
     ending
 }
 
-/// Tells the pieces whether the writer has reached the table, and takes memory for the texts of the next ones, as far as blocks that were written
-/// gave it back.
+/// Passes to the pieces whether the writer has reached the table, and spare vectors for the texts
+/// of the next ones, if written blocks gave some back.
 fn make_ready<R: Read + Drop, T: Wait>(rt: &T, pieces: &mut TablePieces<'_, R>, feed: &mut Feed)
     ensures pieces { pieces.new ≡ pieces.old }
     ensures feed { feed.new ≡ feed.old }
 {
     pieces.want(feed.is_reached());
-    for _ in 0..pieces.wanted_rooms() {
-        match feed.kept_room(rt) {
-            Some(room) => pieces.keep_room(rt, room),
+    for _ in 0..pieces.wanted_spares() {
+        match feed.kept_spare(rt) {
+            Some(spare) => pieces.keep_spare(rt, spare),
             None => {
                 pieces.note_left(feed.waiting_blocks());
                 return;
@@ -137,19 +137,19 @@ fn make_ready<R: Read + Drop, T: Wait>(rt: &T, pieces: &mut TablePieces<'_, R>, 
     }
 }
 
-/// Gives back the memory that a table kept for texts, as far as the rings keep it for others.
-fn give_back_rooms<R: Read + Drop, T: Wait>(rt: &T, pieces: &mut TablePieces<'_, R>, feed: &Feed) {
-    for room in pieces.free_rooms(rt) {
-        feed.give_back(rt, room);
+/// Gives back the vectors that a table kept for texts, if the rings keep them for others.
+fn give_back_spares<R: Read + Drop, T: Wait>(rt: &T, pieces: &mut TablePieces<'_, R>, feed: &Feed) {
+    for spare in pieces.free_spares(rt) {
+        feed.give_back(rt, spare);
     }
 }
 
-/// Sends the pieces that are left, and gives the table's ending.
+/// Sends the pieces that are left, and returns the table's ending.
 fn send_left<'s, E, R: Read + Drop, T: Threads + Wait + Sync + 's>(
     scope: &Scope<'s, E>,
     rt: &'s T,
     pieces: &mut TablePieces<'s, R>,
-    helpers: &Helpers,
+    at_work: &AtWork,
     feed: &mut Feed,
 ) -> Ending
     requires fresh { feed.old.sent ≡ [] }
@@ -159,7 +159,7 @@ fn send_left<'s, E, R: Read + Drop, T: Threads + Wait + Sync + 's>(
     for _ in rt.forever() {
         match pieces.next_blocks(scope, rt) {
             Ok(Some(blocks)) => {
-                put_all(rt, helpers, feed, blocks);
+                put_all(rt, at_work, feed, blocks);
                 make_ready(rt, pieces, feed);
             }
             Ok(None) => return Ending::Closed,
@@ -171,11 +171,11 @@ fn send_left<'s, E, R: Read + Drop, T: Threads + Wait + Sync + 's>(
 
 /// Sends blocks, one after another.
 #[tactic(auto, using(crate::proofs::PutBlocks::all_put))]
-fn put_all<T: Wait>(rt: &T, helpers: &Helpers, feed: &mut Feed, blocks: Vec<Block>)
+fn put_all<T: Wait>(rt: &T, at_work: &AtWork, feed: &mut Feed, blocks: Vec<Block>)
     ensures ring { feed.new.ring ≡ feed.old.ring }
     ensures sent { facts_in feed.new.sent ≡ facts_in feed.old.sent ++ facts_of_rows blocks.items }
 {
     for block in blocks {
-        put_waiting(rt, helpers, feed, block);
+        put_waiting(rt, at_work, feed, block);
     }
 }

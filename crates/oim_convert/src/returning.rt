@@ -1,5 +1,5 @@
-//! The end of a conversion, where the workers' results go to their tables and the seats to their
-//! claims, and the room that is kept for it.
+//! The end of a conversion: the workers' results go to their tables and the seats to their claims.
+//! The memory for it is kept from the start.
 
 ghost use Rattle.std.specs.Prelude.{◌≡◌, length, map, All, IfNone, IfOk, IfSome, vec_len};
 ghost use Rattle.oim_convert.specs.Tasks.{Each};
@@ -16,7 +16,7 @@ use oim_ring::{Closed, Drain, Drained};
 use std::alloc::{AllocError, Global};
 use std::io::Read;
 
-/// Room for the tokens of all tables, for the seats of all workers, and for the settled drains.
+/// Memory for the tokens of all tables, for the seats of all workers, and for the settled drains.
 #[derive(Drop)]
 pub(crate) struct ReturnRoom<R> {
     pub(crate) closed_feeds: Vec<Option<Closed>>,
@@ -24,7 +24,7 @@ pub(crate) struct ReturnRoom<R> {
     pub(crate) settled: Vec<Drained>,
 }
 
-/// Room for this many tables and workers. Fails if memory runs out.
+/// Returns memory for `tables` tables and `workers` workers.
 pub(crate) fn return_room<R: Drop>(
     alloc: Global,
     tables: usize,
@@ -45,8 +45,8 @@ pub(crate) fn return_room<R: Drop>(
     })
 }
 
-/// Settles each drain with the token of its table, and closes the claims with the seats of all
-/// workers, which shows that there is one result for each table. `None` if the end of a ring was
+/// Settles each drain with its table's token, and closes the claims with the seats of all workers,
+/// which shows that there is one result for each table. Returns `None` if the token of a ring was
 /// lost, or if no worker has drawn. Only the clauses use `report` and `limits`.
 pub(crate) fn finish<R: Read + Drop>(
     report: &Report,
@@ -66,8 +66,8 @@ pub(crate) fn finish<R: Read + Drop>(
     ensures tables { IfSome result (λ all. AreTables R.remaining report.now limits.rows shifts.served claims.items all.items) }
     ensures lost { IfNone result (IsLostIn shifts.list.items) }
 {
-    // This does not happen: a worker that was started draws, since its flag is never set, and if none
-    // was started, one seat has drawn on this thread. No contract speaks of the flag.
+    // This does not happen: a started worker draws, because its flag is never set, and if none was
+    // started, one seat has drawn on this thread. No contract speaks of the flag.
     if all_idle(shifts.list.as_slice()) {
         return None;
     }

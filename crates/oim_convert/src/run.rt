@@ -5,8 +5,8 @@ use oim_ring::Drained;
 use oim_rows::TableFault;
 
 /// The result of a conversion: the history of each table, in table order, the fault of each refused
-/// table, and how the merge ended. A history is the blocks of facts that were sent for its table, and
-/// then one ending.
+/// table, and the end of the merge. A history is the blocks of facts that were sent for its table,
+/// followed by one ending.
 #[derive(Drop)]
 pub struct Run {
     /// The drains of the tables, in table order, which have taken everything that was sent.

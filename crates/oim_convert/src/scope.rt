@@ -20,8 +20,8 @@ use std::sync::atomic::AtomicBool;
 use std::thread;
 use std::thread::{Scope, Threads};
 
-/// The drains of all tables, from which nothing was taken yet, room for a fault of each, and the head
-/// and the layout of the document.
+/// The fresh drains of all tables, room for a fault of each, and the head and layout of the
+/// document.
 #[derive(Drop)]
 pub(crate) struct Unmerged {
     pub(crate) drains: Vec<Drain>,
@@ -30,7 +30,7 @@ pub(crate) struct Unmerged {
     pub(crate) layout: Layout,
 }
 
-/// The drains, taken to their endings, the faults of those that ended refused, and how the merge ended.
+/// The drains, taken to their endings, the faults of the refused ones, and the end of the merge.
 #[derive(Drop)]
 pub(crate) struct Merged {
     pub(crate) drains: Vec<Drain>,
@@ -61,12 +61,13 @@ fn merge_all<T: Wait, W: Sink>(rt: &T, unmerged: Unmerged, sink: &mut W) -> Merg
 /// The results of the workers and of the merge.
 #[derive(Drop)]
 pub(crate) struct Worked<R> {
-    /// What each worker gave, and in it whether workers served the tables: where no thread could be made, all are refused.
+    /// The shifts of the workers. They also have whether workers served the tables: if no thread
+    /// could be made, all tables are refused.
     pub(crate) shifts: Shifts<TableTask<R>, TaskResult>,
     pub(crate) merged: Merged,
 }
 
-/// What the scope gives back, including the sink that was lent to it.
+/// The scope's result, with the sink that was lent to it.
 struct Returned<'a, R, W> {
     worked: Worked<R>,
     sink: &'a mut W,
@@ -91,7 +92,7 @@ fn serve_and_merge<'s, E, R: Read + Drop + Send + 's, T: Threads + Wait + Sync +
     Worked { shifts, merged }
 }
 
-/// The same in a scope of threads, which ends once all of them are joined.
+/// Works as `serve_and_merge` does, in a scope of threads that ends when all of them are joined.
 fn work_and_merge<R: Read + Drop + Send, T: Threads + Wait + Sync, W: Sink>(
     site: &Site<'_, TableTask<R>, Serving, T, Report>,
     posts: Posts<TableTask<R>, TaskResult, Serving, T, Report>,
@@ -122,7 +123,8 @@ fn work_and_merge<R: Read + Drop + Send, T: Threads + Wait + Sync, W: Sink>(
     worked
 }
 
-/// Merges while the workers of a crew draw and decode with this server. Gives back the claims, and the results.
+/// Merges while the workers of a crew draw and decode with this server. Returns the claims and the
+/// results.
 pub(crate) fn work_crew<R: Read + Drop + Send, T: Threads + Wait + Sync, W: Sink>(
     rt: &T,
     report: &Report,

@@ -1,40 +1,44 @@
-//! Sending blocks and endings into a ring, waiting while it is full.
+//! Sending blocks and endings into a ring, with waits while it is full.
+//!
+//! Not proved: that a worker counts as resting during each call that may wait, also if that call
+//! returns at once.
 
 ghost use Rattle.std.specs.Prelude.{◌≡◌, [], ◌∷◌, ◌++◌, true, IfSome};
 ghost use Rattle.oim_ring.specs.Items.{blocks_only};
 ghost use Rattle.oim_ring.specs.declared.item.Item.TheVariants as items;
 
 use oim_json::Block;
-use oim_pieces::Helpers;
+use oim_pieces::AtWork;
 use oim_ring::{CloseFault, Closed, Ending, Feed};
 use std::sync::Wait;
 
-/// The most blocks of a table that wait for the writer, however large its ring. More would only take memory, which is dear to touch first.
+/// The most blocks of a table that wait for the writer, however large its ring. More would only
+/// take fresh memory, whose first use is expensive.
 const MOST_WAITING: usize = 32;
 
-/// Sends a block once it is the feed's turn, trying again while the ring is full or so many blocks wait. During each call that may wait its worker
-/// counts as resting, also where that call returns at once. No clause says so.
-pub(crate) fn put_waiting<T: Wait>(rt: &T, helpers: &Helpers, feed: &mut Feed, block: Block)
+/// Sends a block when it is the feed's turn. Tries again while the ring is full or `MOST_WAITING`
+/// blocks wait.
+pub(crate) fn put_waiting<T: Wait>(rt: &T, at_work: &AtWork, feed: &mut Feed, block: Block)
     ensures ring { feed.new.ring ≡ feed.old.ring }
     ensures sent { feed.new.sent ≡ feed.old.sent ++ items.Block block ∷ [] }
 {
     let mut block = block;
     for _ in rt.forever() {
-        helpers.rest();
+        at_work.rest();
         feed.wait_for_turn(rt);
-        helpers.start();
+        at_work.start();
         match feed.put_below(block, MOST_WAITING) {
             Ok(()) => return,
             Err(back) => block = back,
         }
-        helpers.rest();
+        at_work.rest();
         feed.wait(rt);
-        helpers.start();
+        at_work.start();
     }
     unreachable!()
 }
 
-/// Closes a feed, trying again while the ring is full. `None` if the token is lost.
+/// Closes a feed. Tries again while the ring is full. Returns `None` if the token is lost.
 pub(crate) fn close_waiting<T: Wait>(rt: &T, feed: Feed, ending: Ending) -> Option<Closed>
     ensures ring { IfSome result (λ closed. closed.ring ≡ feed.ring) }
     ensures sent { IfSome result (λ closed. closed.sent ≡ feed.sent ++ items.Ending ending ∷ []) }

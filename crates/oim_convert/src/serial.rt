@@ -24,7 +24,8 @@ use oim_rows::{TableFault, TableKind};
 use std::alloc::Global;
 use std::io::Read;
 
-/// Gives the blocks that are left to the writer, and tells the table's ending. Stops at a failed write.
+/// Gives the remaining blocks to the writer, and returns the table's ending. Stops at a failed
+/// write.
 fn write_blocks<R: Read + Drop, W: Sink>(
     alloc: Global,
     blocks: &mut TableBlocks<'_, R>,
@@ -39,16 +40,16 @@ fn write_blocks<R: Read + Drop, W: Sink>(
     ensures took { TookBlocks writer.old writer.new (λ facts. IfSome blocks.old.left (λ s. Gave table s facts result)) }
     ensures broken { IfErr result (λ fault. IsBroken writer.new fault) }
 {
-    let mut room = Vec::new(alloc);
+    let mut spare = Vec::new(alloc);
     // The bound is never reached: a table has fewer blocks.
     for _ in 0..u64::MAX {
-        match blocks.next_block(room) {
+        match blocks.next_block(spare) {
             Ok(Some(block)) => {
                 writer.put(&block, sink);
                 if let Some(fault) = writer.fault() {
                     return Err(fault);
                 }
-                room = block.into_room();
+                spare = block.into_spare();
             }
             Ok(None) => return Ok(Ending::Closed),
             Err(fault) => return Ok(Ending::Refused(fault)),
@@ -57,8 +58,8 @@ fn write_blocks<R: Read + Drop, W: Sink>(
     Ok(refused(table, TableKind::Memory))
 }
 
-/// Reads a table's file to its end, gives its blocks to the writer, and tells the table's ending. Stops
-/// at a failed write.
+/// Reads a table's file to its end, gives its blocks to the writer, and returns the table's ending.
+/// Stops at a failed write.
 fn convert_file<R: Read + Drop, W: Sink>(
     alloc: Global,
     report: &Report,
@@ -81,8 +82,8 @@ fn convert_file<R: Read + Drop, W: Sink>(
     }
 }
 
-/// Reads a table to its end, gives its blocks to the writer, and tells its ending. Stops at a failed
-/// write.
+/// Reads a table to its end, gives its blocks to the writer, and returns its ending. Stops at a
+/// failed write.
 fn convert_table<R: Read + Drop, W: Sink>(
     alloc: Global,
     report: &Report,
@@ -105,8 +106,8 @@ fn convert_table<R: Read + Drop, W: Sink>(
     }
 }
 
-/// The ending, with this table's number at its fault. What decodes a table says that its fault has that number only where the
-/// reader tells its bytes.
+/// Returns the ending with this table's number in its fault. The contracts of decoding give that
+/// number only if they see the reader's bytes.
 fn numbered(table: usize, ending: Ending) -> Ending
     ensures own { IsEndingOf table result }
     ensures same { IsEndingOf table ending → result ≡ ending }
@@ -117,8 +118,8 @@ fn numbered(table: usize, ending: Ending) -> Ending
     }
 }
 
-/// Reads all tables to their ends, gives them to the writer, and notes the fault of each refused one.
-/// Stops at a failed write.
+/// Reads all tables to their ends, gives them to the writer, and appends the fault of each refused
+/// table to `faults`. Stops at a failed write.
 fn convert_tables<R: Read + Drop, W: Sink>(
     alloc: Global,
     report: &Report,
@@ -154,8 +155,8 @@ fn convert_tables<R: Read + Drop, W: Sink>(
     Ok(())
 }
 
-/// Gives all tables to a writer that has only begun, and ends the document. `faults` is empty and has
-/// room for one fault of each table.
+/// Gives all tables to a writer that has only begun, and ends the document. `faults` must be empty
+/// and have room for one fault of each table.
 fn write_tables<R: Read + Drop, W: Sink>(
     alloc: Global,
     report: &Report,
@@ -193,17 +194,20 @@ fn write_tables<R: Read + Drop, W: Sink>(
     }
 }
 
-/// Converts a report on one thread: reads each table with its reader, in table order, and writes the
-/// document of all facts to the sink in the given layout (xBRL-CSV 1.0, tables and table templates;
-/// xBRL-JSON 1.0, the report object and the facts object). A table without a reader has no file.
-/// `limits.rows` is at most 4,294,967,294.
+/// Converts a report on one thread: reads each table with its reader, in table order, and writes
+/// the document of all facts to the sink in the given layout (xBRL-CSV 1.0, tables and table
+/// templates; xBRL-JSON 1.0, the report object and the facts object). A table without a reader has
+/// no file. `limits.rows` is at most 4,294,967,294.
 ///
-/// Fails with `WrongReaders` exactly if the number of readers is not the number of tables, and with
-/// `Memory` if memory runs out before anything is written; in both cases nothing is written. Fails with
-/// `Tables` if tables have faults, with the first fault of each such table in table order: all tables
-/// are then read, and the unfinished document has the facts up to the first of these faults. A table
-/// whose reader fails or for which memory runs out is refused too. Fails with `Write` if a write failed:
-/// a beginning of the document is then written.
+/// Returns `WrongReaders` exactly if the number of readers is not the number of tables, and
+/// `Memory` if memory runs out before anything is written. In both cases nothing is written.
+///
+/// Returns `Tables` if tables have faults, with the first fault of each such table in table order.
+/// All tables are then read, and the unfinished document has the facts up to the first of these
+/// faults. A failed read or running out of memory refuses a table too.
+///
+/// Returns `Write` if a write failed: a prefix of the document is then written. It never returns
+/// another fault, so never `Lost`.
 pub fn convert_serial<R: Read + Drop, W: Sink>(
     alloc: Global,
     report: &Report,
@@ -214,12 +218,12 @@ pub fn convert_serial<R: Read + Drop, W: Sink>(
 ) -> Result<(), ConvertFault>
     requires { limits.rows ≤ 4294967294 }
 
-    // What is written and answered, if the readers tell their bytes.
+    // The text and the answer, if contracts see the readers' bytes.
     ensures converts { (files : List (Option (List ℕ))) → AreFilesOf R.remaining readers.items files
         → Converts layout report.now (streams report.now limits.rows files) (W.seen sink.old) (W.seen sink.new) result }
 
-    // What holds for all readers: there is a history of each table, decoded from its file if its own reader tells that, whatever the
-    // others tell; and what is written and answered is that of these histories.
+    // For all readers: each table has a history, which is decoded from its file if contracts see
+    // the bytes of its own reader. The text and the answer are those of these histories.
     ensures writes { WritesAlone R.remaining layout report.now limits.rows readers.items (W.seen sink.old) (W.seen sink.new) result }
     ensures tables { IsOfTables (length report.now.tables) result }
     ensures readers { (result ≡ Err fault.WrongReaders) ↔ (length readers.items ≢ length report.now.tables) }

@@ -54,7 +54,7 @@ fn refuse<R: Drop, T: Wait>(rt: &T, task: TableTask<R>) -> Option<Closed>
         table,
         reader: _,
         feed,
-        helpers: _,
+        at_work: _,
     } = task;
     close_waiting(rt, feed, refused(table, TableKind::NoThread))
 }

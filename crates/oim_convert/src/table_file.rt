@@ -2,7 +2,7 @@
 
 use oim_report::{Limits, Report};
 
-/// A table's file: the table's report and its place there, what reads the file, and the limits that hold of it.
+/// A table's file: the table's report and its place there, the reader, and the limits for it.
 #[derive(Drop)]
 pub(crate) struct TableFile<'r, R> {
     pub(crate) report: &'r Report,

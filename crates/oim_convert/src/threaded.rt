@@ -28,7 +28,7 @@ use std::io::Read;
 use std::sync::Wait;
 use std::thread::Threads;
 
-/// The fault that is found before anything is prepared.
+/// Returns the fault that is found before anything is prepared.
 fn fault_before(workers: usize, size: usize, readers: usize, tables: usize) -> Option<ConvertFault>
     ensures fault { result ≡ early_fault workers size readers tables }
     ensures fine { IfNone result (IsWorkerCount workers × IsRingSize size × (readers ≡ tables)) }
@@ -45,7 +45,7 @@ fn fault_before(workers: usize, size: usize, readers: usize, tables: usize) -> O
     None
 }
 
-/// What a conversion needs, prepared before anything is written.
+/// Everything that a conversion needs, prepared before anything is written.
 #[derive(Drop)]
 struct Ready<R: Read + Drop, T: Threads + Wait> {
     crew: Crew<TableTask<R>, TaskResult, Serving, T, Report>,
@@ -53,8 +53,7 @@ struct Ready<R: Read + Drop, T: Threads + Wait> {
     room: ReturnRoom<R>,
 }
 
-/// Everything that a conversion with this many workers and rings of this size needs. Fails if memory
-/// runs out.
+/// Returns everything for a conversion with `workers` workers and rings of `size` blocks.
 fn prepare<R: Read + Drop, T: Threads + Wait>(
     alloc: Global,
     report: &Report,
@@ -129,31 +128,35 @@ fn run_ready<R: Read + Drop + Send, T: Threads + Wait + Sync, W: Sink>(
     }
 }
 
-/// Converts a report on threads (xBRL-CSV 1.0, tables and table templates; xBRL-JSON 1.0, the report
-/// object and the facts object). `workers` workers draw the tables and decode each into a ring of its own,
-/// of size `size`, while the caller's thread writes the document of all facts to the sink, in table order
-/// and in the given layout. In the places of workers that rest, threads decode pieces of tables.
-/// A table without a reader has no file. `limits.rows` is at most 4,294,967,294. It
-/// waits for its workers, and it is not proved that it returns.
+/// Converts a report on threads (xBRL-CSV 1.0, tables and table templates; xBRL-JSON 1.0, the
+/// report object and the facts object). `workers` workers draw the tables and decode each into its
+/// own ring of size `size`. The caller's thread writes the document of all facts to the sink, in
+/// table order and in the given layout. While workers rest, helper threads decode pieces of tables.
+/// A table without a reader has no file. `limits.rows` is at most 4,294,967,294. It waits for its
+/// workers; that it returns is not proved.
 ///
-/// The answer is the same for every number of workers, ring size and schedule: if no reader failed and
-/// neither memory nor threads ran out, each history is its table's defined facts, and bytes and end are
-/// the defined answer.
+/// The answer is the same for every number of workers, ring size and schedule: if no reader failed
+/// and neither memory nor threads ran out, each history is its table's defined facts, and bytes and
+/// end are the defined answer.
 ///
-/// Each history is its table's stream, or a beginning of it that a failed read (`Read`) or running out
-/// of memory (`Memory`) ended; or every table is refused with `NoThread`, and never only some are. That
-/// holds of each table whose reader tells its bytes, whatever those of the others tell. They
-/// all are if no worker could be started, and in no other case: no clause of this call can say so,
-/// since nothing tells it which threads the system gave. The run has the fault of each refused table, in
-/// table order, however it ends. The end is `Complete` if no table is refused; `Refused` if one is, and
-/// then the document is unfinished after the facts of the first refused table; or `Write` if a write failed
-/// before that, and then a beginning of the document is written.
+/// Returns a run in which each history is its table's stream, or a prefix of it that a failed read
+/// (`Read`) or running out of memory (`Memory`) ended; or every table is refused with `NoThread`,
+/// never only some. This holds of each table if contracts see the bytes of its own reader.
+/// `NoThread` occurs only if no worker could be started. No clause of this call can have that,
+/// because it does not know which threads the system gave.
 ///
-/// Fails with `BadWorkers` if the number of workers is not 1 to 64, else with `BadSize` if the ring's
-/// size is not 1 to 65,536, else with `WrongReaders` if the number of readers is not the number of
-/// tables, and with `Memory` if memory runs out before anything is written; in these cases nothing is
-/// written. Fails with `Lost` if the end of a ring is lost: the document of some histories is then
-/// written, one for each table, or a beginning of it, and no clause says that they are the tables' own.
+/// The run has the fault of each refused table, in table order. Its end is `Complete` if no table
+/// is refused; `Refused` if one is, and then the document ends after the facts of the first refused
+/// table; or `Write` if a write failed before, and then a prefix of the document is written.
+///
+/// Returns the first of these faults that applies: `BadWorkers`, if the number of workers is not 1
+/// to 64; `BadSize`, if the ring's size is not 1 to 65,536; `WrongReaders`, if the number of
+/// readers is not the number of tables. Returns `Memory` if memory runs out before anything is
+/// written. In these cases nothing is written.
+///
+/// Returns `Lost` (54), a fault of the program itself, if a ring's token is lost. Then the document
+/// of some histories, one for each table, or a prefix of it, is written. No clause ties them to the
+/// tables.
 pub fn convert<R: Read + Drop + Send, T: Threads + Wait + Sync, W: Sink>(
     rt: &T,
     alloc: Global,
@@ -167,9 +170,9 @@ pub fn convert<R: Read + Drop + Send, T: Threads + Wait + Sync, W: Sink>(
 ) -> Result<Run, ConvertFault>
     requires { limits.rows ≤ 4294967294 }
 
-    // The headline, if all readers tell their bytes: the histories of the tables; NoThread ends all of
-    // them or none; and if none was cut short, each is its table's stream, and end and bytes are the
-    // defined answer.
+    // The headline, if contracts see all readers' bytes: the histories of the tables. NoThread ends
+    // all of them or none. If none was cut short, each is its table's stream, and end and bytes are
+    // the defined answer.
     ensures histories { (files : List (Option (List ℕ))) → AreFilesOf R.remaining readers.items files
         → IfOk result (λ run. AreHistories (streams report.now limits.rows files) run.drains.items) }
     ensures threads { (files : List (Option (List ℕ))) → AreFilesOf R.remaining readers.items files
@@ -178,8 +181,8 @@ pub fn convert<R: Read + Drop + Send, T: Threads + Wait + Sync, W: Sink>(
         → IfOk result (λ run. AreUncut run.drains.items → AreStreams (streams report.now limits.rows files) run.drains.items
         × IsAnswer layout report.now (streams report.now limits.rows files) (W.seen sink.old) (W.seen sink.new) run.faults.items run.end) }
 
-    // What holds for all readers: the history of each table by its own reader, each fault exactly when it
-    // applies, and what is written.
+    // For all readers: the history of each table by its own reader, each fault exactly if it
+    // applies, and the text written.
     ensures tables { IfOk result (λ run. AreServed R.remaining report.now limits.rows workers readers.items run.drains.items) }
     ensures faults { AnswersFault (early_fault workers size (length readers.items) (length report.now.tables)) result }
     ensures writes { Writes layout report.now (length report.now.tables) (W.seen sink.old) (W.seen sink.new) result }
@@ -189,9 +192,9 @@ pub fn convert<R: Read + Drop + Send, T: Threads + Wait + Sync, W: Sink>(
     )
 }
 
-/// Converts a report on threads as [`convert`] does, but tries to start only the first `starts` workers,
-/// and treats the others as workers that could not be started. With `starts` 0 every table is refused
-/// with `NoThread`.
+/// Converts a report on threads as [`convert`] does, but tries to start only the first `starts`
+/// workers, and treats the others as workers that could not be started. With `starts` 0 every table
+/// is refused with `NoThread`.
 pub fn convert_with_starts<R: Read + Drop + Send, T: Threads + Wait + Sync, W: Sink>(
     rt: &T,
     alloc: Global,
@@ -206,7 +209,7 @@ pub fn convert_with_starts<R: Read + Drop + Send, T: Threads + Wait + Sync, W: S
 ) -> Result<Run, ConvertFault>
     requires { limits.rows ≤ 4294967294 }
 
-    // The headline, if the readers tell their bytes.
+    // The headline, if contracts see the readers' bytes.
     ensures histories { (files : List (Option (List ℕ))) → AreFilesOf R.remaining readers.items files
         → IfOk result (λ run. AreHistories (streams report.now limits.rows files) run.drains.items) }
     ensures threads { (files : List (Option (List ℕ))) → AreFilesOf R.remaining readers.items files
@@ -219,8 +222,8 @@ pub fn convert_with_starts<R: Read + Drop + Send, T: Threads + Wait + Sync, W: S
     ensures alone { starts ≡ 0 → (files : List (Option (List ℕ))) → AreFilesOf R.remaining readers.items files
         → IfOk result (λ run. AreUnserved 0 (streams report.now limits.rows files) run.drains.items) }
 
-    // What holds for all readers: the history of each table by its own reader, each fault exactly when it
-    // applies, and what is written.
+    // For all readers: the history of each table by its own reader, each fault exactly if it
+    // applies, and the text written.
     ensures tables { IfOk result (λ run. AreServed R.remaining report.now limits.rows starts readers.items run.drains.items) }
     ensures faults { AnswersFault (early_fault workers size (length readers.items) (length report.now.tables)) result }
     ensures writes { Writes layout report.now (length report.now.tables) (W.seen sink.old) (W.seen sink.new) result }

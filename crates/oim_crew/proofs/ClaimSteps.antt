@@ -78,7 +78,7 @@ module _ {V : Type 0} (items : List V) (workers : ℕ) where
   finished-le : (views : List (View V)) → AllFit views → all_finished views ≤ all_shares views
   finished-le views all = sum-le (λ (v : View V). v.finished) (λ (v : View V). v.share) views (λ i v at. (all i v at).0)
 
-  -- the view after a draw of n, and after a draw that found none left
+  -- The view after a draw of n, and after a draw that found no item.
   abbrev drew : View V → ℕ → View V
   drew v n = record v { drawn = v.drawn ++ n ∷ [] }
 
@@ -139,11 +139,11 @@ module _ {V : Type 0} (items : List V) (workers : ℕ) where
         high = omega arith;
       }
 
-  -- a view has at most as many numbers as were drawn
+  -- A view has at most as many numbers as were drawn.
   few : (s : St) (r : Claimed items workers s) (id : ℕ) (v : View V) → get_elem? s.views id ≡ some v → length v.drawn ≤ word s
   few s r id v at = let old = r.lengths in omega (arith, sum-set (λ (u : View V). length u.drawn) s.views id v spent at)
 
-  -- the word stays below 2 ^ 64
+  -- The word stays below 2 ^ 64.
   no_wrap : (s : St) (r : Claimed items workers s) (id : ℕ) (me : M) → me.0.finished < me.0.share → get_elem? s.views id ≡ some me.0 → word s + 1 < 2 ^ 64
   no_wrap s r id me unended at =
       let fit = r.seats id me.0 at in let room = r.room in let high = r.high in let shares = r.shares in
@@ -176,16 +176,16 @@ module _ {V : Type 0} (items : List V) (workers : ℕ) where
       ))
 
 module _ {S : Type 0} where
-  -- the slot taken last is the first that the seat carries
+  -- The slot taken last is the first that the seat carries.
   pub on_top : (c d : List (ℕ × S)) (k : ℕ × S) → d ≡ k ∷ c → d ≡ k ∷ rest d
   on_top c d k e = e ∙ ap (λ (l : List (ℕ × S)). k ∷ rest l) (sym e)
 
--- the item taken out is the one in the slot
+-- The item taken out is the one in the slot.
 pub same_item : {V : Type 0} (c d e : List (ℕ × Option V)) (j k : ℕ) (x y : V) (o : Option V) → d ≡ (k, Some x) ∷ c → d ≡ (j, o) ∷ e → o ≡ Some y → x ≡ y
 same_item {V = V} c d e j k x y o p q r =
     let pair : ◌≡◌ {A = ℕ × Option V} (k, Some x) (j, o) = cc in let inner : Some x ≡ Some y = ap (λ (b : ℕ × Option V). b.1) pair ∙ r in cc
 
--- the seat after a draw of n
+-- The seat after a draw of n.
 pub drawn_one : {V : Type 0} (z y : TableId) (v w : View V) (finished : Bool) (n : ℕ) (before : Drawer V) → drawer z v finished ≡ before → y ≡ z
     → w ≡ record v { drawn = v.drawn ++ n ∷ [] } → drawer y w finished ≡ record before { numbers = before.numbers ++ n ∷ [] }
 drawn_one {V = V} z y v w finished n before is same after =

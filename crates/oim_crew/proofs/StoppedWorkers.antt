@@ -9,7 +9,7 @@ use Rattle.oim_crew.specs.Claims.{Claiming}
 use Rattle.oim_crew.specs.declared.worker.Shift.{Shift}
 use Rattle.oim_crew.specs.Shifts.{IsIdle, IsServed, IsShift}
 
--- with no starts, no worker may start
+-- With no starts, no worker may start.
 pub none_may : (place starts : ℕ) → starts ≡ 0 → nat_lt place starts ≡ false
 none_may place starts none = le-ltb place starts (omega (arith, none))
 

@@ -1,4 +1,5 @@
--- How views are dealt out and gathered, and what the view that stands for all seats knows in the end.
+-- How views are split and joined, and what the view that represents all seats has drawn at the
+-- end.
 use Rattle.std.proofs.Common.{
   ◌≡◌,
   ℕ,
@@ -46,7 +47,7 @@ use Rattle.oim_crew.proofs.ClaimSteps.{AllFit, fit-set}
 pub times-append : (k : ℕ) (xs ys : List ℕ) → times k (xs ++ ys) ≡ times k xs + times k ys
 times-append k xs ys = sum_by-append (λ (x : ℕ). cond (eqb x k) 1 0) xs ys
 
--- how often k occurs in the lists of the seats
+-- The count of k in the lists of all seats.
 pub times-flat_map : {X : Type 0} (f : X → List ℕ) (k : ℕ) (xs : List X) → times k (flat_map f xs) ≡ sum_by (λ (x : X). times k (f x)) xs
 times-flat_map f k [] = refl
 times-flat_map {X = X} f k (x ∷ xs) = omega (arith, times-append k (f x) (flat_map f xs), times-flat_map f k xs, sum_by-cons (λ (y : X). times k (f y)) x xs)
@@ -83,7 +84,7 @@ module _ {V : Type 0} (items : List V) (workers : ℕ) where
   abbrev with_views : St → List (View V) → St
   with_views s views = record { words = s.words; homes = s.homes; views = views }
 
-  -- the rule is about sums over the views
+  -- The rule is about sums over the views.
   same_sums : (s : St) (views : List (View V)) → Claimed items workers s → all_shares views ≡ all_shares s.views → all_finished views ≡ all_finished s.views
       → ((k : ℕ) → all_times k views ≡ all_times k s.views) → all_lengths views ≡ all_lengths s.views → AllFit items workers views → Claimed items workers (with_views s views)
   same_sums s views r shares ends draws lengths fits = let low = r.low in let high = r.high in record {
@@ -149,7 +150,7 @@ module _ {V : Type 0} (items : List V) (workers : ℕ) where
       (fit-set items workers s.views id (joined v w) r.seats (omega arith, (λ none. absurd (omega arith)), λ _. fit.2 one))
       (omega arith, (λ none. refl), λ some. absurd (omega arith)))
 
-  -- the view that stands for all seats has drawn each number once
+  -- The view that represents all seats has drawn each number once.
   pub settles : (s : St) (id : ℕ) (v : View V) → Claimed items workers s → get_elem? s.views id ≡ some v → v.share ≡ workers → 0 < v.finished → EachOnceBelow (length items) v.drawn
   settles s id v r at whole ended k =
       let all : all_shares s.views ≡ v.share = r.shares ∙ sym whole in

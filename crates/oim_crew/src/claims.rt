@@ -7,15 +7,15 @@ ghost use Rattle.oim_crew.specs.Numbers.{EachOnceBelow};
 
 use crate::seat::Seat;
 use crate::seats::{deal, gather};
-use crate::view::{Board, Draw, Plan};
+use crate::view::{Board, BoardPlan, Draw};
 use atomic_table::{Closed, Refused, Table};
 use std::alloc::{AllocError, Global};
 use std::marker::Model;
 use std::snapshot::Snapshot;
 
-/// Items that wait, each under the number of its place, until a seat draws that number. Threads
-/// share the claims, and each has a seat of its own. Contracts see the identity of the claims, all
-/// items in order, and the number of seats.
+/// Items that wait under the numbers of their places until a seat draws them. Threads share the
+/// claims, and each has its own seat. Contracts see the identity of the claims, all items in order,
+/// and the count of seats.
 #[derive(Drop)]
 pub struct Claims<V> {
     table: Board<V>,
@@ -37,7 +37,7 @@ impl<V> Model for Claims<V> {
     ghost invariant = { λ c. (c.table.shared.table_id.words ≡ 1) × (c.table.shared.table_id.slots ≡ length c.table.shared.key.items.value.items) };
 }
 
-/// A slot for each item.
+/// Returns a slot for each item.
 fn filled<V: Drop>(alloc: Global, items: Vec<V>) -> Result<Vec<Option<V>>, AllocError>
     ensures { IfOk result (λ slots. slots.items ≡ map Some items.items) }
 {
@@ -57,9 +57,9 @@ fn release<V: Drop>(mut closed: Closed<Option<V>, Global>)
 }
 
 impl<V: Drop> Claims<V> {
-    /// Claims of these items, each under the number of its place, counted from 0, and one fresh seat
-    /// for each worker. There must be at least one worker, and fewer than 2^64 items and workers
-    /// together. Fails if memory runs out, and then the items are dropped.
+    /// Returns claims of these items, each under the number of its place, counted from 0, and one
+    /// fresh seat for each worker. There must be at least one worker, and fewer than 2^64 items and
+    /// workers together. If memory runs out, the items are dropped.
     pub fn new(
         alloc: Global,
         items: Vec<V>,
@@ -70,7 +70,7 @@ impl<V: Drop> Claims<V> {
         ensures claims { IfOk result (λ made. (made.0.items ≡ items.items) × (made.0.workers ≡ workers)) }
         ensures seats { IfOk result (λ made. made.1.items ≡ replicate workers (fresh made.0)) }
     {
-        let plan = Plan {
+        let plan = BoardPlan {
             items: Snapshot::of(&items),
             workers,
         };
@@ -84,8 +84,9 @@ impl<V: Drop> Claims<V> {
         }
     }
 
-    /// Ends the claims. It takes back all their seats, at least one of which must have been answered
-    /// `None`. The seats together have then drawn each number below the number of items exactly once.
+    /// Ends the claims and takes back all their seats, of which at least one must have been
+    /// answered `None`. Then the seats together have drawn each number below the count of items
+    /// exactly once.
     pub fn close(self, mut seats: Vec<Seat<V>>)
         requires count { vec_len seats ≡ self.workers }
         requires mine { All (λ seat. seat.claims ≡ self) seats.items }
@@ -102,9 +103,9 @@ impl<V: Drop> Claims<V> {
 }
 
 impl<V> Claims<V> {
-    /// Draws the next number with a seat of these claims: gives the number and the item at that
-    /// place, or `None` if all numbers were drawn, which `close` shows. A seat that was answered `None` is
-    /// always answered `None` again. A draw does not wait and allocates no memory.
+    /// Draws the next number with a seat of these claims. Returns the number and the item at that
+    /// place, or `None` if all numbers were drawn, as `close` shows. After `None` a seat always
+    /// gets `None`. A draw does not wait and allocates no memory.
     pub fn draw(&self, seat: &mut Seat<V>) -> Option<(usize, V)>
         requires { seat.old.claims ≡ self.now }
         ensures { Draws seat.old result seat.new }

@@ -1,4 +1,6 @@
-//! A crew of workers: what it needs, how its workers are started, and how they are joined.
+//! A crew of workers: how it is made, started and joined.
+//!
+//! Not proved: that any worker is started.
 
 ghost use Rattle.std.specs.Prelude.{◌≡◌, ◌≤◌, ◌<◌, ◌+◌, ◌^◌, [], false, All, IfOk, cond, length, replicate, vec_len, vec_capacity};
 ghost use Rattle.std.specs.List.{list_all};
@@ -14,8 +16,8 @@ use std::alloc::{AllocError, Global};
 use std::sync::atomic::AtomicBool;
 use std::thread::{PromisedHandle, Scope, Threads};
 
-/// Room for the workers of a crew, made before any of them starts: the handles of those that were
-/// started, and the shifts of those that were not.
+/// Memory for the workers of a crew, made before any of them starts: the handles of the started
+/// workers, and the shifts of the others.
 #[derive(Drop)]
 pub struct Room<V, O, S: Serve<V, O, T, C>, T, C> {
     pub started: Vec<PromisedHandle<Shift<V, O>, ShiftOf<V, S, T, C>>>,
@@ -30,7 +32,7 @@ pub struct UnderWay<V, O, S: Serve<V, O, T, C>, T, C> {
     pub served: bool,
 }
 
-/// What the workers of a crew handed back.
+/// The shifts that the workers of a crew handed back.
 #[derive(Drop)]
 pub struct Shifts<V, O> {
     pub list: Vec<Shift<V, O>>,
@@ -38,7 +40,7 @@ pub struct Shifts<V, O> {
     pub served: bool,
 }
 
-/// Starts a worker at each of the first `starts` stations, as far as threads can be made.
+/// Starts a worker at each of the first `starts` stations, if the system gives it a thread.
 fn start_each<
     's,
     E,
@@ -75,15 +77,15 @@ fn start_each<
     }
 }
 
-/// Whether every worker was stopped before it drew.
+/// Returns whether every worker was stopped before it drew.
 pub fn all_idle<V, O>(shifts: &[Shift<V, O>]) -> bool
     ensures { result ≡ list_all (λ shift. shift.stopped) shifts.now }
 {
     shifts.iter().all(|shift| shift.stopped)
 }
 
-/// If no worker could be started, draws all items on this thread and serves each with the spare
-/// server. Tells whether the server is in use, and not the spare one.
+/// Draws all items on this thread and serves each with the spare server, if no worker was started.
+/// Returns whether the server is in use, and not the spare one.
 fn spare_unless_started<V: Drop, O: Drop, S: Serve<V, O, T, C> + Drop, T, C>(
     site: &Site<'_, V, S, T, C>,
     room: &mut Room<V, O, S, T, C>,
@@ -113,8 +115,8 @@ fn spare_unless_started<V: Drop, O: Drop, S: Serve<V, O, T, C> + Drop, T, C>(
     false
 }
 
-/// Starts workers at the first `starts` of the posts. If none could be started, serves all items on this
-/// thread with the spare server. That any is started no clause says.
+/// Starts workers at the first `starts` posts. If none starts, serves all items on this thread with
+/// the spare server.
 pub fn start_crew<
     's,
     E,
@@ -143,7 +145,7 @@ pub fn start_crew<
     UnderWay { room, served }
 }
 
-/// Joins the workers that were started, and gives the shifts of all workers.
+/// Joins the started workers, and returns the shifts of all workers.
 pub fn join_crew<V: Drop, O: Drop, S: Serve<V, O, T, C> + Drop, T: Threads, C>(
     site: &Site<'_, V, S, T, C>,
     under_way: UnderWay<V, O, S, T, C>,
@@ -167,14 +169,14 @@ pub fn join_crew<V: Drop, O: Drop, S: Serve<V, O, T, C> + Drop, T: Threads, C>(
     }
 }
 
-/// The stations at which the workers of a crew begin, and the room for the workers.
+/// The stations at which the workers of a crew begin, and memory for the workers.
 #[derive(Drop)]
 pub struct Posts<V, O, S: Serve<V, O, T, C>, T, C> {
     pub stations: Vec<Station<V, O>>,
     pub room: Room<V, O, S, T, C>,
 }
 
-/// What a crew needs, made before any of its workers starts.
+/// Everything that a crew needs, made before any of its workers starts.
 #[derive(Drop)]
 pub struct Crew<V, O, S: Serve<V, O, T, C>, T, C> {
     pub claims: Claims<V>,
@@ -182,7 +184,7 @@ pub struct Crew<V, O, S: Serve<V, O, T, C>, T, C> {
     pub stops: Vec<AtomicBool>,
 }
 
-/// A flag for each worker.
+/// Returns a flag for each worker.
 fn flags(alloc: Global, workers: usize) -> Result<Vec<AtomicBool>, AllocError>
     ensures { IfOk result (λ stops. vec_len stops ≡ workers) }
 {
@@ -193,7 +195,7 @@ fn flags(alloc: Global, workers: usize) -> Result<Vec<AtomicBool>, AllocError>
     Ok(stops)
 }
 
-/// A station for each seat.
+/// Returns a station for each seat.
 fn stations_of<V: Drop, O: Drop>(
     alloc: Global,
     claims: &Claims<V>,
@@ -213,8 +215,8 @@ fn stations_of<V: Drop, O: Drop>(
     Ok(made)
 }
 
-/// Claims of the items, and everything that this many workers need to serve them. There must be at least one worker, and
-/// fewer than 2^64 items and workers together. Fails if memory runs out.
+/// Returns claims of the items, and everything that `workers` workers need to serve them. There
+/// must be at least one worker, and fewer than 2^64 items and workers together.
 pub fn crew_of<V: Drop, O: Drop, S: Serve<V, O, T, C> + Drop, T, C>(
     alloc: Global,
     items: Vec<V>,

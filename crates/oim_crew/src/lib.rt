@@ -1,24 +1,25 @@
-//! Workers that share out numbered items. It knows nothing of reports.
+//! Workers that share out numbered items of any kind.
 //!
-//! What is proved of `Claims`, with which threads share out the items:
+//! What is proved of `Claims`, from which threads draw the items:
 //!
-//! - a draw gives a number and the item at its place (`specs/Claims.antt`);
-//! - where one of the seats was answered `None`, `close` with all of them shows that they together have drawn each number
-//!   once, so none twice (`specs/Numbers.antt`).
+//! - a draw returns a number and the item at its place (`specs/Claims.antt`);
+//! - if one of the seats was answered `None`, `close` with all seats shows that they together have
+//!   drawn each number exactly once (`specs/Numbers.antt`).
 //!
-//! And of a crew, which serves the items:
+//! What is proved of a crew, which serves the items:
 //!
-//! - `crew_of` makes all that its workers need before any of them starts. A worker that `start_crew` started has promised a
-//!   shift by the server; where it tells that the spare server is in use, all shifts are that one's, and no worker was started;
-//! - `join_crew` gives the shift of each worker: for each number that its seat drew, what the server in use gives of the item
-//!   under that number (`specs/Shifts.antt`).
+//! - `crew_of` makes everything that its workers need before any of them starts. A worker that
+//!   `start_crew` started has promised a shift by the server. If `served` is false, all shifts are
+//!   by the spare server, and no worker was started;
+//! - `join_crew` returns the shift of each worker. It holds, for each number that the worker's seat
+//!   drew, the result of the server in use for the item under that number (`specs/Shifts.antt`).
 //!
-//! That a worker is started where the system has a thread for it, no contract can say: tests show it.
+//! Not proved, only tested: that a worker is started if the system has a thread for it.
 //!
 //! A call:
 //!
 //! ```
-//! /// Two items, and a seat that has drawn none of them.
+//! /// Makes claims of two items with one fresh seat.
 //! fn shares_out(alloc: Global) -> Result<bool, AllocError> {
 //!     let items = vec![in alloc; 'a', 'b']?;
 //!     let made: (Claims<char>, Vec<Seat<char>>) = Claims::new(alloc, items, 1)?;

@@ -7,7 +7,7 @@ use crate::view::BoardSeat;
 use std::marker::Model;
 
 /// A seat, which draws from one `Claims`. Contracts see which claims they are, the numbers that it
-/// drew, in order, and whether it was answered that none are left.
+/// drew, in order, and whether it was answered `None`.
 #[derive(Drop)]
 pub struct Seat<V> {
     pub(crate) token: BoardSeat<V>,
@@ -31,7 +31,7 @@ impl<V> Model for Seat<V> {
 }
 
 impl<V> Seat<V> {
-    /// A seat that has drawn nothing.
+    /// Returns a seat that has drawn nothing.
     pub(crate) fn of(token: BoardSeat<V>) -> Seat<V>
         requires { (token.me.0.share ≡ 1) × (token.me.0.finished ≡ 0) }
         ensures { result ≡ drawer token.table_id token.me.0 false }
@@ -42,7 +42,7 @@ impl<V> Seat<V> {
         }
     }
 
-    /// The seat at the board.
+    /// Returns the seat at the board.
     pub(crate) fn into_token(self) -> BoardSeat<V>
         ensures view { drawer result.table_id result.me.0 self.finished ≡ self }
         ensures one { (result.me.0.share ≡ 1) × (result.me.0.finished ≡ cond self.finished 1 0) }

@@ -1,13 +1,13 @@
-//! All seats of the claims: dealt out from one, and gathered into one again.
+//! All seats of the claims: split off from one, and joined into one again.
 
 ghost use Rattle.std.specs.Prelude.{◌≡◌, ◌+◌, ◌<◌, ◌≤◌, [], length, replicate, vec_capacity, true};
 ghost use Rattle.oim_crew.specs.Claims.{fresh};
 ghost use Rattle.oim_crew.specs.state.Views.{opening_view, claiming, joined_seat};
 
 use crate::seat::Seat;
-use crate::view::{BoardSeat, Cut, Gather, Shed, Steps};
+use crate::view::{BoardSeat, Gather, SeatSplit, Shed, Steps};
 
-/// Deals out the seats that the token stands for, one by one.
+/// Splits off the seats that the token represents, one by one.
 pub(crate) fn deal<V>(
     steps: &Steps<V>,
     mut token: BoardSeat<V>,
@@ -21,14 +21,14 @@ pub(crate) fn deal<V>(
     ensures { seats.new.items ≡ replicate workers (fresh (claiming steps.now.table_id steps.now.key.items.value.items workers)) }
 {
     for _made in 0..workers - 1 {
-        let one = steps.split_seat::<Cut>(&mut token);
+        let one = steps.split_seat::<SeatSplit>(&mut token);
         seats.push_reserved(Seat::of(one));
     }
     seats.push_reserved(Seat::of(token));
 }
 
-/// Makes the token stand for this seat too. A seat that has drawn carries the slots that it emptied, so the whole of
-/// its view is split off once more before it is joined.
+/// Joins this seat into the token. A seat that has drawn carries the slots that it emptied, so its
+/// whole view is split off first.
 pub(crate) fn gather<V>(steps: &Steps<V>, whole: &mut BoardSeat<V>, seat: Seat<V>)
     requires place { (whole.old.table_id ≡ steps.now.table_id) × (seat.claims.id ≡ steps.now.table_id) × (0 < steps.now.table_id.words) }
     requires share { 0 < whole.old.me.0.share }

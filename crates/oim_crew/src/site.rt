@@ -1,9 +1,10 @@
-//! What the workers of a crew share.
+//! The things that the workers of a crew share.
 
 use crate::claims::Claims;
 
-/// What the workers of a crew share: the runtime's handle, what they serve from, the server, the spare one, which serves where no worker
-/// can be started, and the claims of the items.
+/// The things that the workers of a crew share: the runtime's handle, the data to serve from, the
+/// server, the spare server for the case that no worker can be started, and the claims of the
+/// items.
 #[derive(Drop)]
 pub struct Site<'s, V, S, T, C> {
     pub rt: &'s T,

@@ -1,37 +1,38 @@
-//! The board on which the claims stand: what a seat at it knows, and the steps that it takes.
+//! The board of the claims: the view of a seat at it, and the steps that the seat takes.
 
 use atomic_table::{Join, Play, Shared, Split, Table, TableRule};
 use std::alloc::Global;
 use std::collections::LinkedList;
 use std::snapshot::Snapshot;
 
-/// What a seat knows. It exists only in proofs: no code makes a value of it.
+/// The view of a seat. It exists only in proofs: no code makes a value of it.
 pub struct View<V> {
     /// The items at the start.
     pub items: LinkedList<V>,
-    /// The number of seats at the start.
+    /// The count of seats at the start.
     pub workers: usize,
     /// The numbers that were drawn.
     pub drawn: LinkedList<usize>,
-    /// The number of seats that this view stands for.
+    /// The count of seats that this view represents.
     pub share: usize,
-    /// The number of these that found that no item is left.
+    /// The count of these seats that found no item left.
     pub finished: usize,
 }
 
-/// What the board is given when it is made.
+/// The plan that the board is made from.
 #[derive(Drop)]
-pub struct Plan<V> {
-    /// The items, which only proofs remember.
+pub struct BoardPlan<V> {
+    /// The items, which only proofs use.
     pub items: Snapshot<Vec<V>>,
-    /// The number of seats.
+    /// The count of seats.
     pub workers: usize,
 }
 
-/// The rule of the claims: each number below the word was drawn once, and every other item still waits.
+/// The rule of the claims: each number below the word was drawn once, and every other item still
+/// waits.
 pub struct Drawing;
 
-impl<V> TableRule<Option<V>, View<V>, Plan<V>> for Drawing {
+impl<V> TableRule<Option<V>, View<V>, BoardPlan<V>> for Drawing {
     ghost use Rattle.oim_crew.specs.state.Views.{Claimed, opening_view};
 
     ghost holds = { λ plan. Claimed plan.items.value.items plan.workers };
@@ -40,10 +41,10 @@ impl<V> TableRule<Option<V>, View<V>, Plan<V>> for Drawing {
 }
 
 /// The word of the claims, and a slot for each item.
-pub type Board<V> = Table<Option<V>, View<V>, Plan<V>, Drawing, Global>;
+pub type Board<V> = Table<Option<V>, View<V>, BoardPlan<V>, Drawing, Global>;
 
 /// The part of the board that threads share.
-pub type Steps<V> = Shared<Option<V>, View<V>, Plan<V>, Drawing>;
+pub type Steps<V> = Shared<Option<V>, View<V>, BoardPlan<V>, Drawing>;
 
 /// A seat at the board.
 pub type BoardSeat<V> = atomic_table::Seat<Option<V>, View<V>>;
@@ -57,10 +58,10 @@ impl<V> Play<Option<V>, View<V>> for Draw {
     ghost then = { λ _. Told };
 }
 
-/// One of the seats that a view stands for gets a view of its own.
-pub struct Cut;
+/// One of the seats that a view represents gets its own view.
+pub struct SeatSplit;
 
-impl<V> Split<View<V>> for Cut {
+impl<V> Split<View<V>> for SeatSplit {
     ghost use Rattle.oim_crew.specs.state.Views.{one_less, one_seat};
 
     ghost left = { one_less };

@@ -11,13 +11,13 @@ use std::snapshot::Snapshot;
 use std::sync::atomic::{AtomicBool, Ordering};
 use std::thread::{Promise, PromisedHandle, Scope};
 
-/// Serves the items that workers draw. A server works with the runtime's handle `T` and with what all
-/// workers share, `C`.
+/// Serves the items that workers draw. A server works with the runtime's handle `T` and with `C`,
+/// the data that all workers share.
 pub trait Serve<V, O, T, C> {
     /// What must hold of the item under a number before it is served.
     ghost can_serve: { Self → C → ℕ → V → Type 0 };
 
-    /// What is given for the item under a number.
+    /// The result for the item under a number.
     ghost gives: { Self → C → ℕ → V → O → Type 0 };
 
     /// Serves the item under a number.
@@ -26,14 +26,14 @@ pub trait Serve<V, O, T, C> {
         ensures { gives self.now shared.now number item result };
 }
 
-/// What a worker begins with: a seat that has drawn nothing, and room for its results.
+/// A worker's start: a seat that has drawn nothing, and memory for its results.
 #[derive(Drop)]
 pub struct Station<V, O> {
     pub seat: Seat<V>,
     pub done: Vec<O>,
 }
 
-/// What a worker hands back: its seat, and its results.
+/// A worker's seat and results, which it hands back.
 #[derive(Drop)]
 pub struct Shift<V, O> {
     pub seat: Seat<V>,
@@ -42,7 +42,7 @@ pub struct Shift<V, O> {
     pub stopped: bool,
 }
 
-/// The promise of a worker: a shift of these claims by this server. Contracts alone look into it.
+/// The promise of a worker: a shift of these claims by this server. Only contracts read it.
 #[derive(Drop)]
 pub struct ShiftOf<V, S, T, C> {
     pub claims: Snapshot<Claims<V>>,
@@ -80,7 +80,7 @@ pub(crate) fn work<V, O, S: Serve<V, O, T, C>, T, C>(
     }
 }
 
-/// The same, or nothing if the worker was stopped before.
+/// Works as `work` does, or does nothing if the worker was stopped before.
 fn work_unless<V, O, S: Serve<V, O, T, C>, T, C>(
     rt: &T,
     shared: &C,
@@ -99,7 +99,7 @@ fn work_unless<V, O, S: Serve<V, O, T, C>, T, C>(
     work(rt, shared, server, claims, station)
 }
 
-/// The shift of a worker that was not started.
+/// Returns the shift of a worker that was not started.
 fn idle<V, O>(station: Station<V, O>) -> Shift<V, O>
     ensures { (result.seat ≡ station.seat) × (result.done ≡ station.done) × (result.stopped ≡ true) }
 {
@@ -111,8 +111,8 @@ fn idle<V, O>(station: Station<V, O>) -> Shift<V, O>
     }
 }
 
-/// Starts a worker if it may be started. If no thread can be made for it, its flag is set, and the error
-/// has its shift.
+/// Starts a worker if it may be started. If no thread can be made for it, sets its flag and returns
+/// its shift as the error.
 pub(crate) fn start<
     's,
     E,

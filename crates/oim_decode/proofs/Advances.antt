@@ -21,7 +21,7 @@ facts_more before pending after facts rows so more =
     more ∙ ap (λ t. t ++ facts) so ∙ append_assoc before (facts_of_rows rows) facts ∙ ap (λ t. before ++ (facts_of_rows rows ++ t)) (sym (append-nil facts))
     ∙ ap (λ t. before ++ t) (sym (flat_map-append (λ (row : List Fact). row) rows (facts ∷ [])))
 
--- one row more
+-- One more row.
 one_more : (table : ℕ) (s : Stream) (before pending after facts : List Fact) (rows : List (List Fact)) (left left' : Option Stream)
     → ReadsRows table s rows left → pending ≡ before ++ facts_of_rows rows
     → IfSome left (λ t. GivesNext table t (Ok (Some facts)) left') → after ≡ pending ++ facts → HasRead table s before after left'
@@ -35,7 +35,7 @@ one_more table s before pending after facts rows (Some rest) (Some next) (inl (s
 one_more table s before pending after facts rows (Some rest) (Some next) (inr (some, e, outside, only)) so gives more =
     let no : [] ≡ facts ∷ next.rows = ap (λ (t : Stream). t.rows) (sym only ∙ gives) in absurd (cc no)
 
--- the end
+-- The end.
 at_end : (table : ℕ) (s : Stream) (before pending : List Fact) (rows : List (List Fact)) (left left' : Option Stream) → ReadsRows table s rows left → pending ≡ before ++ facts_of_rows rows
     → IfSome left (λ t. GivesNext table t (Ok None) left') → HasRead table s before pending (Some (ending None))
 at_end table s before pending rows None left' reads so gives = absurd reads
@@ -43,7 +43,7 @@ at_end table s before pending rows (Some rest) left' (inl (split, same)) so give
 at_end table s before pending rows (Some rest) left' (inr (some, e, outside, only)) so gives =
     let no : Some e ≡ None = ap (λ (t : Stream). t.fault) (sym only ∙ gives) in absurd (cc no)
 
--- a fault
+-- A fault.
 pub broken_off : (table : ℕ) (s : Stream) (rows : List (List Fact)) (left : Option Stream) (e : TableFault) → ReadsRows table s rows left
     → IsOutside table e → ReadsRows table s rows (Some (ending (Some e)))
 broken_off table s rows None e reads outside = absurd reads
@@ -63,7 +63,7 @@ weaker : (left : Option Stream) (P Q : Stream → Type 0) → ((s : Stream) → 
 weaker None P Q f h = tt
 weaker (Some s) P Q f h = f s h
 
--- what a row adds, by its answer
+-- What a row adds, by its answer.
 pub row_added : (table : ℕ) (first : Option Stream) (before pending after : List Fact) (left left' : Option Stream) → IfSome first (λ s. HasRead table s before pending left)
     → IfSome left (λ t. AddsRow table t pending after (Ok true) left') → IfSome first (λ s. HasRead table s before after left')
 row_added table first before pending after None left' reads adds = weaker first (λ s. HasRead table s before pending None) (λ s. HasRead table s before after left') (λ s h. absurd h.1) reads
@@ -115,7 +115,7 @@ memory_given table first before pending after left left' e reads none short over
     weaker first (λ s. HasRead table s before pending left) (λ s. GivesBlock table before s (Err e) after left')
     (λ s h. record { rows = h.0; reads = subst (ReadsRows table s h.0) (sym over) (broken_off table s h.0 left e h.1 (inr short)); answers = (none, over, inr short) }) reads
 
--- an answer that is there is some
+-- An answer that exists is `Some`.
 pub no_answer : {A : Type 0} (o : Option A) → None ≡ o → IsSome o → ⊥
 no_answer None none some = cc some
 no_answer (Some x) none some = cc none
@@ -125,7 +125,7 @@ no_answer (Some x) none some = cc none
 more_dropped : (n : ℕ) (rs : List Record) → drop 1 (drop n rs) ≡ drop (n + 1) rs
 more_dropped n rs = drop-drop 1 n rs
 
--- a row more
+-- One more row.
 pub behind_row : (table k given next : ℕ) (old now after : Option (List Record)) → k ≤ given → next ≡ given + 1 → IfSome old (λ rs. IsBehind table rs (given - k) None now)
     → IfSome now (λ us. TakesOne table us (Ok true) after) → IfSome old (λ rs. IsBehind table rs (next - k) None after)
 behind_row table k given next None now after le is so takes = tt
@@ -133,14 +133,14 @@ behind_row table k given next (Some rs) now after le is so takes =
     let one : next - k ≡ (given - k) + 1 = omega (arith, le, is) in
     rw so at takes ∙ ap Some (more_dropped (given - k) rs ∙ ap (λ m. drop m rs) (sym one))
 
--- the end
+-- The end.
 pub behind_end : (table k given next : ℕ) (old now after : Option (List Record)) → next ≡ given → IfSome old (λ rs. IsBehind table rs (given - k) None now)
     → IfSome now (λ us. TakesOne table us (Ok false) after) → IfSome old (λ rs. IsBehind table rs (next - k) (Some None) after)
 behind_end table k given next None now after is so takes = tt
 behind_end table k given next (Some rs) now after is so takes =
     let took : TakesOne table (drop (given - k) rs) (Ok false) after = rw so at takes in (ap (λ i. drop (i - k) rs) is ∙ took.0, took.1)
 
--- a fault
+-- A fault.
 pub behind_fault : (table k given next : ℕ) (old now after : Option (List Record)) (e : TableFault) → next ≡ given → IfSome old (λ rs. IsBehind table rs (given - k) None now)
     → IfSome now (λ us. TakesOne table us (Err e) after) → IfSome old (λ rs. IsBehind table rs (next - k) (Some (Some e)) after)
 behind_fault table k given next None now after e is so takes = tt
@@ -150,12 +150,12 @@ behind_fault table k given next (Some rs) now after e is so takes = by (rw so at
     by (inl one) = inl (one ∙ ap Some (more_dropped (given - k) rs) ∙ ap (λ i. Some (drop ((i - k) + 1) rs)) (sym is))
     by (inr (outside, none)) = inr (outside, inr none)
 
--- no row came
+-- No row was read.
 pub stays : (k given next : ℕ) (before now after : List Fact) → next ≡ given → after ≡ now → (k < given) ⊎ (now ≡ before) → (k < next) ⊎ (after ≡ before)
 stays k given next before now after is same (inl more) = inl (omega (arith, more, is))
 stays k given next before now after is same (inr so) = inr (same ∙ so)
 
--- memory was refused for a block of what waited
+-- Memory ran out for a block of the waiting facts.
 pub behind_short : (table n : ℕ) (old : Option (List Record)) (answered : Option (Option TableFault)) (unread : Option (List Record)) (e : TableFault) → e ≡ file_fault table kind.Memory
     → IfSome old (λ rs. IsBehind table rs n answered unread) → IfSome old (λ rs. IsBehind table rs n (Some (Some e)) unread)
 behind_short table n None answered unread e short so = tt

@@ -1,4 +1,5 @@
--- The stream of rows is that of the rows decoded apart, joined under the identifiers before them.
+-- The stream of rows equals the rows decoded without the earlier ones, joined by the identifiers
+-- before them.
 use Rattle.std.proofs.Common.{◌≡◌, ◌++◌, ◌+◌, ℕ, suc, List, [], ◌∷◌, Bool, true, false, not, length, take, Option, Some, None, option_map, unwrap_or, Result, Ok, Err}
 use Rattle.std.proofs.Common.{refl, sym, ap, ◌∙◌, arith, append-nil, append_assoc, add-zero}
 use Rattle.std.specs.Prelude.{if◌then◌else◌}
@@ -19,7 +20,7 @@ use Rattle.oim_rows.specs.declared.fault.TableKind.TheVariants as kind
 
 -- A ROW
 
--- the fault of an identifier that came before
+-- The fault of a repeated identifier.
 abbrev pub repeats_at : ℕ → Option ℕ → ℕ → List Field → Record → Option TableFault
 repeats_at table None n before r = None
 repeats_at table (Some p) n before r = if list_any (bytes_eq (unwrap_or (field_at r p) [])) before then Some (fault_at table n (p + 1) kind.RepeatedRowId) else None
@@ -40,7 +41,7 @@ id_fault-apart g (Some p) n before r = by (is_empty f) (is_row_identifier f) (li
     by false true false = refl
     by false false a = refl
 
--- the fault of a row apart from its cells: what it has by itself, and then an identifier that came before
+-- The fault of a row apart from its cells: its own fault first, and then a repeated identifier.
 pub row_fault-apart : (g : TableHeaderValue) (n : ℕ) (before : List Field) (r : Record) → row_fault g n before r ≡ or_else (row_fault g n [] r) (repeats_at g.table (id_place_of g) n before r)
 row_fault-apart g n before r =
     by (ragged_fault g n r) (text_fault g n r) (limit_fault g n) (id_fault g (id_place_of g) n [] r) (id_fault g (id_place_of g) n before r)
@@ -56,7 +57,7 @@ pub ids_and : (o : Option ℕ) (ids : List Field) (r : Record) → ids_after o i
 ids_and None ids r = sym (append-nil ids)
 ids_and (Some p) ids r = refl
 
--- IDENTIFIERS THAT CAME BEFORE
+-- REPEATED IDENTIFIERS
 
 pub repeated_shifts : (k : ℕ) (before ids : List Field) → repeated_from (suc k) before ids ≡ option_map suc (repeated_from k before ids)
 repeated_shifts k before [] = refl
@@ -67,7 +68,7 @@ repeated_shifts k before (id ∷ ids) = by (list_any (bytes_eq id) before) (repe
     by true more = refl
     by false more = let one : suc k + 1 ≡ suc (k + 1) = omega arith in ap (λ i. repeated_from i (before ++ id ∷ []) ids) one ∙ more
 
--- a row in front of a piece that is cut
+-- A row before a piece that is cut.
 cut_later : (g : TableHeaderValue) (n : ℕ) (facts : List Fact) (ids : List Field) (rest : Apart) (o : Option ℕ)
     → cut_at g n (option_map suc o) (record { rows = facts ∷ rest.rows; ids = ids; fault = rest.fault }) ≡ row_in_front (Ok facts) (cut_at g (n + 1) o rest)
 cut_later g n facts ids rest None = refl
@@ -75,11 +76,11 @@ cut_later g n facts ids rest (Some k) =
     let one : n + suc k ≡ (n + 1) + k = omega arith in
     ap (λ m. record { rows = facts ∷ take k rest.rows; fault = Some (repeated_id g m) }) one
 
--- a piece that is cut at its first row
+-- A piece that is cut at its first row.
 cut_first : (g : TableHeaderValue) (n : ℕ) (a : Apart) → cut_at g n (Some 0) a ≡ ending (Some (repeated_id g n))
 cut_first g n a = ap (λ m. ending (Some (repeated_id g m))) (add-zero n)
 
--- a row with an identifier in front
+-- A row with an identifier before a piece.
 joined_id : (g : TableHeaderValue) (n : ℕ) (before : List Field) (own : Option TableFault) (facts : Result (List Fact) TableFault) (f : Field) (rest : Apart)
     → joined_piece g n before (apart_row own facts (f ∷ []) rest)
     ≡ row_in_front (checked (or_else own (if list_any (bytes_eq f) before then Some (repeated_id g n) else None)) facts) (joined_piece g (n + 1) (before ++ f ∷ []) rest)
@@ -100,7 +101,7 @@ joined_id g n before None (Ok facts) f rest = by (list_any (bytes_eq f) before)
     by true = cut_first g n whole
     by false = ap (λ o. cut_at g n o whole) (repeated_shifts 0 (before ++ f ∷ []) rest.ids) ∙ cut_later g n facts (f ∷ rest.ids) rest (repeated_from 0 (before ++ f ∷ []) rest.ids)
 
--- a row in front where the table has no identifiers
+-- A row before a piece of a table without identifiers.
 joined_plain : (g : TableHeaderValue) (n : ℕ) (before : List Field) (own : Option TableFault) (facts : Result (List Fact) TableFault) (rest : Apart) → rest.ids ≡ []
     → joined_piece g n before (apart_row own facts [] rest) ≡ row_in_front (checked own facts) (joined_piece g (n + 1) before rest)
 joined_plain g n before (Some e) facts rest none = refl
@@ -132,7 +133,7 @@ joined_row g n before own facts r rest (Some p) is none =
     ∙ ap (λ q. row_in_front (checked (or_else own (if list_any (bytes_eq (unwrap_or (field_at r p) [])) before then Some (fault_at g.table n (unwrap_or q 0 + 1) kind.RepeatedRowId) else None)) facts)
     (joined_piece g (n + 1) (before ++ unwrap_or (field_at r p) [] ∷ []) rest)) is
 
--- A stream is the join of its rows, decoded apart
+-- A stream is the join of its rows.
 pub stream_joined : (g : TableHeaderValue) (n : ℕ) (ids : List Field) (rows : List Record) → stream_from g n ids rows ≡ joined_piece g n ids (apart_from g n rows)
 unfolding stream_from apart_from
 stream_joined g n ids [] = refl
@@ -144,7 +145,7 @@ stream_joined g n ids (r ∷ rows) =
     (stream_joined g (n + 1) (ids_after (id_place_of g) ids r) rows ∙ ap (λ before. joined_piece g (n + 1) before rest) (ids_and (id_place_of g) ids r))
     ∙ sym (joined_row g n ids (row_fault g n [] r) facts r rest (id_place_of g) refl (no_ids g (n + 1) rows))
 
--- ROWS BEHIND ROWS
+-- ROWS AFTER ROWS
 
 ids_more : (o : Option ℕ) (ids : List Field) (r : Record) (rows : List Record) → ids_after o ids r ++ ids_of o rows ≡ ids ++ ids_of o (r ∷ rows)
 ids_more None ids r rows = refl
@@ -176,7 +177,7 @@ stream_append g n ids (r ∷ xs) ys =
     ap (row_in_front (row_result g n ids r)) more
     ∙ in_front_of_both (row_result g n ids r) (stream_from g (n + 1) next xs) (stream_from g (n + length (r ∷ xs)) (ids ++ ids_of (id_place_of g) (r ∷ xs)) ys)
 
--- a piece without a fault has the identifiers of all its records
+-- A piece without a fault has the identifiers of all its records.
 pub whole_ids : (g : TableHeaderValue) (n : ℕ) (rows : List Record) → (apart_from g n rows).fault ≡ None → (apart_from g n rows).ids ≡ ids_of (id_place_of g) rows
 unfolding apart_from
 whole_ids g n [] none = sym (no_rows_ids (id_place_of g))
@@ -193,7 +194,7 @@ whole_ids g n (r ∷ rows) none = by (row_fault g n [] r) (facts_from g.report g
     by None (Err e) none ids = cc none
     by None (Ok facts) none ids = ap (λ t. id_in (id_place_of g) r ++ t) (ids none) ∙ more (id_place_of g)
 
--- a piece with a fault has one where it is joined
+-- A piece with a fault has one after the join.
 joined_ends : (g : TableHeaderValue) (n : ℕ) (before : List Field) (a : Apart) (e : TableFault) → a.fault ≡ Some e → (x : TableFault) × ((joined_piece g n before a).fault ≡ Some x)
 joined_ends g n before a e is = by (repeated_from 0 before a.ids)
   where
@@ -204,7 +205,7 @@ joined_ends g n before a e is = by (repeated_from 0 before a.ids)
 then_ends : (s t u : Stream) (e : TableFault) → s.fault ≡ Some e → stream_then s t ≡ stream_then s u
 then_ends s t u e is = rw is refl
 
--- behind a piece, what comes next is read with the identifiers of the piece
+-- What follows a piece is read with the identifiers of the piece.
 pub piece_then : (g : TableHeaderValue) (n : ℕ) (ids : List Field) (p : List Record) (next : List Field → Stream)
     → stream_then (joined_piece g n ids (apart_from g n p)) (next (ids ++ ids_of (id_place_of g) p)) ≡ stream_then (joined_piece g n ids (apart_from g n p)) (next (ids ++ (apart_from g n p).ids))
 piece_then g n ids p next = by (apart_from g n p).fault refl

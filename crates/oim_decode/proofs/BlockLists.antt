@@ -7,7 +7,7 @@ use Rattle.oim_rows.specs.Streams.{facts_of_rows}
 use Rattle.oim_decode.specs.state.RowEnds.{stretches}
 use Rattle.oim_decode.proofs.RowCounts.{facts_push}
 
--- a block more, and the facts behind it
+-- One more block, and the facts after it.
 pub block_more : (blocks blocks' : List (List Fact)) (all block facts rest : List Fact) → facts_of_rows blocks ++ facts ≡ all → blocks' ≡ blocks ++ block ∷ [] → facts ≡ block ++ rest
     → facts_of_rows blocks' ++ rest ≡ all
 block_more blocks blocks' all block facts rest so more split =
@@ -17,7 +17,7 @@ block_more blocks blocks' all block facts rest so more split =
 pub block_taken : (n : ℕ) (facts block rest : List Fact) → block ≡ take n facts → rest ≡ drop n facts → facts ≡ block ++ rest
 block_taken n facts block rest front back = sym (take-append-drop n facts) ∙ ap (λ t. t ++ drop n facts) (sym front) ∙ ap (λ t. block ++ t) (sym back)
 
--- facts of stretches, one after another
+-- The facts of stretches, one after another.
 pub stretch_more : (done done' facts all : List Fact) (left next : List (List (List Fact))) (rows : List (List Fact)) → done ++ facts_of_rows (stretches left) ≡ all → left ≡ rows ∷ next
     → facts ≡ facts_of_rows rows → done' ≡ done ++ facts → done' ++ facts_of_rows (stretches next) ≡ all
 stretch_more done done' facts all left next rows so first are more =
@@ -28,7 +28,7 @@ stretch_more done done' facts all left next rows so first are more =
 pub no_stretch : (done all : List Fact) (left : List (List (List Fact))) → done ++ facts_of_rows (stretches left) ≡ all → left ≡ [] → done ≡ all
 no_stretch done all left so none = sym (append-nil done) ∙ ap (λ t. done ++ facts_of_rows (stretches t)) (sym none) ∙ so
 
--- those of all stretches, and of the rows behind them
+-- Those of all stretches, and of the rows after them.
 pub all_stretches : (rows last : List (List Fact)) (full : List (List (List Fact))) (some all facts : List Fact) → rows ≡ stretches full ++ last → some ≡ facts_of_rows (stretches full)
     → facts ≡ facts_of_rows last → all ≡ some ++ facts → all ≡ facts_of_rows rows
 all_stretches rows last full some all facts is front back more =

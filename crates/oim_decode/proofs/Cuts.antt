@@ -14,16 +14,16 @@ use Rattle.oim_rows.specs.declared.fault.TableFault.{TableFault}
 use Rattle.oim_json.specs.Blocks.{behind_comma, behind_commas, ends_from}
 use Rattle.oim_json.proofs.Blocks.{texts_append, texts_cut, ends_append, ends_length, read_end}
 
--- FRONTS
+-- PREFIXES
 
--- what came behind a front is taken off again
+-- What was written after a prefix is cut off again.
 pub taken_back : (old new : List ℕ) (n : ℕ) → n ≡ length old → IsPrefix old new → take n new ≡ old
 taken_back old new n here front = ap (take n) (sym front.1) ∙ take_at old front.0 n (sym here)
 
 pub front_of : (old cut new : List ℕ) → cut ≡ old → IsPrefix cut new → IsPrefix old new
 front_of old cut new same front = (front.0, ap (λ t. t ++ front.0) (sym same) ∙ front.1)
 
--- a row was written behind what was there
+-- A row is written after the old text.
 pub written_behind : (x : RowValue) (old cut new noted cuts notes : List ℕ) → cut ≡ old → cuts ≡ noted → WritesFacts x cut new cuts notes → WritesFacts x old new noted notes
 written_behind x old cut new noted cuts notes same kept w = record {
   facts = w.facts;
@@ -50,7 +50,7 @@ all_text n (f ∷ fs) none = by (is_utf8 f) refl none (all_text (n + 1) fs)
 
 -- BATCHES
 
--- the texts and ends of the first facts
+-- The texts and ends of the first facts.
 pub first_texts : (n at : ℕ) (fs : List Fact) (bytes : List ℕ) → bytes ≡ behind_commas fs → at ≡ length (behind_commas (take n fs)) → take at bytes ≡ behind_commas (take n fs)
 first_texts n at fs bytes is here = ap (take at) (is ∙ texts_cut n fs) ∙ take_at (behind_commas (take n fs)) (behind_commas (drop n fs)) at (sym here)
 
@@ -66,7 +66,7 @@ pub first_ends : (n : ℕ) (fs : List Fact) (ends : List ℕ) → n ≤ length f
 first_ends n fs ends h is =
     ap (take n) (is ∙ ends_split n fs) ∙ take_at (ends_from 0 (take n fs)) (ends_from (length (behind_commas (take n fs))) (drop n fs)) n (ends_length 0 (take n fs) ∙ length-take-le n fs h)
 
--- ends are counted from another place
+-- Ends are counted from another place.
 moved : (n k : ℕ) (fs : List Fact) → map (λ e. e - k) (ends_from (k + n) fs) ≡ ends_from n fs
 unfolding ends_from
 moved n k [] = refl
@@ -85,7 +85,7 @@ rest_ends n at fs ends h is here =
     (ends_length 0 (take n fs) ∙ length-take-le n fs h) ∙ ap (λ k. ends_from k (drop n fs)) (sym none) in
     ap (map (λ e. e - at)) back ∙ moved 0 at (drop n fs)
 
--- where the first n facts end
+-- Where the first n facts end.
 pub end_of_first : (n : ℕ) (fs : List Fact) (ends : List ℕ) (at : ℕ) → ends ≡ ends_from 0 fs → 1 ≤ n → n ≤ length fs → at ≡ get_or ends (n - 1) at → at ≡ length (behind_commas (take n fs))
 end_of_first n fs ends at is some h got =
     let one : (n - 1) + 1 ≡ n = omega arith in
@@ -94,7 +94,7 @@ end_of_first n fs ends at is some h got =
 pub drop_before : (n : ℕ) (fs : List Fact) → length (behind_commas (take n fs)) ≤ length (behind_commas fs)
 drop_before n fs = omega (arith, ap length (texts_cut n fs), length-append (behind_commas (take n fs)) (behind_commas (drop n fs)))
 
--- what is held of more facts
+-- What is held of more facts.
 pub held_more : (out out' ends ends' : List ℕ) (fs gs hs : List Fact) → out ≡ behind_commas fs → ends ≡ ends_from 0 fs
     → out' ≡ out ++ behind_commas gs → ends' ≡ ends ++ ends_from (length out) gs → hs ≡ fs ++ gs
     → (out' ≡ behind_commas hs) × (ends' ≡ ends_from 0 hs)

@@ -1,4 +1,4 @@
--- The definitions, executed on worked cases.
+-- Examples of the rules for reading a table in blocks (`specs/Blocks.antt`, `specs/state`).
 use lib.Utf8.{encode}
 use Rattle.std.proofs.Common.{◌≡◌, ◌++◌, ℕ, List, Option, [], ◌∷◌, Some, None, Ok, Err, true, false, refl, ap, arith, codes, map, inl, inr}
 use Rattle.csv.specs.Reading.{strip_bom}
@@ -25,11 +25,11 @@ a = record { id = codes "a"; value = None; decimals = None; dimensions = [] }
 abbrev b : Fact
 b = record { id = codes "b"; value = None; decimals = None; dimensions = [] }
 
--- a settled table has nothing left but its ending
+-- `end_or_left`: a settled table has only its end left.
 ended : end_or_left (Some None) (Some (record { rows = (a ∷ []) ∷ []; fault = None })) ≡ Some (ending None)
 ended = refl
 
--- also where that is a fault; one that is still read has its rows
+-- `end_or_left`: also if it ended with a fault. An unsettled table has its rows.
 abbrev failed : TableFault
 failed = file_fault 0 kind.Read
 
@@ -37,37 +37,37 @@ left_then : (end_or_left None (Some (record { rows = (a ∷ []) ∷ []; fault = 
     × (end_or_left (Some (Some failed)) None ≡ Some (ending (Some failed)))
 left_then = (refl, refl)
 
--- two rows and the end behind them are looked for, or nothing
+-- `turns_left`: two rows and the end after them are left to read, or nothing.
 turns : (turns_left None 2 ≡ 3) × (turns_left (Some None) 2 ≡ 0)
 turns = (refl, refl)
 
--- a row without facts is a row
+-- `has_row`: a row without facts is a row.
 rows_or_none : map has_row (Ok (Some []) ∷ Ok (Some (a ∷ [])) ∷ Ok None ∷ Err failed ∷ []) ≡ Ok true ∷ Ok true ∷ Ok false ∷ Err failed ∷ []
 rows_or_none = refl
 
--- one of two rows was read
+-- `ReadsRows`: one of two rows was read.
 one_of_two : ReadsRows 0 (record { rows = (a ∷ []) ∷ (b ∷ []) ∷ []; fault = None }) ((a ∷ []) ∷ []) (Some (record { rows = (b ∷ []) ∷ []; fault = None }))
 one_of_two = inl (refl, refl)
 
--- the reader failed after the first
+-- `ReadsRows`: the reader failed after the first row.
 broken : ReadsRows 0 (record { rows = (a ∷ []) ∷ (b ∷ []) ∷ []; fault = None }) ((a ∷ []) ∷ []) (Some (ending (Some (file_fault 0 kind.Read))))
 broken = inr (((b ∷ []) ∷ [], refl), file_fault 0 kind.Read, inl refl, refl)
 
--- ANSWERS over facts. A block has the first of them, in order, and loses none
+-- ANSWERS over facts (`AnswersFacts`). A block has a prefix of them and loses none.
 a_block : AnswersFacts 0 (a ∷ b ∷ a ∷ []) (Ok (Some (a ∷ b ∷ []))) (a ∷ []) None
 a_block = refl
 
 a_lost_fact : AnswersFacts 0 (a ∷ b ∷ []) (Ok (Some (a ∷ []))) [] None → ⊥
 a_lost_fact h = absurd (cc h)
 
--- the end comes where no fact is pending, and then nothing is left
+-- The end is answered if no fact is pending, and then nothing is left.
 the_end : AnswersFacts 0 [] (Ok None) [] (Some (ending None))
 the_end = (refl, refl, refl)
 
 an_early_end : AnswersFacts 0 (a ∷ []) (Ok None) [] (Some (ending None)) → ⊥
 an_early_end h = absurd (cc h.0)
 
--- a fault comes behind all facts, but for one that is told since memory was refused for their block
+-- A fault is answered after all facts, except Memory for the block of the facts.
 a_fault : AnswersFacts 0 [] (Err failed) [] (Some (ending (Some failed)))
 a_fault = (refl, refl, inl refl)
 
@@ -81,7 +81,7 @@ an_early_fault h =
 facts_lost_for_memory : AnswersFacts 0 (a ∷ []) (Err (file_fault 0 kind.Memory)) [] (Some (ending (Some (file_fault 0 kind.Memory))))
 facts_lost_for_memory = (refl, refl, inr refl)
 
--- ROWS. The facts of an answer are added to others; none are with a fault
+-- ROWS (`facts_of_answer`). The facts of an answer are added; a fault has none.
 a_row_added : (facts_of_answer (Ok (a ∷ b ∷ [])) ≡ a ∷ b ∷ []) × (facts_of_answer (Err failed) ≡ [])
 a_row_added = (refl, refl)
 
@@ -101,7 +101,8 @@ abbrev number_found : Option TableFault → ℕ
 number_found None = 0
 number_found (Some f) = number_of f.kind
 
--- READING. Of three records one was read as a row, and the next has a fault: the third is left. The end comes where none is left
+-- READING (`IsBehind`). One of three records was read as a row, and the next has a fault: the third
+-- is left. The end is answered if none is left.
 abbrev three : List Record
 three = ([] ∷ []) ∷ ([] ∷ []) ∷ (codes "c" ∷ []) ∷ []
 
@@ -125,7 +126,7 @@ an_end_too_early h = absurd (cc h.0)
 left_to_read : IsBehind 0 three 2 None (Some ((codes "c" ∷ []) ∷ []))
 left_to_read = refl
 
--- one record at a time
+-- `TakesOne`: one record at a time.
 one_more_record : TakesOne 0 three (Ok true) (Some (([] ∷ []) ∷ (codes "c" ∷ []) ∷ []))
 one_more_record = refl
 
@@ -135,7 +136,7 @@ rows_counted = ((refl, omega arith), (refl, λ h. absurd (omega (arith, h))))
 facts_only_with_a_row : AddsNone (Err twice) (a ∷ []) (a ∷ [])
 facts_only_with_a_row = refl
 
--- what was found is given once nothing waits, and nothing waits behind it
+-- `GivesFound`: what was found is given once no fact waits.
 found_and_given : GivesFound 0 [] (Some twice) (Err twice) (Some (Some twice))
 found_and_given = inl (refl, refl)
 
@@ -146,7 +147,7 @@ another_fault : GivesFound 0 [] (Some twice) (Err failed) (Some (Some failed)) �
 another_fault (inl h) = let numbers : 30 ≡ 21 = ap number_found h.0 in absurd (omega (arith, numbers))
 another_fault (inr h) = absurd (omega (arith, h.1))
 
--- an end or a fault is answered again
+-- `KeepsAnswer`: the end or a fault is answered again.
 answered_again : KeepsAnswer {A = ℕ} (Ok None) (Some None) × KeepsAnswer {A = ℕ} (Err failed) (Some (Some failed)) × KeepsAnswer {A = ℕ} (Ok (Some 7)) None
     × (KeepsAnswer {A = ℕ} (Ok None) None → ⊥) × (KeepsAnswer {A = ℕ} (Err failed) (Some None) → ⊥)
 answered_again = (refl, refl, tt, λ h. absurd (cc h), λ h. absurd (cc h))
@@ -154,7 +155,7 @@ answered_again = (refl, refl, tt, λ h. absurd (cc h), λ h. absurd (cc h))
 waits_for_ever : LeavesNone (Err failed) (a ∷ []) → ⊥
 waits_for_ever h = absurd (cc h)
 
--- HEADS. U+FEFF in UTF-8, which a reader of records passes over once
+-- HEADS. U+FEFF in UTF-8, the byte-order mark that a reader of records skips once.
 mark_of_a_file : mark ≡ encode 0xFEFF
 unfolding encode
 mark_of_a_file = refl
@@ -163,7 +164,7 @@ mark_passed_over : (strip_bom (mark ++ codes "cash") ≡ codes "cash") × (strip
 unfolding strip_bom
 mark_passed_over = (refl, refl)
 
--- the first record is the header, also where it is empty or the only one
+-- `header_in`: the first record is the header, even if it is empty or the only one.
 abbrev cash_record : Record
 cash_record = codes "cash" ∷ codes "k" ∷ []
 
@@ -173,7 +174,7 @@ first_is_the_header = (refl, refl, refl)
 abbrev column : List ℕ → Column
 column id = record { id = id; kind = content.Plain; level = no_level; groups = []; from = [] }
 
--- a report of two tables, each under a template of its own
+-- A report of two tables with a template each.
 abbrev report : ReportValue
 report = record {
   info = record { base_url = None; taxonomy = [] };
@@ -187,7 +188,8 @@ report = record {
   parameters = [];
 }
 
--- rows are read by the columns that the first record names, in its order, of the table's own template; an empty cell names none
+-- `table_header_in`: the first record names the columns of the table's own template, in its order.
+-- An empty cell names none.
 rows_under_the_header : table_header_in report 0 9 ((codes "k" ∷ [] ∷ codes "cash" ∷ []) ∷ cash_record ∷ []) ≡ record { report = report; table = 0; limit = 9; columns = Some 1 ∷ None ∷ Some 0 ∷ [] }
 rows_under_the_header = refl
 

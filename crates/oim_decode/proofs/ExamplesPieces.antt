@@ -1,4 +1,4 @@
--- Pieces of a table, on worked cases.
+-- Examples of the rules for pieces of a table (`specs/Apart.antt`, `specs/Pieces.antt`).
 use Rattle.std.proofs.Common.{◌≡◌, ◌++◌, ◌∷◌, [], ℕ, List, Some, None, Ok, Err, false, true, codes, refl, inl, inr}
 use Rattle.std.specs.Str.{chars, is_utf8}
 use Rattle.csv.specs.Records.{field_at}
@@ -26,7 +26,7 @@ use Rattle.oim_rows.specs.RowFacts.{TableHeaderValue}
 use Rattle.oim_rows.specs.Streams.{Stream, ending}
 use Rattle.oim_rows.specs.declared.fault.TableKind.TheVariants as kind
 
--- a report of one table with a column of facts and one of row identifiers
+-- A report of one table with a column of facts and one of row identifiers.
 abbrev report : ReportValue
 report = record {
   info = record { base_url = None; taxonomy = [] };
@@ -57,7 +57,7 @@ identifier_of_a_row : (id_in (Some 1) (line (codes "x") (codes "a")) ≡ codes "
 unfolding field_at
 identifier_of_a_row = (refl, refl)
 
--- A PIECE BY ITSELF: an identifier that stands in it twice is no fault yet
+-- A PIECE WITHOUT THE OTHERS (`apart_from`). An identifier may occur twice in it.
 abbrev twice : List Record
 twice = line (codes "x") (codes "a") ∷ line (codes "y") (codes "a") ∷ []
 
@@ -68,7 +68,7 @@ piece_by_itself : apart_from header 1 twice ≡ both
 unfolding apart_from cell_result rest_faults fact_of meaning_of chars is_row_identifier is_plain_char is_ncname is_name_char is_name_start qname_of field_at is_utf8 lib.Utf8.encode
 piece_by_itself = refl
 
--- a row whose cells have a fault still shows its identifier, one without its identifier does not
+-- A row with a fault in its cells still gives its identifier; a row without an identifier does not.
 bad_cell : apart_from header 4 (line (codes "x") (codes "a") ∷ line (codes "#foo") (codes "b") ∷ line (codes "z") (codes "c") ∷ [])
     ≡ record { rows = (note (codes "a") (codes "x") ∷ []) ∷ []; ids = codes "a" ∷ codes "b" ∷ []; fault = Some (fault_at 0 5 1 (kind.Cell cell.UnknownSpecial)) }
 unfolding apart_from cell_result rest_faults fact_of meaning_of chars is_row_identifier is_plain_char is_ncname is_name_char is_name_start qname_of field_at is_utf8 lib.Utf8.encode
@@ -82,7 +82,8 @@ shapes : (apart_row (Some (fault_at 0 1 0 kind.Ragged)) (Ok []) (codes "a" ∷ [
     × (apart_row None (Ok []) [] (record { rows = []; ids = []; fault = None }) ≡ record { rows = [] ∷ []; ids = []; fault = None })
 shapes = (refl, refl)
 
--- JOINED: an identifier that came before, in the piece or before it, ends the table at its row
+-- JOINED (`repeated_from`). An identifier that repeats one of the piece or an earlier one ends the
+-- table at its row.
 came_before : (repeated_from 0 [] (codes "a" ∷ codes "b" ∷ codes "a" ∷ []) ≡ Some 2) × (repeated_from 0 (codes "b" ∷ []) (codes "a" ∷ codes "b" ∷ []) ≡ Some 1)
     × (repeated_from 0 (codes "b" ∷ []) (codes "a" ∷ codes "c" ∷ []) ≡ None)
 came_before = (refl, refl, refl)
@@ -96,14 +97,15 @@ within_a_piece = refl
 across_pieces : joined_piece header 5 (codes "a" ∷ []) (record { rows = [] ∷ []; ids = codes "a" ∷ []; fault = None }) ≡ ending (Some (fault_at 0 5 2 kind.RepeatedRowId))
 across_pieces = refl
 
--- before the fault of the row's cells, and before that of a later row
+-- The repeated identifier counts before the fault of the row's cells, and before that of a later
+-- row.
 before_the_cells : joined_piece header 5 (codes "a" ∷ []) (record { rows = []; ids = codes "a" ∷ []; fault = Some (fault_at 0 5 1 (kind.Cell cell.BadNumber)) }) ≡ ending (Some (fault_at 0 5 2 kind.RepeatedRowId))
 before_the_cells = refl
 
 no_repetition : joined_piece header 5 (codes "b" ∷ []) both ≡ cut_at header 5 (Some 1) both
 no_repetition = refl
 
--- ONE BEHIND THE OTHER: nothing comes behind a fault
+-- ONE AFTER THE OTHER (`stream_then`). Nothing follows a fault.
 abbrev one : Stream
 one = record { rows = [] ∷ []; fault = None }
 
@@ -119,7 +121,8 @@ in_two_pieces = refl
 records_in_order : records_of ((line [] [] ∷ []) ∷ [] ∷ (line (codes "x") [] ∷ []) ∷ []) ≡ line [] [] ∷ line (codes "x") [] ∷ []
 records_in_order = refl
 
--- CUTS: behind a line's end, and not behind a byte of a field; nothing is asked of the last piece
+-- CUTS (`AreCut`). A piece may end after a line's end but not inside a field. The last piece may
+-- end anywhere.
 cut_behind_lines : AreCut (codes "k\n" ∷ codes "a" ∷ [])
 unfolding AreCut state_after
 cut_behind_lines = (refl, (tt, tt))
@@ -128,7 +131,7 @@ not_in_a_field : EndsBetween (codes "b" ∷ []) (codes "a") → ⊥
 unfolding state_after
 not_in_a_field h = cc h
 
--- ANSWERS: rows behind rows; memory that was refused leaves the rows before it
+-- ANSWERS (`apart_then`). Rows after rows. Running out of memory leaves the rows before.
 abbrev first : Apart
 first = record { rows = [] ∷ []; ids = codes "a" ∷ []; fault = None }
 
@@ -142,14 +145,15 @@ one_added = inl refl
 none_added : AddsApart 0 first first (apart_then first (refused 0))
 none_added = inr refl
 
--- a row more has its facts, also where it has none; a row with a fault leaves the rows as they were
+-- `AddsRowFacts`: one more row adds its facts, even if it has none. A row with a fault adds
+-- nothing.
 facts_added : AddsRowFacts 0 (Ok []) ([] ∷ []) ([] ∷ [] ∷ []) (Ok tt)
 facts_added = (refl, refl)
 
 facts_refused : AddsRowFacts 0 (Err (fault_at 0 1 1 (kind.Cell cell.BadNumber))) ([] ∷ []) ([] ∷ []) (Err (fault_at 0 1 1 (kind.Cell cell.BadNumber)))
 facts_refused = (refl, inr refl)
 
--- no row is taken where none is left, and the piece ends then
+-- `TakesRow`: no row is taken if none is left, and the piece ends.
 no_row_taken : TakesRow header 1 [] no_rows [] no_rows → ⊥
 no_row_taken h = h
 
@@ -163,7 +167,7 @@ joined_or_refused = (inl refl, inr refl)
 left_of_a_table : (fault_or_next None one ≡ one) × (fault_or_next (Some (fault_at 0 5 0 kind.Ragged)) one ≡ ending (Some (fault_at 0 5 0 kind.Ragged)))
 left_of_a_table = (refl, refl)
 
--- where the facts of rows end, and rows in stretches
+-- `counts_from`, `IsEndIn`: where the facts of rows end, and in which stretch.
 ends_of_rows : counts_from 0 ((note [] [] ∷ note [] [] ∷ []) ∷ [] ∷ (note [] [] ∷ []) ∷ []) ≡ 2 ∷ 2 ∷ 3 ∷ []
 unfolding counts_from
 ends_of_rows = refl

@@ -1,4 +1,4 @@
--- The head of a table's file, and the pieces behind it.
+-- The head of a table's file, and the pieces after it.
 use Rattle.std.proofs.Common.{◌≡◌, ◌⊎◌, ◌++◌, ◌≤◌, ℕ, List, [], ◌∷◌, Bool, true, false, length, drop, Option, Some, None, Result, Ok, Err, IfOk, IfErr, IfSome, refl, sym, ap, subst, ◌∙◌, arith, inl, inr}
 use Rattle.csv.specs.Reading.{strip_bom}
 use Rattle.csv.specs.declared.parser.State.TheVariants as state
@@ -25,7 +25,7 @@ marked_text : (xs : List ℕ) → strip_bom (mark ++ xs) ≡ xs
 unfolding strip_bom
 marked_text xs = refl
 
--- the records of a head behind a mark
+-- The records of a head after a byte-order mark.
 pub marked_records : (marked : List ℕ) (left : Option (List Record)) → marked ≡ mark ++ drop 3 marked → StartsFile (Some marked) left → left ≡ Some (records_left state.StartRecord (drop 3 marked))
 marked_records marked left is starts =
     let text : strip_bom marked ≡ drop 3 marked = ap strip_bom is ∙ marked_text (drop 3 marked) in
@@ -63,7 +63,7 @@ module _ (report : ReportValue) (table limit : ℕ) where
   head_fault rs left e is (inl out) = inl out
   head_fault rs left e is (inr bad) = inr (subst (λ o. IfSome o (λ all. file_header_fault report table all ≡ Some e)) is bad)
 
-  -- the same of an answer
+  -- The same for an answer.
   pub head_forms : (rs : List Record) (left after : Option (List Record)) (r : Result TableHeaderValue TableFault) → left ≡ Some rs → IfOk r (λ f. TakesHeader report table left f.columns after)
       → IfOk r (λ f. f ≡ record { report = report; table = table; limit = limit; columns = f.columns }) → IfOk r (λ f. f ≡ table_header_in report table limit rs)
   head_forms rs left after (Err e) is takes same = tt
@@ -90,7 +90,7 @@ starts_kept (Some xs) (Some rs) (Some ts) starts keeps = ap (λ t. some t) keeps
     some : List Record → Option (List Record)
     some t = Some t
 
--- a piece without a record was passed
+-- A piece without a record was skipped.
 pub none_passed : (first : Option (List Record)) (text after : Option (List ℕ)) (piece : List ℕ) → KeepsLeft first (left_known [] text) → TakesBytes text piece after
     → length (records_left state.StartRecord piece) ≤ 0 → KeepsLeft first (left_known [] after)
 none_passed first text after piece keeps takes none =
@@ -100,12 +100,12 @@ none_passed first text after piece keeps takes none =
     no_items [] h = refl
     no_items (r ∷ rs) h = absurd (omega (arith, h))
 
--- the first piece with a record
+-- The first piece with a record.
 pub first_found : (first : Option (List Record)) (text after : Option (List ℕ)) (piece : List ℕ) → KeepsLeft first (left_known [] text) → TakesBytes text piece after
     → KeepsLeft first (left_known (records_left state.StartRecord piece) after)
 first_found first text after piece keeps takes = piece-behind first text after [] piece keeps refl takes
 
--- no record is left
+-- No record is left.
 pub none_found : (first : Option (List Record)) (text : Option (List ℕ)) → KeepsLeft first (left_known [] text) → IsAtEnd text → IfSome first (λ rs. rs ≡ [])
 none_found None text keeps end = tt
 none_found (Some xs) None keeps end = absurd keeps
@@ -115,14 +115,14 @@ pub none_started : (known : Option (List ℕ)) (left : Option (List Record)) →
 none_started None left starts none = tt
 none_started (Some xs) left starts none = subst (λ o. IfSome o (λ rs. rs ≡ [])) starts none
 
--- one record was read
+-- One record was read.
 pub one_read : (old : List Record) (found : Bool) (new : Piece) → TakesNext old found new → new.left ≡ drop 1 old
 one_read old true new takes = sym (ap (drop 1) takes)
 one_read old false new takes = takes.1 ∙ sym (ap (drop 1) takes.0)
 
 -- MEMORY
 
--- no row, since memory was refused
+-- No row, because memory ran out.
 pub refused_decoded : (g : TableHeaderValue) (n : ℕ) (rs : List Record) (a : Apart) → a ≡ refused g.table → IsPieceDecoded g n rs a
 unfolding apart_from
 refused_decoded g n rs a is = inr (record { front = []; rest = rs; split = refl; good = refl; is = is })

@@ -1,4 +1,4 @@
--- What a piece that is decoded and joined says of the stream.
+-- How a decoded and joined piece is read from the stream.
 use Rattle.std.proofs.Common.{◌≡◌, ◌++◌, ◌+◌, ℕ, List, length, Option, Some, None, refl, sym, ap, subst, ◌∙◌, inl, inr, append-nil, append_assoc}
 use Rattle.oim_records.specs.Grids.{Record}
 use Rattle.oim_rows.specs.Header.{file_fault}
@@ -24,12 +24,12 @@ read_whole table t s u is = by s.fault refl
         let all : t ≡ s = is ∙ ap (λ o. stream_until o s u) some in
         inl (ap (λ (x : Stream). x.rows) all ∙ sym (append-nil s.rows), ap (λ (x : Stream). x.fault) all ∙ some)
 
--- memory was refused for the join
+-- Memory ran out for the join.
 read_none : (table : ℕ) (t s u : Stream) → s ≡ ending (Some (file_fault table kind.Memory)) → ReadsRows table t s.rows (Some (fault_or_next s.fault u))
 read_none table t s u is =
     subst (λ (x : Stream). ReadsRows table t x.rows (Some (fault_or_next x.fault u))) (sym is) (inr ((t.rows, refl), file_fault table kind.Memory, inr refl, refl))
 
--- memory was refused for the rows behind a front
+-- Memory ran out for the rows after a prefix.
 read_front : (g : TableHeaderValue) (n : ℕ) (a : Apart) (o : Option ℕ) (t u v : Stream) → a.fault ≡ None → t ≡ stream_then (cut_at g n o a) u
     → ReadsRows g.table t (cut_at g n o (record a { fault = Some (file_fault g.table kind.Memory) })).rows
     (Some (fault_or_next (cut_at g n o (record a { fault = Some (file_fault g.table kind.Memory) })).fault v))

@@ -11,7 +11,7 @@ use Rattle.oim_decode.specs.Pieces.{AreCut, FileInPieces, records_of}
 use Rattle.oim_rows.specs.Streams.{table_header_of, stream_from, stream_of}
 use Rattle.oim_decode.proofs.ApartLaws.{rows_in_pieces}
 
--- the records of pieces that are cut, piece after piece
+-- The records of the cut pieces, in order.
 pub cut_pieces : (ps : List (List ℕ)) → AreCut ps → records_left state.StartRecord (flat_map (λ p. p) ps) ≡ records_of (map (records_left state.StartRecord) ps)
 unfolding AreCut
 cut_pieces [] cut = no-record

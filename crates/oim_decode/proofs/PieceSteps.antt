@@ -19,17 +19,17 @@ answer rows ids fault = record { rows = rows; ids = ids; fault = fault }
 
 -- ONE ROW
 
--- a row with a fault apart from its cells ends the piece
+-- A row with a fault apart from its cells ends the piece.
 pub own_ends : (g : TableHeaderValue) (n : ℕ) (r : Record) (rest : List Record) (e : TableFault) → row_fault g n [] r ≡ Some e → apart_from g n (r ∷ rest) ≡ answer [] [] (Some e)
 unfolding apart_from
 own_ends g n r rest e is = ap (λ o. apart_row o (facts_from g.report g.table (row_of g n r) 0 g.columns) (id_in (id_place_of g) r) (apart_from g (n + 1) rest)) is
 
--- a row without one is what its cells give
+-- A row without one gives what its cells give.
 pub cells_only : (g : TableHeaderValue) (n : ℕ) (r : Record) → row_fault g n [] r ≡ None → apart_from g n (r ∷ []) ≡ cells_apart (record { header = g; number = n; fields = r })
 unfolding apart_from
 cells_only g n r none = ap (λ o. apart_row o (facts_from g.report g.table (row_of g n r) 0 g.columns) (id_in (id_place_of g) r) no_rows) none
 
--- what comes behind a bad row counts nothing
+-- What follows a bad row has no effect.
 pub bad_ends : (g : TableHeaderValue) (n : ℕ) (r : Record) (rest : List Record) (e : TableFault) → (apart_from g n (r ∷ [])).fault ≡ Some e → apart_from g n (r ∷ rest) ≡ apart_from g n (r ∷ [])
 unfolding apart_from
 bad_ends g n r rest e is = by (row_fault g n [] r) (facts_from g.report g.table (row_of g n r) 0 g.columns) is
@@ -40,7 +40,7 @@ bad_ends g n r rest e is = by (row_fault g n [] r) (facts_from g.report g.table 
     by None (Err x) h = refl
     by None (Ok facts) h = cc h
 
--- ROWS BEHIND ROWS
+-- ROWS AFTER ROWS
 
 pub then_none : (a : Apart) → a.fault ≡ None → apart_then a no_rows ≡ a
 then_none a none = by a.rows a.ids a.fault none
@@ -72,7 +72,7 @@ apart_append g n (r ∷ xs) ys none = by (row_fault g n [] r) (facts_from g.repo
 
 -- DECODING
 
--- these rows of the piece are decoded, and none of them has a fault
+-- These rows of the piece are decoded, and none has a fault.
 abbrev pub HasDecoded : TableHeaderValue → ℕ → List Record → ℕ → List Record → Apart → Type 0
 HasDecoded g first rs n left a = (done : List Record) × (rs ≡ done ++ left) × (a ≡ apart_from g first done) × (n ≡ first + length done) × (a.fault ≡ None)
 
@@ -116,7 +116,7 @@ all_decoded g first rs n old before after (done, split, is, number, good) ends =
 
 -- NUMBERS
 
--- a row that has no fault apart from its cells is within the limit
+-- A row without a fault apart from its cells is within the limit.
 pub within_limit : (g : TableHeaderValue) (n : ℕ) (ids : List Field) (r : Record) → row_fault g n ids r ≡ None → n ≤ g.limit
 within_limit g n ids r none = by (ragged_fault g n r) (text_fault g n r) (nat_lt g.limit n) refl (id_fault g (id_place_of g) n ids r) none
   where
@@ -131,7 +131,7 @@ one_id : (o : Option ℕ) (r : Record) → length (id_in o r) ≤ 1
 one_id None r = omega arith
 one_id (Some p) r = omega arith
 
--- a piece has no more identifiers than rows within the limit, and one
+-- A piece has at most one identifier more than rows within the limit.
 pub ids_within : (g : TableHeaderValue) (n : ℕ) (rows : List Record) → n ≤ g.limit + 1 → n + length (apart_from g n rows).ids ≤ g.limit + 2
 unfolding apart_from
 ids_within g n [] small = omega (arith, small)
@@ -152,16 +152,16 @@ decoded_within g n rs a small (inr h) =
 
 -- ONE STEP
 
--- what is left of a piece at hand
+-- What is left of the current piece.
 abbrev pub piece_left : TableHeaderValue → List Record → PieceLeft
 piece_left g rs = record { header = g; left = rs }
 
--- no record is left
+-- No record is left.
 pub ends_none : (g : TableHeaderValue) (n : ℕ) (rs : List Record) (before : Apart) → rs ≡ [] → before.fault ≡ None → EndsRows g n rs before before
 unfolding apart_from
 ends_none g n rs before none good = inl (sym (then_none before good) ∙ ap (λ t. apart_then before (apart_from g n t)) (sym none))
 
--- the next row has a fault apart from its cells
+-- The next row has a fault apart from its cells.
 pub ends_own : (g : TableHeaderValue) (n : ℕ) (ids : List Field) (rs left : List Record) (r fields : Record) (before after : Apart) (e : TableFault) → rs ≡ r ∷ left → fields ≡ r → ids ≡ []
     → row_fault g n ids fields ≡ Some e → after ≡ answer before.rows before.ids (Some e) → EndsRows g n rs before after
 ends_own g n ids rs left r fields before after e split same none is ends =
@@ -187,7 +187,7 @@ steps g n left r before after false none (inl adds) is =
     inl (adds ∙ ap (apart_then before) (sym (bad_ends g n r left some.0 bad)))
 steps g n left r before after false none (inr short) is = inr short
 
--- a row without a fault apart from its cells was added, or ended the piece
+-- A row without a fault apart from its cells was added, or ended the piece.
 pub row_steps : (x : RowValue) (g : TableHeaderValue) (n : ℕ) (ids : List Field) (rs left : List Record) (r fields texts : Record) (before after : Apart) (b : Bool) → rs ≡ r ∷ left → fields ≡ r → ids ≡ []
     → row_fault g n ids fields ≡ None → x ≡ record { header = g; number = n; fields = texts } → texts ≡ r → AddsApart x.header.table before (cells_apart x) after → b ≡ is_none after.fault
     → StepsRow g n rs before b left after
@@ -198,11 +198,11 @@ row_steps x g n ids rs left r fields texts before after b split same none own is
     let here = subst (λ (a : Apart). AddsApart g.table before a after) (sym (cells_only g n r good)) there in
     subst (λ t. StepsRow g n t before b left after) (sym split) (steps g n left r before after b good here added)
 
--- a row that was taken is within the limit
+-- A row that was taken is within the limit.
 pub taken_within : (g : TableHeaderValue) (n : ℕ) (rs : List Record) (before : Apart) (left : List Record) (after : Apart) → TakesRow g n rs before left after → n ≤ g.limit
 taken_within g n [] before left after takes = absurd takes
 taken_within g n (r ∷ rest) before left after takes = takes.3
 
--- and so are those that were decoded
+-- The decoded rows are within the limit.
 pub front_within : (g : TableHeaderValue) (first : ℕ) (rs : List Record) (n : ℕ) (left : List Record) (a : Apart) → first ≤ g.limit + 1 → HasDecoded g first rs n left a → first + length a.ids ≤ g.limit + 2
 front_within g first rs n left a small h = subst (λ (b : Apart). first + length b.ids ≤ g.limit + 2) (sym h.2) (ids_within g first h.0 small)

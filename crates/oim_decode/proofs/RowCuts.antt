@@ -1,4 +1,4 @@
--- The first of some rows: their facts, where they end, and the stretch in which they end.
+-- A prefix of rows: their facts, where they end, and the stretch in which they end.
 use Rattle.std.proofs.Common.{◌≡◌, ◌++◌, ◌+◌, ◌-◌, ◌≤◌, ◌<◌, ℕ, zero, suc, List, [], ◌∷◌, length, take, drop, get_or, refl, sym, ap, ◌∙◌, arith, append-nil, append_assoc, length-append}
 use Rattle.std.proofs.lemmas.Grind.{flat_map-append}
 use Rattle.std.proofs.lemmas.List.{get_or_default, get_or_past, take-append-drop, take-append-le, take_at, take_more}
@@ -26,7 +26,7 @@ counts_at (suc i) n (row ∷ rows) d lt =
     let rest = facts_of_rows (take (suc i) rows) in
     omega (arith, counts_at i (n + length row) rows d (omega (arith, lt)), length-append row rest)
 
--- where the first k rows end
+-- Where the first k rows end.
 pub count_of_first : (k : ℕ) (rows : List (List Fact)) (ends : List ℕ) (at : ℕ) → ends ≡ counts_from 0 rows → 1 ≤ k → k ≤ length rows → at ≡ get_or ends (k - 1) at → at ≡ length (facts_of_rows (take k rows))
 count_of_first k rows ends at is some within got =
     let one : suc (k - 1) ≡ k = omega (arith, some) in
@@ -37,7 +37,7 @@ count_of_first k rows ends at is some within got =
 facts_cut : (k : ℕ) (rows : List (List Fact)) → facts_of_rows rows ≡ facts_of_rows (take k rows) ++ facts_of_rows (drop k rows)
 facts_cut k rows = ap facts_of_rows (sym (take-append-drop k rows)) ∙ flat_map-append (λ (row : List Fact). row) (take k rows) (drop k rows)
 
--- the facts of the first k rows
+-- The facts of the first k rows.
 pub facts_of_first : (k at : ℕ) (rows : List (List Fact)) (facts : List Fact) → facts ≡ facts_of_rows rows → at ≡ length (facts_of_rows (take k rows)) → take at facts ≡ facts_of_rows (take k rows)
 facts_of_first k at rows facts is here = ap (take at) (is ∙ facts_cut k rows) ∙ take_at (facts_of_rows (take k rows)) (facts_of_rows (drop k rows)) at (sym here)
 
@@ -47,11 +47,11 @@ first_within k at rows facts is here =
 
 -- STRETCHES
 
--- the rows up to a count, from a stretch on
+-- The rows up to a count, from a stretch on.
 abbrev pub EndsIn : List (List (List Fact)) → ℕ → ℕ → ℕ → Type 0
 EndsIn full count i left = (last : List (List Fact)) → take count (stretches full ++ last) ≡ stretches (take i full) ++ take left (stretches (drop i full) ++ last)
 
--- a stretch that has fewer rows is passed
+-- A stretch with fewer rows is passed.
 pub stretch_passed : (full : List (List (List Fact))) (count i left : ℕ) (rows : List (List Fact)) → EndsIn full count i left → i < length full → rows ≡ get_or full i rows → length rows < left
     → EndsIn full count (i + 1) (left - length rows)
 stretch_passed full count i left rows so lt is more last =
@@ -74,7 +74,7 @@ stretch_passed full count i left rows so lt is more last =
     front : take (i + 1) full ≡ take i full ++ rows ∷ [] → stretches (take (i + 1) full) ≡ stretches (take i full) ++ rows
     front here = ap stretches here ∙ flat_map-append (λ (r : List (List Fact)). r) (take i full) (rows ∷ []) ∙ ap (λ t. stretches (take i full) ++ t) (append-nil rows)
 
--- the rows end in a stretch
+-- The rows end in a stretch.
 pub stretch_found : (full : List (List (List Fact))) (count i left : ℕ) (rows : List (List Fact)) → EndsIn full count i left → i < length full → rows ≡ get_or full i rows → left ≤ length rows
     → (last : List (List Fact)) → take count (stretches full ++ last) ≡ stretches (take i full) ++ take left (get_or full i last)
 stretch_found full count i left rows so lt is within last =
@@ -86,7 +86,7 @@ stretch_found full count i left rows so lt is within last =
     ∙ ap (λ t. stretches (take i full) ++ t) (take-append-le left rows (stretches (drop (suc i) full) ++ last) within)
     ∙ ap (λ r. stretches (take i full) ++ take left r) (is ∙ get_or_default full i rows last lt)
 
--- or behind all of them
+-- The rows end after all stretches.
 pub none_found : (full : List (List (List Fact))) (count i left : ℕ) → EndsIn full count i left → length full ≤ i → (last : List (List Fact))
     → take count (stretches full ++ last) ≡ stretches (take i full) ++ take left (get_or full i last)
 none_found full count i left so past last =
@@ -106,13 +106,13 @@ all_taken [] (suc k) h = refl
 all_taken (row ∷ rows) zero h = absurd (omega (arith, h))
 all_taken (row ∷ rows) (suc k) h = ap (λ (t : List (List Fact)). row ∷ t) (all_taken rows k (omega (arith, h)))
 
--- how many facts the first k rows have, by the end of the last of them
+-- How many facts the first k rows have, by the end of the k-th.
 pub count_before : (k : ℕ) (rows : List (List Fact)) (ends : List ℕ) (at : ℕ) → ends ≡ counts_from 0 rows → k ≤ length rows → (k ≡ 0 → at ≡ 0) → (1 ≤ k → at ≡ get_or ends (k - 1) at)
     → at ≡ length (facts_of_rows (take k rows))
 count_before zero rows ends at is within none end = none refl
 count_before (suc k) rows ends at is within none end = count_of_first (suc k) rows ends at is (omega arith) within (end (omega arith))
 
--- the last of the first stretches, taken off
+-- The last of the first stretches is taken off.
 pub last_of_first : (full front : List (List (List Fact))) (rows last : List (List Fact)) (i : ℕ) → i < length full → take (i + 1) full ≡ front ++ rows ∷ [] → (front ≡ take i full) × (rows ≡ get_or full i last)
 last_of_first full front rows last i lt is = by front (take i full) (sym is ∙ take_more full i last lt)
   where

@@ -18,13 +18,13 @@ use Rattle.oim_decode.specs.state.Blocks.{AddsNone, AddsRow, CountsRow, TakesOne
 use Rattle.oim_decode.specs.state.RowTexts.{AddsFacts, facts_of_answer}
 use Rattle.oim_decode.proofs.ApartLaws.{repeats_at, row_fault-apart}
 
--- apart from its cells a row has no fault
+-- Apart from its cells the row has no fault.
 pub adds_answer : (x : RowValue) (ids : List Field) (before after : List Fact) (result : Result (Unit {0}) TableFault) → row_fault x.header x.number ids x.fields ≡ None
     → AddsFacts x.header.table (facts_of_row x) before after result → AddsFacts x.header.table (row_result x.header x.number ids x.fields) before after result
 adds_answer x ids before after result none adds =
     subst (λ (a : Result (List Fact) TableFault). AddsFacts x.header.table a before after result) (sym (ap (λ o. checked o (facts_of_row x)) none)) adds
 
--- a row without a fault of its own is text
+-- A row without a fault of its own is text.
 second_none : (a b c : Option TableFault) → or_else a (or_else b c) ≡ None → b ≡ None
 second_none None None c none = refl
 second_none None (Some x) c none = cc none
@@ -38,11 +38,11 @@ text_row g n ids r none =
     by None that = refl
     by (Some p) that = cc that
 
--- what a row has by itself comes before what it has by its identifier
+-- A row's own fault counts before that of its identifier.
 own_first : (g : TableHeaderValue) (n : ℕ) (ids : List Field) (r : Record) (e : TableFault) → row_fault g n [] r ≡ Some e → row_fault g n ids r ≡ Some e
 own_first g n ids r e is = row_fault-apart g n ids r ∙ ap (λ o. or_else o (repeats_at g.table (id_place_of g) n ids r)) is
 
--- what a read record adds
+-- What a read record adds.
 pub adds_end : (table n : ℕ) (g : TableHeaderValue) (ids : List Field) (before : List Fact) (old new : Option (List Record)) (r : Record) (after : Option Stream) → TakesRecord old false r new
     → IfSome (option_map (stream_from g n ids) old) (λ s. AddsRow table s before before (Ok false) after)
 adds_end table n g ids before None new r after took = tt
@@ -65,11 +65,11 @@ adds_row n g ids ids2 before now None new r took added kept = tt
 adds_row n g ids ids2 before now (Some rs) new r took added kept =
     (facts_of_answer (row_result g n ids r), added.1, gives_row n g ids ids2 (Some rs) new r (facts_of_answer (row_result g n ids r)) took (inr (sym added.0)) kept)
 
--- a row's own fault is its answer
+-- A row's own fault is its answer.
 pub own_fault : (g : TableHeaderValue) (n : ℕ) (ids : List Field) (r : Record) (e : TableFault) → row_fault g n ids r ≡ Some e → OrNoMemory g.table (Err e) (row_result g n ids r)
 own_fault g n ids r e is = inr (sym (ap (λ o. checked o (facts_from g.report g.table (row_of g n r) 0 g.columns)) is))
 
--- the record that was read is the first of those left
+-- The record that was read is the first of those left.
 pub one_taken : (rs : List Record) (r : Record) (new : Option (List Record)) → TakesRecord (Some rs) true r new → new ≡ Some (drop 1 rs)
 one_taken [] r new took = cc took.0
 one_taken (x ∷ rest) r new took = took.2
@@ -86,7 +86,8 @@ pub bad_row_taken : (table : ℕ) (old new : Option (List Record)) (r : Record) 
 bad_row_taken table None new r e took = tt
 bad_row_taken table (Some rs) new r e took = inl (one_taken rs r new took)
 
--- an answer that a row has before its cells are read: the reader's fault, the end, or a fault of the row itself
+-- The answer that a row has before its cells are read: the reader's fault, the end, or a fault of
+-- the row itself.
 module _ (n : ℕ) (g : TableHeaderValue) (ids : List Field) (r : Record) (answer : Result Bool TableFault) where
   pub adds_early : (found : Result Bool ReadFault) (before : List Fact) (old new : Option (List Record)) (after : Option Stream) → IfOk found (λ b. TakesRecord old b r new)
       → Some answer ≡ option_map has_row (early_row_answer g n [] found r)
@@ -106,7 +107,7 @@ module _ (n : ℕ) (g : TableHeaderValue) (ids : List Field) (r : Record) (answe
           let same : answer ≡ Err e = cc is in
           rw same (adds_fault n g ids before before old new r e after took refl (own_fault g n ids r e (own_first g n ids r e own)))
 
-  -- then no row is counted
+  -- Then no row is counted.
   pub none_counted : (found : Result Bool ReadFault) (limit given : ℕ) → Some answer ≡ option_map has_row (early_row_answer g n ids found r) → CountsRow limit answer given given
   none_counted (Err f) limit given is = let same : answer ≡ Err (fault_of_read g.table f) = cc is in rw same refl
   none_counted (Ok false) limit given is = let same : answer ≡ Ok false = cc is in rw same refl
@@ -125,7 +126,7 @@ module _ (n : ℕ) (g : TableHeaderValue) (ids : List Field) (r : Record) (answe
       by None is = absurd (cc is)
       by (Some e) is = let same : answer ≡ Err e = cc is in rw same refl
 
-  -- and nothing was read behind the record at hand
+  -- Then nothing was read after the current record.
   pub early_unread : (found : Result Bool ReadFault) (old new : Option (List Record)) → MatchResult found (λ b. TakesRecord old b r new) (λ _. new ≡ Some [])
       → Some answer ≡ option_map has_row (early_row_answer g n ids found r) → IfSome old (λ rs. TakesOne g.table rs answer new)
   early_unread found None new took is = tt
@@ -143,7 +144,7 @@ module _ (n : ℕ) (g : TableHeaderValue) (ids : List Field) (r : Record) (answe
           let same : answer ≡ Err e = cc is in
           subst (λ a. TakesOne g.table rs a new) (sym same) (inl (one_taken rs r new took))
 
--- a row without such an answer was read, and has no fault of its own
+-- A row without such an answer was read, and has no fault of its own.
 pub not_early : (n : ℕ) (g : TableHeaderValue) (ids : List Field) (r : Record) (found : Result Bool ReadFault) → option_map has_row (early_row_answer g n ids found r) ≡ None
     → (found ≡ Ok true) × (row_fault g n ids r ≡ None)
 not_early n g ids r (Err f) is = absurd (cc is)
@@ -154,7 +155,7 @@ not_early n g ids r (Ok true) is = (refl, by (row_fault g n ids r) is)
     by None is = refl
     by (Some e) is = absurd (cc is)
 
--- the facts of the row that was read are added, or none of them
+-- The facts of the row that was read are added, or none of them.
 pub row_adds : (x : RowValue) (g : TableHeaderValue) (n : ℕ) (ids ids2 : List Field) (t r : Record) (before now : List Fact) (old new : Option (List Record))
     → x ≡ record { header = g; number = n; fields = t } → t ≡ r → TakesRecord old true r new
     → AddsFacts x.header.table (row_result x.header x.number ids x.fields) before now (Ok tt) → ids2 ≡ ids_after (id_place_of x.header) ids x.fields

@@ -1,4 +1,4 @@
--- What is answered of a table in which an end or a fault was found, and what is left to read of it.
+-- What a settled table answers, and what is left to read of it.
 use Rattle.std.proofs.Common.{◌≡◌, ◌⊎◌, ◌<◌, ◌≤◌, ◌-◌, ℕ, arith, drop, List, [], length, Option, Some, None, Ok, Err, IfSome, IsSome, refl, ap, subst, sym, ◌∙◌, inl, inr, length-drop}
 use Rattle.std.specs.Option.{is_some}
 use Rattle.oim_resolve.specs.FactParts.{FactParts as Fact}
@@ -8,9 +8,9 @@ use Rattle.oim_rows.specs.declared.fault.TableKind.TheVariants as kind
 use Rattle.oim_decode.specs.Blocks.{BlocksLeft, GivesFound, IsBehind, KeepsFound, ReadsBehind}
 use Rattle.oim_decode.proofs.Advances.{behind_short}
 
--- A call fills up first, which changes nothing where the table is settled.
+-- A call first reads rows, which changes nothing if the table is settled.
 module _ (old filled new : BlocksLeft) (again : IsSome old.answered → filled ≡ old) (given : new.given ≡ filled.given) (unread : new.unread ≡ filled.unread) where
-  -- the first of the facts that wait
+  -- A prefix of the waiting facts.
   pub found_block : (block : List Fact) → new.answered ≡ filled.answered → KeepsFound old (Ok (Some block)) new
   found_block block answered = by old.answered refl
     where
@@ -21,7 +21,7 @@ module _ (old filled new : BlocksLeft) (again : IsSome old.answered → filled �
           let same : filled ≡ old = again (ap is_some e) in
           (answered ∙ ap (λ (b : BlocksLeft). b.answered) same ∙ e, given ∙ ap (λ (b : BlocksLeft). b.given) same, unread ∙ ap (λ (b : BlocksLeft). b.unread) same)
 
-  -- the end, or the fault, behind them
+  -- The end or the fault after them.
   pub found_end : filled.answered ≡ Some None → filled.pending ≡ [] → KeepsFound old (Ok None) new
   found_end answered none = by old.answered refl
     where
@@ -46,7 +46,7 @@ module _ (old filled new : BlocksLeft) (again : IsSome old.answered → filled �
           let that : found ≡ Some f = cc is in
           (inl (that, sym (ap (λ (b : BlocksLeft). b.pending) same) ∙ none), given ∙ ap (λ (b : BlocksLeft). b.given) same, unread ∙ ap (λ (b : BlocksLeft). b.unread) same)
 
-  -- or memory was refused for those that wait
+  -- Memory ran out for the waiting facts.
   pub found_short : (f : TableFault) → f ≡ file_fault old.table kind.Memory → 1 ≤ length filled.pending → KeepsFound old (Err f) new
   found_short f short some = by old.answered refl
     where
@@ -57,7 +57,7 @@ module _ (old filled new : BlocksLeft) (again : IsSome old.answered → filled �
           let same : filled ≡ old = again (ap is_some e) in
           (inr (short, subst (λ (b : BlocksLeft). 1 ≤ length b.pending) same some), given ∙ ap (λ (b : BlocksLeft). b.given) same, unread ∙ ap (λ (b : BlocksLeft). b.unread) same)
 
-  -- what is left unread
+  -- What is left unread.
   pub behind_same : new.answered ≡ filled.answered → ReadsBehind old filled → ReadsBehind old new
   behind_same answered so =
       subst (λ a. IfSome old.unread (λ rs. IsBehind old.table rs (new.given - old.given) a new.unread)) (sym answered)
@@ -71,7 +71,7 @@ module _ (old filled new : BlocksLeft) (again : IsSome old.answered → filled �
       (subst (λ (n : ℕ). IfSome old.unread (λ rs. IsBehind old.table rs (n - old.given) (Some (Some f)) filled.unread)) (sym given)
       (behind_short old.table (filled.given - old.given) old.unread filled.answered filled.unread f short so)))
 
--- a block takes facts from those that waited, so that fewer wait, or rows were read
+-- A block takes facts from those that waited, so that fewer wait, or rows were read.
 pub moved : (before given count : ℕ) (old filled new : List Fact) → (before < given) ⊎ (filled ≡ old) → 1 ≤ count → count ≤ length filled → new ≡ drop count filled
     → (before < given) ⊎ (length new < length old)
 moved before given count old filled new (inl more) some there left = inl more

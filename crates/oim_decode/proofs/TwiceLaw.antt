@@ -1,4 +1,4 @@
--- A table that has answered an end or a fault answers the same again.
+-- A table that has answered the end or a fault answers the same again.
 use Rattle.std.proofs.Common.{◌≡◌, [], Option, Some, None, Ok, Err, IfSome, subst}
 use Rattle.oim_rows.specs.Streams.{answer_of}
 use Rattle.oim_rows.specs.declared.fault.TableFault.{TableFault}

@@ -9,20 +9,20 @@ use Rattle.oim_rows.specs.declared.fault.TableKind.TheVariants as kind
 use Rattle.oim_decode.specs.Apart.{Apart, apart_from, joined_piece}
 use Rattle.oim_decode.specs.Blocks.{ReadsRows}
 
--- no row, since memory was refused
+-- No row, because memory ran out.
 abbrev pub refused : ℕ → Apart
 refused table = record { rows = []; ids = []; fault = Some (file_fault table kind.Memory) }
 
--- rows without a fault, and others behind them
+-- Rows without a fault, and others after them.
 abbrev pub apart_then : Apart → Apart → Apart
 apart_then a b = record { rows = a.rows ++ b.rows; ids = a.ids ++ b.ids; fault = b.fault }
 
--- how the rows of a table are read, and the records that are left of the piece at hand
+-- The table's header, and the records that are left of the current piece.
 pub record PieceLeft : Type 0 where
   pub header : TableHeaderValue
   pub left : List Record
 
--- a front of the records, decoded apart, has no fault, and then memory was refused
+-- A prefix of the records was decoded without a fault, and then memory ran out.
 pub record IsCutShort (g : TableHeaderValue) (n : ℕ) (rs : List Record) (a : Apart) : Type 0 where
   pub front : List Record
   pub rest : List Record
@@ -30,20 +30,20 @@ pub record IsCutShort (g : TableHeaderValue) (n : ℕ) (rs : List Record) (a : A
   pub good : (apart_from g n front).fault ≡ None
   pub is : a ≡ apart_then (apart_from g n front) (refused g.table)
 
--- the records of a piece, from row n on, decoded apart; unless memory was refused
+-- The records of a piece from row n on, decoded without the earlier rows, unless memory ran out.
 abbrev pub IsPieceDecoded : TableHeaderValue → ℕ → List Record → Apart → Type 0
 IsPieceDecoded g n rs a = (a ≡ apart_from g n rs) ⊎ IsCutShort g n rs a
 
--- a piece from row n on, joined to rows with these identifiers; unless memory was refused
+-- A piece from row n on, joined to rows with the identifiers `before`, unless memory ran out.
 abbrev pub IsJoined : TableHeaderValue → ℕ → List Field → Apart → Stream → Type 0
 IsJoined g n before a s = (s ≡ joined_piece g n before a) ⊎ (s ≡ ending (Some (file_fault g.table kind.Memory)))
 
--- what is left behind a piece: nothing but its fault, or what comes next
+-- What is left after a piece: only its fault, or else what follows.
 abbrev pub fault_or_next : Option TableFault → Stream → Stream
 fault_or_next None next = next
 fault_or_next (Some e) next = ending (Some e)
 
--- A piece that is decoded and joined is read from the stream: its rows come first, and then what is left behind them
+-- A decoded and joined piece is read from the stream: first its rows, then what is left after them.
 abbrev pub PieceIsRead : Type 0
 PieceIsRead =
     (g : TableHeaderValue) (n : ℕ) (ids : List Field) (piece rest : List Record) (a : Apart) (s : Stream) → IsPieceDecoded g n piece a → IsJoined g n ids a s

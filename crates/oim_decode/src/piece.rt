@@ -1,4 +1,4 @@
-//! Pieces to facts, each by itself, and their join.
+//! Pieces to facts, each without the others, and their join.
 
 pub(crate) mod first_records;
 pub(crate) mod piece_answer;
@@ -6,5 +6,5 @@ mod piece_blocks;
 pub(crate) mod piece_decoder;
 pub(crate) mod piece_join;
 mod piece_rows;
-mod rooms;
+mod spare_vectors;
 mod written_rows;

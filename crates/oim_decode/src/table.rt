@@ -1,4 +1,4 @@
-//! Rows to facts, facts to blocks.
+//! Rows to facts, and facts to blocks.
 
 pub(crate) mod fact_list;
 pub(crate) mod pending_facts;

@@ -1,5 +1,8 @@
 -- The texts of a record, field by field.
-use Rattle.std.proofs.Common.{◌≡◌, ℕ, [], ◌∷◌, Option, Some, None, Bool, true, false, refl, length}
+use Rattle.std.proofs.Common.{◌≡◌, ◌∙◌, ◌<◌, ℕ, [], ◌∷◌, Option, Some, None, Bool, true, false, refl, length, arith}
+use Rattle.std.proofs.lemmas.Bool.{eq-eqb}
+use Rattle.oim_entries.specs.EntryFaults.{first_bytes, in_cell, not_texts}
+use Rattle.oim_entries.specs.declared.entry_fault.EntryProblem.TheVariants.{NotUtf8}
 use Rattle.std.specs.Prelude.{IsUtf8}
 use Rattle.std.specs.Option.{option_and_then}
 use Rattle.std.specs.Str.{is_utf8}
@@ -8,7 +11,7 @@ use Rattle.csv.specs.Records.{field_at}
 use Rattle.oim_entries.specs.CsvFiles.{text_field, text_of, three_texts, two_texts}
 use Rattle.oim_records.specs.Grids.{Field, Record}
 
--- a field that is text, and one that is not
+-- A field that is text, and one that is not.
 pub text-there : (r : Record) (i : ℕ) (f t : Field) → Some f ≡ field_at r i → t ≡ f → IsUtf8 f → Some t ≡ text_field r i
 text-there r i f t there same utf8 = rw (← there, is_utf8-from_IsUtf8 f utf8, same) refl
 
@@ -19,7 +22,7 @@ text-bad r i f there bad = rw (← there) (by (is_utf8 f) refl)
     by true e = absurd (bad (IsUtf8-from_is_utf8 f e))
     by false e = rw e refl
 
--- two texts, one after the other
+-- Two texts, one after the other.
 both : Option Field → Option Field → Option (Field × Field)
 both x y = option_and_then (λ a. option_and_then (λ b. Some (a, b)) y) x
 
@@ -35,19 +38,19 @@ two-fields (a ∷ b ∷ []) e = by (is_utf8 a) (is_utf8 b) refl refl
     by false y h k = rw h refl
 two-fields (a ∷ b ∷ c ∷ r) e = cc e
 
-pub two-there : (r : Record) (a b : Field) → length r ≡ 2 → Some a ≡ text_field r 0 → Some b ≡ text_field r 1 → Some (a, b) ≡ two_texts r
+pub two-there : (r : Record) (a b : Field) → length r ≡ 2 → Some a ≡ text_field r 0 → Some b ≡ text_field r 1 → two_texts r ≡ Some (a, b)
 unfolding both
 two-there r a b e f g = rw (two-fields r e, ← f, ← g) refl
 
-pub two-first : (r : Record) → length r ≡ 2 → None ≡ text_field r 0 → None ≡ two_texts r
+pub two-first : (r : Record) → length r ≡ 2 → None ≡ text_field r 0 → two_texts r ≡ None
 unfolding both
 two-first r e f = rw (two-fields r e, ← f) refl
 
-pub two-second : (r : Record) (a : Field) → length r ≡ 2 → Some a ≡ text_field r 0 → None ≡ text_field r 1 → None ≡ two_texts r
+pub two-second : (r : Record) (a : Field) → length r ≡ 2 → Some a ≡ text_field r 0 → None ≡ text_field r 1 → two_texts r ≡ None
 unfolding both
 two-second r a e f g = rw (two-fields r e, ← f, ← g) refl
 
--- three texts, one after the other
+-- Three texts, one after the other.
 all_three : Option Field → Option Field → Option Field → Option (Field × Field × Field)
 all_three x y z = option_and_then (λ a. option_and_then (λ b. option_and_then (λ c. Some (a, b, c)) z) y) x
 
@@ -65,18 +68,55 @@ three-fields (a ∷ b ∷ c ∷ []) e = by (is_utf8 a) (is_utf8 b) (is_utf8 c) r
     by false y z h k l = rw h refl
 three-fields (a ∷ b ∷ c ∷ d ∷ r) e = cc e
 
-pub three-there : (r : Record) (a b c : Field) → length r ≡ 3 → Some a ≡ text_field r 0 → Some b ≡ text_field r 1 → Some c ≡ text_field r 2 → Some (a, b, c) ≡ three_texts r
+pub three-there : (r : Record) (a b c : Field) → length r ≡ 3 → Some a ≡ text_field r 0 → Some b ≡ text_field r 1 → Some c ≡ text_field r 2 → three_texts r ≡ Some (a, b, c)
 unfolding all_three
 three-there r a b c e f g h = rw (three-fields r e, ← f, ← g, ← h) refl
 
-pub three-first : (r : Record) → length r ≡ 3 → None ≡ text_field r 0 → None ≡ three_texts r
+pub three-first : (r : Record) → length r ≡ 3 → None ≡ text_field r 0 → three_texts r ≡ None
 unfolding all_three
 three-first r e f = rw (three-fields r e, ← f) refl
 
-pub three-second : (r : Record) (a : Field) → length r ≡ 3 → Some a ≡ text_field r 0 → None ≡ text_field r 1 → None ≡ three_texts r
+pub three-second : (r : Record) (a : Field) → length r ≡ 3 → Some a ≡ text_field r 0 → None ≡ text_field r 1 → three_texts r ≡ None
 unfolding all_three
 three-second r a e f g = rw (three-fields r e, ← f, ← g) refl
 
-pub three-third : (r : Record) (a b : Field) → length r ≡ 3 → Some a ≡ text_field r 0 → Some b ≡ text_field r 1 → None ≡ text_field r 2 → None ≡ three_texts r
+pub three-third : (r : Record) (a b : Field) → length r ≡ 3 → Some a ≡ text_field r 0 → Some b ≡ text_field r 1 → None ≡ text_field r 2 → three_texts r ≡ None
 unfolding all_three
 three-third r a b e f g h = rw (three-fields r e, ← f, ← g, ← h) refl
+
+-- What is wrong with a record of this many cells.
+pub wrong-cell : (n count i : ℕ) (r : Record) → length r ≡ count → first_bytes 0 r ≡ Some i → in_cell n (Some i) NotUtf8 ≡ not_texts n count r
+wrong-cell n count i r same at = rw (eq-eqb (length r) count same, at) refl
+
+-- The first field that is not text, by the fields one after the other.
+there-utf8 : (f : Field) (a : Field) → Some a ≡ text_of f → is_utf8 f ≡ true
+there-utf8 f a e = by (is_utf8 f) refl
+  where
+    by : (b : Bool) → is_utf8 f ≡ b → is_utf8 f ≡ true
+    by true h = h
+    by false h = let none : Some a ≡ None = e ∙ rw h refl in cc none
+
+bad-utf8 : (f : Field) → None ≡ text_of f → is_utf8 f ≡ false
+bad-utf8 f e = by (is_utf8 f) refl
+  where
+    by : (b : Bool) → is_utf8 f ≡ b → is_utf8 f ≡ false
+    by false h = h
+    by true h = let none : None ≡ Some f = e ∙ rw h refl in cc none
+
+pub first-first : (r : Record) → 0 < length r → None ≡ text_field r 0 → first_bytes 0 r ≡ Some 0
+unfolding field_at
+first-first [] less bad = absurd (omega arith)
+first-first (f ∷ r) less bad = rw (bad-utf8 f bad) refl
+
+pub first-second : (r : Record) (a : Field) → 1 < length r → Some a ≡ text_field r 0 → None ≡ text_field r 1 → first_bytes 0 r ≡ Some 1
+unfolding field_at
+first-second [] a less good bad = absurd (omega arith)
+first-second (f ∷ []) a less good bad = absurd (omega arith)
+first-second (f ∷ g ∷ r) a less good bad = rw (there-utf8 f a good, bad-utf8 g bad) refl
+
+pub first-third : (r : Record) (a b : Field) → 2 < length r → Some a ≡ text_field r 0 → Some b ≡ text_field r 1 → None ≡ text_field r 2 → first_bytes 0 r ≡ Some 2
+unfolding field_at
+first-third [] a b less good fine bad = absurd (omega arith)
+first-third (f ∷ []) a b less good fine bad = absurd (omega arith)
+first-third (f ∷ g ∷ []) a b less good fine bad = absurd (omega arith)
+first-third (f ∷ g ∷ h ∷ r) a b less good fine bad = rw (there-utf8 f a good, there-utf8 g b fine, bad-utf8 h bad) refl

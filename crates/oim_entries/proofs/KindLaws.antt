@@ -1,4 +1,4 @@
--- The types of a table say of a name just what its records say.
+-- The types of a table give a name exactly the kind that its records give.
 use Rattle.std.proofs.Common.{◌≡◌, ◌∙◌, ◌+◌, ℕ, List, [], ◌∷◌, Option, Some, None, Ok, Err, Bool, true, false, ◌&&◌, refl, sym, ap, nat_le}
 use Rattle.std.specs.Option.{is_none, ok_or, option_and_then, option_or}
 use Rattle.oim_names.specs.Lookup.{value_at}
@@ -18,7 +18,7 @@ or-assoc : {A : Type 0} (a b c : Option A) → option_or (option_or a b) c ≡ o
 or-assoc None b c = refl
 or-assoc (Some x) b c = refl
 
--- what one more record says
+-- The kinds after one more record.
 said-after : (words : Words) (types after : TypesValue) (r : Record) (uri local : List ℕ) → type_after words types r ≡ Some after
     → kind_in after uri local ≡ option_or (kind_in types uri local) (option_and_then (kind_by words uri local) (three_texts r))
 said-after words types after r uri local e = of (three_texts r) refl

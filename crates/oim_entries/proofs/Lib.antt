@@ -1,6 +1,7 @@
 pub mod FieldFacts
 pub mod EntryFacts
 pub mod TypeFacts
+pub mod PublishedFaults
 pub mod WholeFileLaws
 pub mod KindLaws
 mod ExamplesFiles

@@ -1,11 +1,11 @@
--- What a file of entries gives, of all its records at once.
+-- The values of a file of entries, for all its records at once.
 use Rattle.std.proofs.Common.{◌≡◌, ◌∙◌, ◌+◌, ℕ, zero, suc, List, [], ◌∷◌, take, Some, Result, Ok, Err, refl, add-zero, arith}
 use Rattle.oim_entries.specs.CsvFiles.{EntryFile, all_of, one_more, unless_bad}
 use Rattle.oim_records.specs.Grids.{Record}
 use Rattle.oim_entries.specs.WholeFile.{IsEarliestBad, record_at}
 use Rattle.oim_entries.specs.declared.fault.MetaFault.{MetaFault}
 
--- the fault of a file is that of its earliest bad record
+-- The fault of a file is that of its earliest bad record.
 pub earliest_bad : {S : Type 0} (f : EntryFile S) (n : ℕ) (s : S) (rs : List Record) (e : MetaFault) → all_of f n s rs ≡ Err e → IsEarliestBad f n s rs e
 unfolding all_of
 earliest_bad f n s [] e bad = cc bad
@@ -18,7 +18,7 @@ earliest_bad {S} f n s (r ∷ rs) e bad = by (one_more f n s r) refl (λ t. earl
         let place : (n + 1) + later.0 ≡ n + suc later.0 = omega arith in
         (suc later.0, later.1, later.2, later.3, rw h later.4, rw (← place) later.5)
 
--- and a file with an earliest bad record has that record's fault
+-- A file with an earliest bad record has that record's fault.
 pub earliest_back : {S : Type 0} (f : EntryFile S) (n : ℕ) (s : S) (rs : List Record) (e : MetaFault) → IsEarliestBad f n s rs e → all_of f n s rs ≡ Err e
 unfolding all_of
 earliest_back f n s [] e h = let none = h.3 in absurd cc

@@ -1,3 +1,5 @@
+pub mod BadEntries
+pub mod EntryFaults
 pub mod TypeWords
 pub mod TypesFile
 pub mod CsvFiles

@@ -1,4 +1,5 @@
--- The words of a types table, each with the kind of concept or dimension that it stands for. The header chooses the table of words.
+-- The type names of a types table, each with the kind of its concept or dimension. The header
+-- chooses the set of type names.
 use Rattle.std.specs.Prelude.{ℕ, List, [], ◌∷◌, ◌&&◌, Option, None, if◌then◌else◌, codes}
 use Rattle.std.specs.Option.{option_and_then}
 use Rattle.std.specs.Str.{bytes_eq}
@@ -9,11 +10,11 @@ use Rattle.oim_records.specs.Grids.{Field, Record}
 use Rattle.oim_report.specs.declared.kind.Kind.{Kind}
 use Rattle.oim_report.specs.declared.kind.Kind.TheVariants as kind
 
--- a table of words
+-- A set of type names with their kinds.
 abbrev pub Words : Type 0
 Words = List (List ℕ × Kind)
 
--- under `type`
+-- Under `type`.
 abbrev pub plain_words : Words
 plain_words =
     (codes "integer", kind.Number number.Integer)
@@ -25,7 +26,7 @@ plain_words =
     ∷ (codes "typed", kind.Typed)
     ∷ []
 
--- under `type2`: three words more
+-- Under `type2`: three more type names.
 abbrev pub wider_words : Words
 wider_words =
     (codes "boolean", kind.Boolean)
@@ -33,14 +34,14 @@ wider_words =
     ∷ (codes "qname", kind.Name)
     ∷ plain_words
 
--- each table under the name that a header gives for it
+-- Each set under the name that a header gives for it.
 abbrev pub tables_of_words : List (List ℕ × Words)
 tables_of_words = (codes "type", plain_words) ∷ (codes "type2", wider_words) ∷ []
 
--- a header is namespace,name and the name of a table of words
+-- A header is namespace,name and the name of a set.
 abbrev pub words_named : Field × Field × Field → Option Words
 words_named p = if bytes_eq p.0 (codes "namespace") && bytes_eq p.1 (codes "name") then value_at p.2 tables_of_words else None
 
--- the table of words that a header chooses
+-- The set that a header chooses.
 abbrev pub words_chosen : Record → Option Words
 words_chosen header = option_and_then words_named (three_texts header)

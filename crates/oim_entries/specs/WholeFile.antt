@@ -9,21 +9,21 @@ use Rattle.oim_entries.specs.TypeWords.{Words}
 use Rattle.oim_entries.specs.declared.fault.MetaFault.{MetaFault}
 use Rattle.oim_report.specs.declared.kind.Kind.{Kind}
 
--- the record at a place
+-- The record at an index.
 abbrev pub record_at : List Record → ℕ → Option Record
 record_at [] m = None
 record_at (r ∷ rs) zero = Some r
 record_at (r ∷ rs) (suc m) = record_at rs m
 
--- all records before a place are good, and the one there has this fault after them
+-- All records before an index are good, and the record at it has this fault after them.
 abbrev pub IsEarliestBad : {S : Type 0} → EntryFile S → ℕ → S → List Record → MetaFault → Type 0
 IsEarliestBad {S} f n s rs e = (m : ℕ) × (r : Record) × (t : S) × (record_at rs m ≡ Some r) × (all_of f n s (take m rs) ≡ Ok t) × (one_more f (n + m) t r ≡ Err e)
 
--- the kind that a record gives to a name in a namespace
+-- The kind that a record gives to a name in a namespace.
 abbrev pub kind_by : Words → List ℕ → List ℕ → Field × Field × Field → Option Kind
 kind_by words uri local p = if bytes_eq p.0 uri && bytes_eq p.1 local then value_at p.2 words else None
 
--- the kind that a name in a namespace has by the first record that gives it one
+-- The kind of a name in a namespace, from the first record that gives it one.
 abbrev pub kind_said : Words → List Record → List ℕ → List ℕ → Option Kind
 kind_said words [] uri local = None
 kind_said words (r ∷ rs) uri local = option_or (option_and_then (kind_by words uri local) (three_texts r)) (kind_said words rs uri local)

@@ -1,124 +1,106 @@
-//! A file of entries, as the parameters file and the types table are: a header, and a record for each entry.
+//! Files of entries, such as the parameters file and the types table: a header, then one record
+//! each.
 
-ghost use Rattle.std.specs.Prelude.{◌≡◌, ◌⊎◌, Option, Err, IfOk, IfSome};
-ghost use Rattle.std.specs.Option.{ok_or, option_map};
+ghost use Rattle.std.specs.Prelude.{◌≡◌, Option, IfSome};
+ghost use Rattle.std.specs.Option.{option_map};
 ghost use Rattle.csv.specs.Records.{fields_of};
-ghost use Rattle.oim_entries.specs.CsvFiles.{EntryFile, OrOutside, all_of, file_result};
+ghost use Rattle.oim_entries.specs.BadEntries.{entries_of, entry_after, file_entries};
+ghost use Rattle.oim_entries.specs.CsvFiles.{EntryFile};
+ghost use Rattle.oim_entries.specs.state.Held.{Answers, AnswersWith};
 ghost use Rattle.oim_records.specs.Grids.{Record, grid};
 
-use crate::fault::MetaFault;
+use crate::entry_fault::{EntryFault, EntryProblem, Refused};
 use csv::ByteRecord;
 use oim_records::Records;
-use std::alloc::{AllocError, Global};
+use std::alloc::Global;
 use std::io::Read;
 
-/// A way to read the records after a header, which the header chooses.
+/// A way to read the records after the header, chosen by the header.
 pub(crate) trait Entries: Sized + Drop {
-    ghost use Rattle.oim_entries.specs.declared.fault.MetaFault.{MetaFault};
-
-    /// What is read.
+    /// The value that the file gives.
     type Read: Drop;
-
-    ghost fault: { MetaFault };
 
     ghost chosen: { Record → Option (EntryFile Self.Read) };
 
     ghost file: { Self → EntryFile Self.Read };
 
-    /// The fault of a bad header or record.
-    fn fault() -> MetaFault
-        ensures { result ≡ fault };
-
-    /// The way that a header chooses.
+    /// Returns the way that a header chooses, or `None` if the header is bad.
     fn chosen(header: &ByteRecord) -> Option<Self>
         ensures { option_map file result ≡ chosen (fields_of header.now) };
 
-    /// How many entries the file may have.
-    fn limit(&self) -> usize
+    /// Returns the most entries that the file may have.
+    fn limit(&self) -> u32
         ensures { result ≡ (file self.now).limit };
 
-    /// What there is before the first entry.
+    /// Returns the value before the first entry.
     fn start(&self, alloc: Global) -> Self::Read
         ensures { result ≡ (file self.now).start };
 
-    /// What there is after one more record, or `None` if the record is bad.
+    /// Returns the value after one more record, which has this number, or what is wrong with it.
     fn after(
         &self,
         alloc: Global,
         so_far: Self::Read,
         row: &ByteRecord,
-    ) -> Result<Option<Self::Read>, AllocError>
-        ensures { IfOk result (λ more. more ≡ (file self.now).after so_far (fields_of row.now)) };
-
-    ghost one_fault: { (x : Self) → (file x).bad ≡ fault };
+        number: usize,
+    ) -> Result<Self::Read, Refused>
+        ensures { Answers result (entry_after (file self.now) number so_far (fields_of row.now)) };
 }
 
-/// What there is after one more record.
-fn with_record<E: Entries>(
-    entries: &E,
-    alloc: Global,
-    so_far: E::Read,
-    row: &ByteRecord,
-) -> Result<E::Read, MetaFault>
-    ensures { (result ≡ Err MetaFault.Memory)
-        ⊎ (result ≡ ok_or ((E.file entries.now).after so_far (fields_of row.now)) (E.file entries.now).bad) }
-{
-    match entries.after(alloc, so_far, row) {
-        Ok(Some(more)) => Ok(more),
-        Ok(None) => Err(E::fault()),
-        Err(_) => Err(MetaFault::Memory),
-    }
-}
-
-/// What the records after the header give.
+/// Returns the value that the records after the header give, or what is wrong with the last one
+/// that was read.
 fn read_entries<E: Entries, R: Read>(
     entries: &E,
     alloc: Global,
     records: &mut Records<R>,
     row: &mut ByteRecord,
-) -> Result<E::Read, MetaFault>
-    ensures { IfSome records.old (λ rs. OrOutside result
-        (all_of (E.file entries.now) 0 (E.file entries.now).start rs)) }
+) -> Result<E::Read, Refused>
+    ensures { IfSome records.old (λ rs. AnswersWith (fields_of row.new) result
+        (entries_of (E.file entries.now) 0 (E.file entries.now).start rs)) }
 {
     let mut so_far = entries.start(alloc);
-    for _ in 0..entries.limit() {
+    let limit = entries.limit();
+    for before in 0..limit {
         if !records.read(row)? {
             return Ok(so_far);
         }
-        so_far = with_record(entries, alloc, so_far, row)?;
+        so_far = entries.after(alloc, so_far, row, before as usize + 1)?;
     }
     if records.read(row)? {
-        return Err(MetaFault::TooLarge);
+        let number = limit as usize + 1;
+        return Err(Refused::Bad(EntryFault::of_whole(number, EntryProblem::TooMany)));
     }
     Ok(so_far)
 }
 
-/// What all records give.
+/// Returns the value that all records give, or what is wrong with the last one that was read.
 fn read_records<E: Entries, R: Read>(
     alloc: Global,
     records: &mut Records<R>,
     row: &mut ByteRecord,
-) -> Result<E::Read, MetaFault>
-    ensures { IfSome records.old (λ rs. OrOutside result (file_result E.fault E.chosen rs)) }
+) -> Result<E::Read, Refused>
+    ensures { IfSome records.old (λ rs. AnswersWith (fields_of row.new) result (file_entries E.chosen rs)) }
 {
     if !records.read(row)? {
-        return Err(E::fault());
+        row.clear();
+        return Err(Refused::Bad(EntryFault::of_whole(0, EntryProblem::NoHeader)));
     }
     match E::chosen(row) {
         Some(entries) => read_entries(&entries, alloc, records, row),
-        None => Err(E::fault()),
+        None => Err(Refused::Bad(EntryFault::of_whole(0, EntryProblem::BadHeader))),
     }
 }
 
-/// What a whole file gives, or the fault of its header or of its earliest bad record.
+/// Returns the value of a whole file, or the fault of its first bad record. That record is then in
+/// `row`.
 pub(crate) fn read_file<E: Entries, R: Read + Drop>(
     alloc: Global,
     reader: R,
-) -> Result<E::Read, MetaFault>
+    row: &mut ByteRecord,
+) -> Result<E::Read, Refused>
     ensures { IfSome (R.remaining reader)
-        (λ bytes. OrOutside result (file_result E.fault E.chosen (grid bytes))) }
+        (λ bytes. AnswersWith (fields_of row.new) result (file_entries E.chosen (grid bytes))) }
 {
     let mut records = Records::new(alloc, reader);
-    let mut row = ByteRecord::new(alloc);
-    read_records::<E, R>(alloc, &mut records, &mut row)
+    read_records::<E, R>(alloc, &mut records, row)
 }

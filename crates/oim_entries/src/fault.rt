@@ -17,11 +17,12 @@ pub enum MetaFault {
     Syntax,
     /// The value is not an object, or its document is not of the type xBRL-CSV.
     NotReport,
-    /// The namespaces are not an object of texts, a prefix is not an NCName, or a URI has two prefixes.
+    /// The namespaces are not an object of texts, a prefix is not an NCName, or a URI has two
+    /// prefixes.
     BadNamespaces,
     /// The taxonomy is absent or not a list of texts, or the base URL is not a text.
     BadTaxonomy,
-    /// `extends` is there and is no empty list, or `links` is there and is no empty object.
+    /// `extends` exists and is not an empty list, or `links` exists and is not an empty object.
     Unsupported,
     /// The key of a template, table or column is not an identifier.
     BadIdentifier,
@@ -29,20 +30,21 @@ pub enum MetaFault {
     BadTemplate,
     /// A column is of two or three of the kinds fact, property group and comment.
     ColumnKinds,
-    /// A table names a template that is not there.
+    /// A table names a template that does not exist.
     UnknownTemplate,
-    /// A template's `rowIdColumn` names no column of it, or a `propertiesFrom` no property group column of it.
+    /// A template's `rowIdColumn` does not name a column of it, or a `propertiesFrom` does not name
+    /// a property group column of it.
     UnknownColumn,
     /// The key of a dimension is not known, or its value is not well-formed.
     BadDimension,
     /// The value of `decimals` is not well-formed.
     BadDecimals,
-    /// Parameters are not texts under identifiers, a name appears twice, the parameters file's name is not a
-    /// plain path, or that file has a bad header or record.
+    /// Parameters are not texts under identifiers, a name occurs twice, the parameters file's name
+    /// is not a plain path, or that file has a bad header or record.
     BadParameter,
     /// The types table has a bad header or record.
     BadTypes,
-    /// There are more bytes, tables, columns or records than the limit.
+    /// The bytes, tables, columns or records exceed their limit.
     TooLarge,
     /// Memory ran out.
     Memory,
@@ -51,7 +53,7 @@ pub enum MetaFault {
 }
 
 impl MetaFault {
-    /// The fault's number, 1 to 17.
+    /// Returns the fault's number, 1 to 17.
     pub fn number(&self) -> u32
         ensures { result ≡ fault_number self.now }
     {
@@ -76,7 +78,7 @@ impl MetaFault {
         }
     }
 
-    /// The fault's name.
+    /// Returns the fault's name.
     pub fn name(&self) -> &'static str
         ensures { result.now ≡ fault_name self.now }
     {
@@ -101,7 +103,7 @@ impl MetaFault {
         }
     }
 
-    /// What is wrong, as a sentence for people without capital and full stop.
+    /// Returns a sentence for people that explains the fault, without a capital and a full stop.
     pub fn explanation(&self) -> &'static str {
         match self {
             MetaFault::Syntax => "the bytes are not well-formed JSON in UTF-8",
@@ -133,7 +135,7 @@ impl MetaFault {
     }
 }
 
-/// A fault prints its name.
+/// Writes the fault's name.
 impl Display for MetaFault {
     fn fmt<W: fmt::Write>(&self, f: &mut Formatter<W>) -> fmt::Result {
         f.write_str(self.name())

@@ -1,14 +1,16 @@
 //! The fields of a record, as texts.
 
-ghost use Rattle.std.specs.Prelude.{◌≡◌};
+ghost use Rattle.std.specs.Prelude.{◌≡◌, None, Some, IfErr, IfOk};
 ghost use Rattle.std.specs.Option.{option_map};
 ghost use Rattle.csv.specs.Records.{fields_of};
 ghost use Rattle.oim_entries.specs.CsvFiles.{text_field, three_texts, two_texts};
+ghost use Rattle.oim_entries.specs.EntryFaults.{not_texts};
 ghost use Rattle.oim_entries.specs.state.Held.{seen_three, seen_two};
 
+use crate::entry_fault::{EntryFault, EntryProblem};
 use csv::ByteRecord;
 
-/// The field at a place, if it is text.
+/// Returns the field at index `i` if it exists and is UTF-8.
 fn text_at(row: &ByteRecord, i: usize) -> Option<&str>
     ensures { option_map (λ t. t.now) result ≡ text_field (fields_of row.now) i }
 {
@@ -21,37 +23,46 @@ fn text_at(row: &ByteRecord, i: usize) -> Option<&str>
     }
 }
 
-/// The fields of a record of exactly two texts.
-pub(crate) fn texts_of_two(row: &ByteRecord) -> Option<(&str, &str)>
-    ensures { option_map seen_two result ≡ two_texts (fields_of row.now) }
+/// Returns the fields of the record with this number if they are exactly two texts, or what is
+/// wrong with it.
+pub(crate) fn texts_of_two(row: &ByteRecord, number: usize) -> Result<(&str, &str), EntryFault>
+    ensures texts { IfOk result (λ p. two_texts (fields_of row.now) ≡ Some (seen_two p)) }
+    ensures none { IfErr result (λ _. two_texts (fields_of row.now) ≡ None) }
+    ensures wrong { IfErr result (λ e. e ≡ not_texts number 2 (fields_of row.now)) }
 {
     if row.len() != 2 {
-        return None;
+        return Err(EntryFault::of_whole(number, EntryProblem::CellCount));
     }
     let Some(first) = text_at(row, 0) else {
-        return None;
+        return Err(EntryFault::in_cell(number, 0, EntryProblem::NotUtf8));
     };
     let Some(second) = text_at(row, 1) else {
-        return None;
+        return Err(EntryFault::in_cell(number, 1, EntryProblem::NotUtf8));
     };
-    Some((first, second))
+    Ok((first, second))
 }
 
-/// The fields of a record of exactly three texts.
-pub(crate) fn texts_of_three(row: &ByteRecord) -> Option<(&str, &str, &str)>
-    ensures { option_map seen_three result ≡ three_texts (fields_of row.now) }
+/// Returns the fields of the record with this number if they are exactly three texts, or what is
+/// wrong with it.
+pub(crate) fn texts_of_three(
+    row: &ByteRecord,
+    number: usize,
+) -> Result<(&str, &str, &str), EntryFault>
+    ensures texts { IfOk result (λ p. three_texts (fields_of row.now) ≡ Some (seen_three p)) }
+    ensures none { IfErr result (λ _. three_texts (fields_of row.now) ≡ None) }
+    ensures wrong { IfErr result (λ e. e ≡ not_texts number 3 (fields_of row.now)) }
 {
     if row.len() != 3 {
-        return None;
+        return Err(EntryFault::of_whole(number, EntryProblem::CellCount));
     }
     let Some(first) = text_at(row, 0) else {
-        return None;
+        return Err(EntryFault::in_cell(number, 0, EntryProblem::NotUtf8));
     };
     let Some(second) = text_at(row, 1) else {
-        return None;
+        return Err(EntryFault::in_cell(number, 1, EntryProblem::NotUtf8));
     };
     let Some(third) = text_at(row, 2) else {
-        return None;
+        return Err(EntryFault::in_cell(number, 2, EntryProblem::NotUtf8));
     };
-    Some((first, second, third))
+    Ok((first, second, third))
 }

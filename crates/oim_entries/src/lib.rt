@@ -1,15 +1,21 @@
-//! The parameters file and the types table of a report: CSV files of a header and an entry for each record; and the faults of a
-//! report's metadata and of these files.
+//! The parameters file and the types table of a report, which are CSV files of a header and a
+//! record for each entry; and the faults of a report's metadata and of these files.
 //!
 //! What is proved:
 //!
-//! - `read_parameters` and `read_types`, over readers that tell their bytes, answer a value exactly where the file has no fault, and else
-//!   that of its header or of its earliest bad record (`specs/ParametersFile.antt`, `specs/TypesFile.antt`, `specs/CsvFiles.antt`), apart
-//!   from running out of memory and readers that fail;
-//! - what that says of all records behind the header (`fault_is_of_earliest_record`, `types_are_of_all_records`, `specs/WholeFile.antt`);
-//! - the number and the name of each fault (`specs/FaultNames.antt`).
+//! - `read_parameters` and `read_types` return a value exactly if the file has no fault, else the
+//!   fault of its header or of its earliest bad record (`specs/ParametersFile.antt`,
+//!   `specs/TypesFile.antt`, `specs/CsvFiles.antt`). This holds for readers whose bytes are known.
+//!   Running out of memory and a failed read are the only exceptions.
+//! - `first_bad_parameter` and `first_bad_type` return the first bad record, what is wrong with it,
+//!   its number and which of its cells is bad, or `None` exactly if the file has no fault
+//!   (`specs/BadEntries.antt`, `specs/EntryFaults.antt`). The fault that the calls above return is
+//!   that record's (`fault_is_of_first_bad_record`).
+//! - Laws about all records after the header (`fault_is_of_earliest_record`,
+//!   `types_are_of_all_records`, `specs/WholeFile.antt`).
+//! - The number and the name of each fault (`specs/FaultNames.antt`).
 //!
-//! A call:
+//! Example:
 //!
 //! ```
 //! /// Whether a parameters file has this name.
@@ -23,6 +29,7 @@
 #![tactic(auto)]
 
 mod entries;
+mod entry_fault;
 mod fault;
 mod fields;
 mod file_laws;
@@ -30,7 +37,10 @@ mod parameters;
 mod type_words;
 mod types;
 
+pub use entry_fault::{BadEntry, EntryFault, EntryProblem};
 pub use fault::MetaFault;
-pub use file_laws::{fault_is_of_earliest_record, types_are_of_all_records};
-pub use parameters::read_parameters;
-pub use types::read_types;
+pub use file_laws::{
+    fault_is_of_earliest_record, fault_is_of_first_bad_record, types_are_of_all_records,
+};
+pub use parameters::{first_bad_parameter, read_parameters};
+pub use types::{first_bad_type, read_types};

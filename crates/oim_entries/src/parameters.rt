@@ -1,53 +1,47 @@
 //! The parameters file.
 
-ghost use Rattle.std.specs.Prelude.{IfSome};
+ghost use Rattle.std.specs.Prelude.{◌≡◌, IfOk, IfSome};
+ghost use Rattle.std.specs.Option.{option_map};
 ghost use Rattle.oim_entries.specs.CsvFiles.{OrOutside};
 ghost use Rattle.oim_records.specs.Grids.{grid};
-ghost use Rattle.oim_entries.specs.ParametersFile.{parameters_result};
+ghost use Rattle.oim_entries.specs.ParametersFile.{bad_parameter, parameters_result};
+ghost use Rattle.oim_entries.specs.BadEntries.{bad_entry};
 
 use crate::entries::{Entries, read_file};
+use crate::entry_fault::{BadEntry, EntryFault, EntryProblem, Refused, bad_entry_in};
 use crate::fault::MetaFault;
 use crate::fields::texts_of_two;
 use csv::ByteRecord;
 use oim_names::is_identifier;
+use oim_records::ReadFault;
 use oim_report::Parameters;
-use std::alloc::{AllocError, Global};
+use std::alloc::Global;
 use std::io::Read;
 
-/// How many parameters a file may have.
-const MOST_PARAMETERS: usize = 65_536;
+/// The most parameters that a file may have.
+const MOST_PARAMETERS: u32 = 65_536;
 
 /// The entries of a parameters file: names with their values.
 #[derive(Drop)]
 struct NamesWithValues;
 
 impl Entries for NamesWithValues {
-    ghost use Rattle.std.specs.Prelude.{refl};
     ghost use Rattle.oim_entries.specs.ParametersFile.{parameters_chosen, parameters_file};
-    ghost use Rattle.oim_entries.specs.declared.fault.MetaFault.TheVariants.{BadParameter};
 
     type Read = Parameters;
-
-    ghost fault = { BadParameter };
 
     ghost chosen = { parameters_chosen };
 
     ghost file = { λ _. parameters_file };
 
-    ghost one_fault = { λ _. refl };
-
-    fn fault() -> MetaFault {
-        MetaFault::BadParameter
-    }
-
     fn chosen(header: &ByteRecord) -> Option<NamesWithValues> {
-        match texts_of_two(header) {
-            Some((name, value)) if name == "name" && value == "value" => Some(NamesWithValues),
+        match texts_of_two(header, 0) {
+            Ok((name, value)) if name == "name" && value == "value" => Some(NamesWithValues),
             _ => None,
         }
     }
 
-    fn limit(&self) -> usize {
+    fn limit(&self) -> u32 {
         MOST_PARAMETERS
     }
 
@@ -60,32 +54,66 @@ impl Entries for NamesWithValues {
         alloc: Global,
         so_far: Parameters,
         row: &ByteRecord,
-    ) -> Result<Option<Parameters>, AllocError> {
-        let Some((name, value)) = texts_of_two(row) else {
-            return Ok(None);
+        number: usize,
+    ) -> Result<Parameters, Refused> {
+        let (name, value) = match texts_of_two(row, number) {
+            Ok(texts) => texts,
+            Err(fault) => return Err(Refused::Bad(fault)),
         };
-        if !is_identifier(name) || so_far.has_name(name) {
-            return Ok(None);
+        if !is_identifier(name) {
+            let fault = EntryFault::in_cell(number, 0, EntryProblem::BadName);
+            return Err(Refused::Bad(fault));
         }
-        Ok(Some(so_far.with(alloc, name, value)?))
+        if so_far.has_name(name) {
+            let fault = EntryFault::in_cell(number, 0, EntryProblem::RepeatedName);
+            return Err(Refused::Bad(fault));
+        }
+        Ok(so_far.with(alloc, name, value)?)
     }
 }
 
-/// Reads a parameters file, a CSV file (RFC 4180) whose header is `name,value` and whose records each
-/// give a parameter (xBRL-CSV 1.0, parameters). One byte-order mark at its start is skipped. A name
-/// is an identifier and appears once; a value is any text.
+/// Reads a parameters file, a CSV file (RFC 4180) whose header is `name,value` and whose records
+/// each give a parameter (xBRL-CSV 1.0, parameters).
+///
+/// One byte-order mark at its start is skipped. A name is an identifier and occurs once. A value is
+/// any text.
 ///
 /// # Errors
 ///
-/// The fault of the header or of the earliest bad record, or that the file could not be read on:
+/// The fault of the header or of the earliest bad record, or the fault that ended the reading:
 ///
-/// - `BadParameter`: the file has no record, the header is another, a record does not have two fields, a field is
-///   not UTF-8, or a name is not an identifier or appears twice;
-/// - `TooLarge`: there is a record after the 65,536th data record, whatever it holds;
-/// - `Memory`: memory ran out;
+/// - `BadParameter`: the file has no record, or the header is another. Or a record does not have
+///   two fields, a field is not UTF-8, or a name is not an identifier or occurs twice.
+/// - `TooLarge`: there is a record after the 65,536th data record, whatever it has.
+/// - `Memory`: memory ran out.
 /// - `Read`: the reader failed.
 pub fn read_parameters<R: Read + Drop>(alloc: Global, reader: R) -> Result<Parameters, MetaFault>
     ensures { IfSome (R.remaining reader) (λ bytes. OrOutside result (parameters_result (grid bytes))) }
 {
-    read_file::<NamesWithValues, R>(alloc, reader)
+    let mut row = ByteRecord::new(alloc);
+    match read_file::<NamesWithValues, R>(alloc, reader, &mut row) {
+        Ok(parameters) => Ok(parameters),
+        Err(refused) => Err(refused.fault(MetaFault::BadParameter)),
+    }
+}
+
+/// Reads a parameters file and returns its first bad record, or `None` if it has no fault.
+///
+/// The file and its faults are those of `read_parameters`. The first bad cell of a record is the
+/// first that is not UTF-8, or else the name. The whole record is bad if it has another number of
+/// cells, if it is the header or if it is past the limit.
+///
+/// # Errors
+///
+/// The fault that ended the reading.
+pub fn first_bad_parameter<R: Read + Drop>(
+    alloc: Global,
+    reader: R,
+) -> Result<Option<BadEntry>, ReadFault>
+    ensures { IfSome (R.remaining reader)
+        (λ bytes. IfOk result (λ found. option_map bad_entry found ≡ bad_parameter (grid bytes))) }
+{
+    let mut row = ByteRecord::new(alloc);
+    let read = read_file::<NamesWithValues, R>(alloc, reader, &mut row);
+    bad_entry_in(read, row)
 }

@@ -1,4 +1,4 @@
-//! The words of a types table.
+//! The type names of a types table.
 
 ghost use Rattle.std.specs.Prelude.{◌≡◌};
 ghost use Rattle.std.specs.Option.{option_map};
@@ -12,16 +12,16 @@ use csv::ByteRecord;
 use oim_cells::NumberKind;
 use oim_report::Kind;
 
-/// A table of words, as the header of a types table chooses it.
+/// A set of type names, chosen by the header of a types table.
 #[derive(Clone, Copy)]
 pub(crate) enum TypeWords {
-    /// The words under `type`.
+    /// The type names under `type`.
     Plain,
-    /// The words under `type2`.
+    /// The type names under `type2`.
     Wider,
 }
 
-/// The table of a name.
+/// Returns the set with this name.
 fn table_named(name: &str) -> Option<TypeWords>
     ensures { option_map words_in result ≡ value_at name.now tables_of_words }
 {
@@ -32,7 +32,7 @@ fn table_named(name: &str) -> Option<TypeWords>
     }
 }
 
-/// The kind that a word under `type` stands for.
+/// Returns the kind of a type name under `type`.
 fn plain_kind(word: &str) -> Option<Kind>
     ensures { result ≡ value_at word.now plain_words }
 {
@@ -48,7 +48,7 @@ fn plain_kind(word: &str) -> Option<Kind>
     }
 }
 
-/// The kind that a word under `type2` stands for.
+/// Returns the kind of a type name under `type2`.
 fn wider_kind(word: &str) -> Option<Kind>
     ensures { result ≡ value_at word.now wider_words }
 {
@@ -61,19 +61,17 @@ fn wider_kind(word: &str) -> Option<Kind>
 }
 
 impl TypeWords {
-    /// The table that a header chooses.
+    /// Returns the set that a header chooses, or `None` if the header is bad.
     pub(crate) fn of_header(header: &ByteRecord) -> Option<TypeWords>
         ensures { option_map words_in result ≡ words_chosen (fields_of header.now) }
     {
-        match texts_of_three(header) {
-            Some((uri, local, table)) if uri == "namespace" && local == "name" => table_named(
-                table,
-            ),
+        match texts_of_three(header, 0) {
+            Ok((uri, local, table)) if uri == "namespace" && local == "name" => table_named(table),
             _ => None,
         }
     }
 
-    /// The kind that a word of the table stands for.
+    /// Returns the kind of a type name of this set.
     pub(crate) fn kind_of(self, word: &str) -> Option<Kind>
         ensures { result ≡ value_at word.now (words_in self) }
     {

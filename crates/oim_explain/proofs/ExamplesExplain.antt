@@ -1,4 +1,5 @@
--- Worked cases of explanations: a place in the metadata, and the lines that are printed below the line of a fault.
+-- Examples of explanations: a place in the metadata, and the lines that are printed below the line
+-- of a fault.
 use Rattle.std.proofs.Common.{◌≡◌, ℕ, List, [], ◌∷◌, ◌++◌, refl}
 use Rattle.std.specs.Borrow.{Bor}
 use Rattle.std.specs.Prelude.{codes}
@@ -9,7 +10,7 @@ use Rattle.oim_explain.specs.declared.explanation.Explanation.{Explanation}
 
 -- ---- a place in the metadata
 
--- the file as a whole, its name without control characters, and a place in it
+-- The file as a whole, its name without control characters, and a place in it.
 whole_file : place_shown (codes "r/meta.json") [] ≡ codes "r/meta.json"
 unfolding chars encode
 whole_file = refl
@@ -18,7 +19,7 @@ place_in_it : place_shown (codes "r/meta.json") (codes "tables" ∷ codes "t" �
 unfolding chars encode
 place_in_it = refl
 
--- the name of the parameters file
+-- The name of the parameters file.
 place_of_the_name : place_shown (codes "r/meta.json") url_place ≡ codes "/parameterURL"
 unfolding chars encode
 place_of_the_name = refl
@@ -28,11 +29,11 @@ place_of_the_name = refl
 abbrev lf : List ℕ
 lf = 10 ∷ []
 
--- a text, wherever it is in memory
+-- A text, wherever it is in memory.
 abbrev word : List ℕ → Bor (List ℕ)
 word text = record { ref_ptr = (0, 0); now = text }
 
--- a dimension of the metadata that is in no types table
+-- A dimension of the metadata that is in no types table.
 abbrev misspelt : Explanation
 misspelt = record {
   place = codes "/tableTemplates/p/columns/cash/dimensions/eg:Regoin";
@@ -41,7 +42,7 @@ misspelt = record {
   sources = [];
 }
 
--- a cell whose unit comes from a property group that refers to a parameter
+-- A cell whose unit is from a property group that refers to a parameter.
 abbrev bad_unit : Explanation
 bad_unit = record {
   place = codes "q3/claims.csv, line 4, cell 2";
@@ -54,30 +55,30 @@ bad_unit = record {
       ∷ [];
 }
 
--- the place, what stands there and the sentence, each on a line of its own, four blanks deep
+-- The place, what is there, and the sentence, each on a line of its own, indented by four blanks.
 three_lines : place_lines misspelt
     ≡ codes "    /tableTemplates/p/columns/cash/dimensions/eg:Regoin" ++ lf
     ++ codes "    \"eg:North\"" ++ lf
     ++ codes "    no explicit or typed dimension of this name is in the types table" ++ lf
 three_lines = refl
 
--- no place elsewhere, no line
+-- No place elsewhere, no line.
 no_source : source_lines [] ≡ []
 no_source = refl
 
--- a line for each place elsewhere, in their order
+-- A line for each place elsewhere, in their order.
 two_sources : source_lines (codes "t1.csv, line 2, cell 3: \"net\"" ∷ codes "p.csv, line 2, cell 2: \"EUR\"" ∷ [])
     ≡ codes "    t1.csv, line 2, cell 3: \"net\"" ++ lf ++ codes "    p.csv, line 2, cell 2: \"EUR\"" ++ lf
 two_sources = refl
 
--- a fault of what stands at its own place has three lines
+-- A fault at its own place has three lines.
 without_sources : explanation_of misspelt
     ≡ codes "    /tableTemplates/p/columns/cash/dimensions/eg:Regoin" ++ lf
     ++ codes "    \"eg:North\"" ++ lf
     ++ codes "    no explicit or typed dimension of this name is in the types table" ++ lf
 without_sources = refl
 
--- the places elsewhere stand behind these three
+-- The sources follow these three.
 with_sources : explanation_of bad_unit
     ≡ codes "    q3/claims.csv, line 4, cell 2" ++ lf
     ++ codes "    \"1200.50\" in cash of row a17" ++ lf

@@ -1,4 +1,4 @@
--- What the explanation of the first finding of a metadata says.
+-- What the explanation of the first finding of a metadata gives.
 use Rattle.std.proofs.Common.{◌≡◌, ℕ, List, [], Option, Some, None, Result, Ok, Err, inl, inr, refl, subst}
 use Rattle.std.specs.Prelude.{IfNone, IfOk, IfSome}
 use Rattle.oim_meta.specs.Findings.{finding}
@@ -30,7 +30,7 @@ other_finding limits given types bytes f x (Ok (Some e)) found h = tt
 other_finding limits given types bytes f x (Ok None) found h = inr (record { finding = x; found = found; fault = h })
 other_finding limits given types bytes f x (Err e) found h = tt
 
--- why no JSON is read of the bytes is the finding of the whole
+-- Why no JSON is read of the bytes is the finding of the whole.
 unread_finding : (limits : Limits) (given : ParametersValue) (types : TypesValue) (bytes : List ℕ) (u : MetaFault) → ¬ (u ≡ refused.Memory) → IsUnread limits bytes u
     → IsFinding limits given types bytes (finding u [])
 unread_finding limits given types bytes refused.TooLarge known h = inl (h, refl)
@@ -44,7 +44,7 @@ other_unread {E} limits given types bytes f u (Ok o) unread known h =
     other_finding {E = E} limits given types bytes f (finding u []) (Ok o) (unread_finding limits given types bytes u known unread) h
 other_unread {E} limits given types bytes f u (Err e) unread known h = tt
 
--- the value that is read of the bytes has no fault, so they say its report
+-- The value that is read from the bytes has no fault, so the bytes give its report.
 pub value_sound : (limits : Limits) (given : ParametersValue) (types : TypesValue) (bytes : List ℕ) (d : Data) (f : MetaFault) → Reads limits bytes d
     → first_fault limits given types d ≡ None → HasOther limits given types bytes f
 value_sound limits given types bytes d f reads h = inl (report_of given types d, (reads.0, (d, reads.1, h, refl)))

@@ -1,4 +1,4 @@
--- What there is to say of a fault to a person: its place, and what stands there.
+-- The explanation of a fault for a person: its place, and what is there.
 use Rattle.std.specs.Prelude.{◌≡◌, ◌⊎◌, ℕ, List, [], ◌∷◌, ◌++◌, codes}
 use Rattle.oim_meta.specs.Paths.{Path}
 use Rattle.oim_meta.specs.Findings.{finding}
@@ -17,12 +17,12 @@ use Rattle.oim_explain.specs.declared.explanation.Explanation.{Explanation}
 
 -- ---- texts
 
--- the lines of the places elsewhere that a fault comes from
+-- The lines of the sources of a fault.
 abbrev pub source_lines : List (List ℕ) → List ℕ
 source_lines [] = []
 source_lines (s ∷ more) = (codes "    " ++ (s ++ 10 ∷ [])) ++ source_lines more
 
--- the lines of an explanation
+-- The lines of an explanation.
 abbrev pub place_lines : Explanation → List ℕ
 place_lines e = codes "    " ++ (e.place ++ (10 ∷ codes "    " ++ (e.found ++ (10 ∷ codes "    " ++ (e.cause.now ++ 10 ∷ [])))))
 
@@ -31,26 +31,27 @@ explanation_of e = place_lines e ++ source_lines e.sources
 
 -- ---- the metadata
 
--- a place in the metadata file at this path; no keys lead to the file as a whole
+-- A place in the metadata file at this path; no keys lead to the file as a whole.
 abbrev pub place_shown : List ℕ → Path → List ℕ
 place_shown path [] = shown path
 place_shown path (key ∷ keys) = pointer_of (key ∷ keys)
 
--- the place of the name of the parameters file
+-- The place of the name of the parameters file.
 abbrev pub url_place : Path
 url_place = codes "parameterURL" ∷ []
 
--- the fault is of the name of the parameters file, which is looked at before all else
+-- The fault is of the name of the parameters file, which is tested before all else.
 abbrev pub HasBadUrl : Limits → List ℕ → MetaFault → Path → Type 0
 HasBadUrl limits bytes f place = (f ≡ refused.BadParameter) × IsUrlFault limits bytes refused.BadParameter × (place ≡ url_place)
 
--- the explanation's place is that of this fault: the first finding of the metadata is this fault at this place, or the name of the parameters file is wrong
+-- The explanation's place is that of this fault: the first finding of the metadata is this fault at
+-- this place, or the name of the parameters file is wrong.
 pub record ExplainsMetadata (limits : Limits) (given : ParametersValue) (types : TypesValue) (path bytes : List ℕ) (f : MetaFault) (e : Explanation) : Type 0 where
   pub place : Path
   pub found : IsFinding limits given types bytes (finding f place) ⊎ HasBadUrl limits bytes f place
   pub named : e.place ≡ place_shown path place
 
--- another fault comes first
+-- Another fault occurs first.
 pub record Other (limits : Limits) (given : ParametersValue) (types : TypesValue) (bytes : List ℕ) (f : MetaFault) : Type 0 where
   pub finding : Finding
   pub found : IsFinding limits given types bytes finding

@@ -1,4 +1,5 @@
--- Where an explanation says that the fault of a table is: at its file as a whole, or at a line and a cell of it.
+-- The place that an explanation gives for a table's fault: its file as a whole, or a line and a
+-- cell.
 use Rattle.std.specs.Prelude.{◌≡◌, ◌⊎◌, ◌≤◌, ℕ, List, Option, IfSome, length}
 use Rattle.oim_files.specs.Folders.{Files}
 use Rattle.oim_report.specs.ReportValue.{ReportValue}
@@ -10,18 +11,22 @@ use Rattle.oim_places.specs.Shown.{shown}
 use Rattle.oim_explain.specs.Explanations.{explanation_of}
 use Rattle.oim_explain.specs.declared.explanation.Explanation.{Explanation}
 
--- the text names the fault's cell by its column, and its row by the line at which it begins in these bytes, if that is known
+-- The text names the fault's cell by its column, and its row by the line at which it begins in
+-- these bytes, if that is known.
 abbrev pub NamesPlace : List ℕ → TableFault → List ℕ → List ℕ → Type 0
 NamesPlace path f bytes text = (line : Option ℕ) × IsLineOf f.row bytes line × (text ≡ place_text path line (column_place f.column))
 
--- the explanation is of the file at this path as a whole, or its place is that of the fault in the file, which has it there, its first
+-- The explanation is of the file at this path as a whole, or its place is that of the fault, which
+-- is the file's first.
 abbrev pub ExplainsAt : Files → List ℕ → ReportValue → TableFault → Explanation → Type 0
 ExplainsAt files path report f e = (e.place ≡ shown path) ⊎ HasFaultIn files path report f (λ bytes. NamesPlace path f bytes e.place)
 
--- the same for a table of a report whose metadata is at this path; a table that is not there is explained at the metadata
+-- The same for a table of a report whose metadata is at this path. A table that does not exist is
+-- explained at the metadata.
 abbrev pub ExplainsTable : Files → List ℕ → ReportValue → TableFault → Explanation → Type 0
 ExplainsTable files meta report f e = ((length report.tables ≤ f.table) × (e.place ≡ shown meta)) ⊎ ((path : List ℕ) × IsTablePath meta report f.table path × ExplainsAt files path report f e)
 
--- the text is an explanation of the fault of such a table, whose place is right where the files are known
+-- The text is an explanation of the fault of such a table. Its place is right if the files are
+-- known.
 abbrev pub SaysOfTable : Option Files → List ℕ → ReportValue → TableFault → List ℕ → Type 0
 SaysOfTable known meta report f text = (e : Explanation) × (text ≡ explanation_of e) × IfSome known (λ files. ExplainsTable files meta report f e)

@@ -1,13 +1,16 @@
-//! The files of a run that ended with a fault are read again, for its explanation.
+//! Reads the files of a run that ended with a fault again, for its explanation.
+//!
+//! Not proved: what `report_explanation` and `explain_report` return. Tests cover it.
 
 ghost use Rattle.serde_json.specs.View.{view};
 ghost use Rattle.oim_meta.specs.Reading.{Reads};
 ghost use Rattle.oim_files.specs.Metadata.{profile};
 
-use crate::entries::{BadRecord, Form, PARAMETERS, TYPES, bad_record};
+use crate::entries::{EntryFile, bad_record, entry_cause, entry_found};
 use crate::explanation::{Explanation, explanation_text};
 use crate::files::{changed, of_file, unread};
 use crate::metadata::{explain_value, of_unread, read_again};
+use oim_entries::BadEntry;
 use oim_files::{
     EarlyFault, Folder, Source, folder_of, metadata_at, parameters_in, path_in, types_in, url_in,
 };
@@ -17,7 +20,8 @@ use oim_places::{line_again, place_in_file};
 use std::alloc::{AllocError, Global};
 use std::io::Read;
 
-/// The parameters of the parameters file, and none where the metadata names no such file, or names it wrongly.
+/// Reads the parameters file. Returns no parameters if the metadata names none, or names it
+/// wrongly.
 fn parameters_again<R: Read + Drop, F: Folder<R>>(
     alloc: Global,
     folder: &mut F,
@@ -30,7 +34,7 @@ fn parameters_again<R: Read + Drop, F: Folder<R>>(
     }
 }
 
-/// The explanation, or that the fault is not there any more.
+/// Returns the explanation, or the one of a fault that is no longer there.
 fn or_changed(
     alloc: Global,
     path: &str,
@@ -42,7 +46,7 @@ fn or_changed(
     }
 }
 
-/// The explanation of a fault of the metadata that was read of these bytes, with its types.
+/// Returns the explanation of a fault of the metadata that was read of these bytes, with its types.
 fn with_parameters<R: Read + Drop, F: Folder<R>>(
     alloc: Global,
     folder: &mut F,
@@ -65,7 +69,8 @@ fn with_parameters<R: Read + Drop, F: Folder<R>>(
     }
 }
 
-/// The explanation of a fault of the metadata at this path, which has these bytes, with its types.
+/// Returns the explanation of a fault of the metadata at this path, which has these bytes, with its
+/// types.
 fn of_bytes<R: Read + Drop, F: Folder<R>>(
     alloc: Global,
     folder: &mut F,
@@ -80,7 +85,7 @@ fn of_bytes<R: Read + Drop, F: Folder<R>>(
     }
 }
 
-/// The explanation of a fault of the metadata at this path, with its types.
+/// Returns the explanation of a fault of the metadata at this path, with its types.
 fn with_types<R: Read + Drop, F: Folder<R>>(
     alloc: Global,
     folder: &mut F,
@@ -94,7 +99,8 @@ fn with_types<R: Read + Drop, F: Folder<R>>(
     }
 }
 
-/// The explanation of a fault of the metadata at this path, whose types table is at another.
+/// Returns the explanation of a fault of the metadata at this path, whose types table is at
+/// another.
 fn of_metadata<R: Read + Drop, F: Folder<R>>(
     alloc: Global,
     meta: &str,
@@ -108,42 +114,42 @@ fn of_metadata<R: Read + Drop, F: Folder<R>>(
     }
 }
 
-/// The explanation of a bad record of the file at this path.
+/// Returns the explanation of a bad record of the file at this path.
 fn of_record<R: Read + Drop, F: Folder<R>>(
     alloc: Global,
     folder: &mut F,
     path: &str,
-    bad: Option<BadRecord>,
+    file: EntryFile,
+    bad: &BadEntry,
 ) -> Result<Explanation, AllocError> {
-    let Some(bad) = bad else {
-        return changed(alloc, path);
-    };
-    let line = line_again(alloc, folder, path, bad.number);
+    let fault = bad.fault;
+    let line = line_again(alloc, folder, path, fault.number);
     Ok(Explanation {
-        place: Text::new(place_in_file(alloc, path, line, bad.wrong.place)?),
-        found: Text::new(bad.found),
-        cause: bad.wrong.cause,
+        place: Text::new(place_in_file(alloc, path, line, fault.column)?),
+        found: Text::new(entry_found(alloc, &fault, &bad.row)?),
+        cause: entry_cause(file, fault.problem),
         sources: Items::new(alloc),
     })
 }
 
-/// The explanation of a fault of the types table or the parameters file at this path.
+/// Returns the explanation of a fault of the types table or the parameters file at this path.
 fn of_entries<R: Read + Drop, F: Folder<R>>(
     alloc: Global,
     folder: &mut F,
     path: &str,
-    form: &Form,
+    file: EntryFile,
 ) -> Result<Explanation, AllocError> {
-    match folder.open(path) {
-        Some(reader) => {
-            let bad = bad_record(alloc, form, reader)?;
-            of_record(alloc, folder, path, bad)
-        }
-        None => of_file(alloc, path, "the file cannot be opened again"),
+    let Some(reader) = folder.open(path) else {
+        return of_file(alloc, path, "the file cannot be opened again");
+    };
+    match &bad_record(alloc, file, reader)? {
+        Some(bad) => of_record(alloc, folder, path, file, bad),
+        None => changed(alloc, path),
     }
 }
 
-/// The name of the parameters file in the metadata at this path. `None` if it has none, or cannot be read again.
+/// Returns the name of the parameters file in the metadata at this path. Returns `None` if it has
+/// none or cannot be read again.
 fn url_again<R: Read + Drop, F: Folder<R>>(
     alloc: Global,
     folder: &mut F,
@@ -155,7 +161,8 @@ fn url_again<R: Read + Drop, F: Folder<R>>(
     }
 }
 
-/// The path of the parameters file that the metadata at this path names. `None` if it names none, or cannot be read again.
+/// Returns the path of the parameters file that the metadata at this path names. Returns `None` if
+/// it names none or cannot be read again.
 fn parameters_path<R: Read + Drop, F: Folder<R>>(
     alloc: Global,
     folder: &mut F,
@@ -167,19 +174,20 @@ fn parameters_path<R: Read + Drop, F: Folder<R>>(
     }
 }
 
-/// The explanation of a fault of the parameters file of the metadata at this path.
+/// Returns the explanation of a fault of the parameters file of the metadata at this path.
 fn of_parameters<R: Read + Drop, F: Folder<R>>(
     alloc: Global,
     folder: &mut F,
     meta: &str,
 ) -> Result<Explanation, AllocError> {
     match parameters_path(alloc, folder, meta)? {
-        Some(path) => of_entries(alloc, folder, path.as_str(), &PARAMETERS),
+        Some(path) => of_entries(alloc, folder, path.as_str(), EntryFile::Parameters),
         None => changed(alloc, meta),
     }
 }
 
-/// What is said of the parameters file of the metadata at this path; of the metadata where that names none.
+/// Returns an explanation at the parameters file of the metadata at this path, or at the metadata
+/// if that names none.
 fn of_parameters_file<R: Read + Drop, F: Folder<R>>(
     alloc: Global,
     folder: &mut F,
@@ -192,7 +200,7 @@ fn of_parameters_file<R: Read + Drop, F: Folder<R>>(
     }
 }
 
-/// What is said of a file as a whole, whatever stands in it.
+/// Returns an explanation at a file as a whole, whatever is in it.
 fn of_whole<R: Read + Drop, F: Folder<R>>(
     alloc: Global,
     meta: &str,
@@ -208,9 +216,9 @@ fn of_whole<R: Read + Drop, F: Folder<R>>(
     }
 }
 
-/// The explanation of a fault of the metadata and the types table at these paths, or of the parameters file, which are
-/// read again. It says so where the fault is not there any more, or a file cannot be read again. Fails if memory runs out.
-/// No clause says this: tests show it.
+/// Returns the explanation of a fault of the metadata and the types table at these paths, or of the
+/// parameters file. The files are read again. If the fault is no longer there, or a file cannot be
+/// read again, the explanation is about that.
 pub fn report_explanation<R: Read + Drop, F: Folder<R>>(
     alloc: Global,
     meta: &str,
@@ -224,14 +232,13 @@ pub fn report_explanation<R: Read + Drop, F: Folder<R>>(
     }
     match source {
         Source::Report => of_metadata(alloc, meta, types, folder, fault),
-        Source::Types => of_entries(alloc, folder, types, &TYPES),
+        Source::Types => of_entries(alloc, folder, types, EntryFile::Types),
         Source::Parameters => of_parameters(alloc, folder, meta),
     }
 }
 
-/// The lines that explain a fault of the metadata and the types table at these paths, or of the parameters file, which
-/// are read again, as `report_explanation` gives it: three lines, four blanks deep, each with its line feed. Fails if
-/// memory runs out. No clause says this: tests show it.
+/// Returns the lines of the explanation that `report_explanation` gives: three lines, indented by
+/// four blanks, each with a line feed.
 pub fn explain_report<R: Read + Drop, F: Folder<R>>(
     alloc: Global,
     meta: &str,

@@ -1,4 +1,5 @@
-//! What is wrong at a place of the metadata: a sentence for each case of a fault. `docs/FAULTS.md` has them too.
+//! What is wrong at a place of the metadata: a sentence for each case of a fault. `docs/FAULTS.md`
+//! has them too.
 
 use crate::levels::text_of;
 use oim_cells::{CellMeaning, meaning};
@@ -6,7 +7,7 @@ use oim_meta::MetaFault;
 use oim_names::{Text, is_identifier, is_ncname};
 use serde_json::Value;
 
-/// The key that stands so many places before the end, the empty text if there is none.
+/// Returns the key that is `before` places before the last one, or the empty text.
 fn key_from_end(keys: &[Text], before: usize) -> &str {
     if before < keys.len() {
         keys[keys.len() - 1 - before].as_str()
@@ -53,7 +54,7 @@ fn of_links(keys: &[Text]) -> &'static str {
     }
 }
 
-/// Of a property that has the wrong shape.
+/// Returns what is wrong with a property of the wrong shape.
 fn of_property(name: &str, value: Option<&Value>) -> &'static str {
     match name {
         "url" => match value {
@@ -72,8 +73,8 @@ fn of_property(name: &str, value: Option<&Value>) -> &'static str {
     }
 }
 
-/// Of a part of the metadata that has the wrong shape. At an even depth stands a part, at an odd one a
-/// property of one.
+/// Returns what is wrong with a part of the metadata of the wrong shape. Keys of even length lead
+/// to a part, those of odd length to a property.
 fn of_shape(keys: &[Text], value: Option<&Value>) -> &'static str {
     if keys.len() % 2 == 1 {
         return of_property(key_from_end(keys, 0), value);
@@ -100,10 +101,10 @@ fn of_column(keys: &[Text]) -> &'static str {
     }
 }
 
-/// Of a key that is neither core nor an explicit or typed dimension of the types table.
+/// A key that is neither core nor an explicit or typed dimension of the types table.
 const UNKNOWN_DIMENSION: &str = "no explicit or typed dimension of this name is in the types table";
 
-/// Of a dimension whose value is no reference.
+/// Returns what is wrong with a dimension whose value is not a reference.
 fn of_literal(text: &str) -> &'static str {
     match meaning(text) {
         CellMeaning::Unknown => "this is no special value; a text that begins with # has two: ##",
@@ -114,7 +115,7 @@ fn of_literal(text: &str) -> &'static str {
     }
 }
 
-/// Of a dimension whose value begins with a dollar sign, with this text behind it.
+/// Returns what is wrong with a dimension whose value is a dollar sign and `rest`.
 fn of_reference(is_core: bool, rest: &str) -> &'static str {
     if !is_core && (rest.starts_with("$") || is_identifier(rest)) {
         UNKNOWN_DIMENSION
@@ -162,7 +163,7 @@ fn of_size(keys: &[Text]) -> &'static str {
     }
 }
 
-/// What is wrong at the place of a fault, where this value stands.
+/// Returns what is wrong at the place of a fault, which has this value.
 pub(crate) fn cause(fault: MetaFault, keys: &[Text], value: Option<&Value>) -> &'static str {
     match fault {
         MetaFault::Syntax =>

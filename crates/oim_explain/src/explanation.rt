@@ -6,22 +6,22 @@ ghost use Rattle.oim_explain.specs.Explanations.{explanation_of, source_lines};
 use oim_names::{Items, Text};
 use std::alloc::{AllocError, Global};
 
-/// What there is to say of a fault to a person.
+/// The explanation of a fault for a person.
 #[derive(Drop)]
 pub struct Explanation {
     /// Where it is: in the metadata a JSON pointer, else a file and a place there.
     pub place: Text,
-    /// What stands there.
+    /// What is there.
     pub found: Text,
     /// What is wrong with it, as a sentence without capital and full stop.
     pub cause: &'static str,
-    /// The places elsewhere that the fault comes from, each with what stands there, in the order in which
-    /// they lead to it: a cell that names a property group, a property of the metadata, a cell or a parameter
-    /// that it refers to. None where the fault is of what stands at its own place.
+    /// The sources of the fault elsewhere, each with what is there, in the order in which they lead
+    /// to it: a cell that names a property group, a property of the metadata, a cell or a parameter
+    /// that it refers to. Empty if the fault is only at its own place.
     pub sources: Items<Text>,
 }
 
-/// The lines of the places elsewhere.
+/// Returns the lines of the sources.
 fn sources_text(alloc: Global, sources: &[Text]) -> Result<String, AllocError>
     ensures { IfOk result (λ s. string_bytes s ≡ source_lines sources.now) }
 {
@@ -33,7 +33,7 @@ fn sources_text(alloc: Global, sources: &[Text]) -> Result<String, AllocError>
     Ok(lines)
 }
 
-/// The lines of an explanation, four blanks deep, each with its line feed. Fails if memory runs out.
+/// Returns the lines of an explanation, indented by four blanks, each with a line feed.
 pub fn explanation_text(alloc: Global, explanation: &Explanation) -> Result<String, AllocError>
     ensures { IfOk result (λ s. string_bytes s ≡ explanation_of explanation.now) }
 {

@@ -1,4 +1,4 @@
-//! What there is to say of a file as a whole.
+//! Explanations at a file as a whole.
 
 ghost use Rattle.std.specs.Prelude.{◌≡◌, IfOk};
 ghost use Rattle.oim_places.specs.Shown as spec;
@@ -10,7 +10,7 @@ use oim_names::{Items, Text};
 use oim_places::shown;
 use std::alloc::{AllocError, Global};
 
-/// An explanation at a file as a whole.
+/// Returns an explanation at a file as a whole.
 pub(crate) fn of_file(
     alloc: Global,
     path: &str,
@@ -26,7 +26,7 @@ pub(crate) fn of_file(
     })
 }
 
-/// The explanation of a fault that is not there any more.
+/// Returns the explanation of a fault that is no longer there.
 pub(crate) fn changed(alloc: Global, path: &str) -> Result<Explanation, AllocError>
     ensures { IfOk result (λ e. e.place ≡ spec.shown path.now) }
 {
@@ -37,7 +37,7 @@ pub(crate) fn changed(alloc: Global, path: &str) -> Result<Explanation, AllocErr
     )
 }
 
-/// The explanation of a fault where reading the files again ended so.
+/// Returns the explanation for files that could not be read again.
 pub(crate) fn unread(
     alloc: Global,
     path: &str,

@@ -1,5 +1,6 @@
-//! The row of a fault, and what the levels of its report write for the fact of one of its cells: the column, the property groups
-//! that the row names, the template and the report. The more specific overrides the more general.
+//! The row of a fault, and what the levels of its report write for the fact of one of its cells:
+//! the column, the property groups that the row names, the template and the report. The more
+//! specific overrides the more general.
 
 ghost use Rattle.std.specs.Prelude.{◌≤◌};
 
@@ -24,7 +25,7 @@ pub(crate) enum Writer {
     Report,
 }
 
-/// A value of the metadata, if it is there and a text.
+/// Returns a value of the metadata, if it is there and a text.
 pub(crate) fn text_of(value: Option<&Value>) -> Option<&str> {
     match value {
         Some(value) => value.as_str(),
@@ -32,7 +33,7 @@ pub(crate) fn text_of(value: Option<&Value>) -> Option<&str> {
     }
 }
 
-/// How many keys lead to a level: the template's name, the column's, the group's.
+/// Returns how many keys lead to a level: the template's name, the column's, the group's.
 fn depth(writer: Writer) -> usize
     ensures { result ≤ 6 }
 {
@@ -71,7 +72,7 @@ pub(crate) struct RowOfFault<'r> {
     pub(crate) base: &'r str,
 }
 
-/// The place of the header's first cell that is this text.
+/// Returns the place of the header's first cell that is this text.
 pub(crate) fn place_of_text(again: &RowAgain, text: &str) -> Option<usize> {
     for place in 0..again.header.len() {
         if text_at(&again.header, place) == Some(text) {
@@ -82,13 +83,13 @@ pub(crate) fn place_of_text(again: &RowAgain, text: &str) -> Option<usize> {
 }
 
 impl<'r> RowOfFault<'r> {
-    /// The identifier of the template.
+    /// Returns the identifier of the template.
     fn template_id(&self) -> &'r str {
         let table = self.table_id;
         text_of(self.again.written_at(&["tables", table, "template"])).unwrap_or(table)
     }
 
-    /// The parameter of this name.
+    /// Returns the parameter of this name.
     pub(crate) fn parameter(&self, name: &str) -> Option<&'r str> {
         let report = &self.again.report;
         if self.table < report.tables() {
@@ -98,7 +99,7 @@ impl<'r> RowOfFault<'r> {
         }
     }
 
-    /// The identifier of the column at a place of the template.
+    /// Returns the identifier of the column at a place of the template.
     pub(crate) fn column_id(&self, place: usize) -> &'r str {
         match self.columns.get(place) {
             Some(column) => column.id.as_str(),
@@ -106,12 +107,12 @@ impl<'r> RowOfFault<'r> {
         }
     }
 
-    /// The place in the file's records of the column of this name, if the header has it.
+    /// Returns the place in the file's records of the column of this name, if the header has it.
     pub(crate) fn place_in_file(&self, column: &str) -> Option<usize> {
         place_of_text(self.cells, column)
     }
 
-    /// The row's cell in the column of this name, empty if there is none.
+    /// Returns the row's cell in the column of this name, empty if it does not exist.
     pub(crate) fn cell_of(&self, column: &str) -> &'r str {
         match self.place_in_file(column) {
             Some(place) => text_at(&self.cells.row, place).unwrap_or(""),
@@ -119,7 +120,7 @@ impl<'r> RowOfFault<'r> {
         }
     }
 
-    /// What a reference to this name gives: the row's cell, else the parameter.
+    /// Returns what a reference to this name gives: the row's cell, else the parameter.
     fn referred(&self, name: &str) -> CellMeaning<'r> {
         let cell = self.cell_of(name);
         if !cell.is_empty() {
@@ -131,7 +132,7 @@ impl<'r> RowOfFault<'r> {
         }
     }
 
-    /// What a written dimension gives in the row.
+    /// Returns what a written dimension gives in the row.
     pub(crate) fn meaning_of(&self, written: &'r Written) -> CellMeaning<'r> {
         match written {
             Written::Absent => CellMeaning::Absent,
@@ -143,7 +144,7 @@ impl<'r> RowOfFault<'r> {
         }
     }
 
-    /// The property group that the row names in the column at a place of the template.
+    /// Returns the property group that the row names in the column at a place of the template.
     fn group(&self, place: usize) -> Option<&'r Level> {
         let Some(column) = self.columns.get(place) else {
             return None;
@@ -154,7 +155,7 @@ impl<'r> RowOfFault<'r> {
         }
     }
 
-    /// The places of the columns from which the fact's column takes property groups.
+    /// Returns the places of the columns from which the fact's column takes property groups.
     pub(crate) fn from(&self) -> &'r [usize] {
         match self.columns.get(self.column) {
             Some(column) => column.from.as_slice(),
@@ -162,7 +163,7 @@ impl<'r> RowOfFault<'r> {
         }
     }
 
-    /// What one of the levels writes.
+    /// Returns what one of the levels writes.
     fn level(&self, writer: Writer) -> Option<&'r Level> {
         match writer {
             Writer::Column => match self.columns.get(self.column) {
@@ -175,12 +176,12 @@ impl<'r> RowOfFault<'r> {
         }
     }
 
-    /// How many levels there may be.
+    /// Returns how many levels there may be.
     fn ranks(&self) -> usize {
         self.from().len() + 3
     }
 
-    /// The level of a rank: the more specific a level is, the lower is its rank.
+    /// Returns the level of a rank: the more specific a level is, the lower is its rank.
     fn writer_at(&self, rank: usize) -> Writer {
         let from = self.from();
         if rank == 0 {
@@ -194,7 +195,8 @@ impl<'r> RowOfFault<'r> {
         }
     }
 
-    /// What is written for a dimension, and by which level: the most specific that writes it.
+    /// Returns what is written for a dimension, and by which level: the most specific that writes
+    /// it.
     pub(crate) fn written(&self, name: &str) -> Option<(Writer, &'r Written)> {
         for rank in 0..self.ranks() {
             let writer = self.writer_at(rank);
@@ -207,7 +209,8 @@ impl<'r> RowOfFault<'r> {
         None
     }
 
-    /// What is written for decimals, and by which level: the most specific that writes them.
+    /// Returns what is written for decimals, and by which level: the most specific that writes
+    /// them.
     pub(crate) fn decimals(&self) -> Option<(Writer, &'r WrittenDecimals)> {
         for rank in 0..self.ranks() {
             let writer = self.writer_at(rank);
@@ -220,7 +223,7 @@ impl<'r> RowOfFault<'r> {
         None
     }
 
-    /// The names of the dimensions that the levels write, in byte order.
+    /// Returns the names of the dimensions that the levels write, in byte order.
     pub(crate) fn names(&self, alloc: Global) -> Result<Vec<&'r str>, AllocError> {
         let mut all = Vec::new(alloc);
         for rank in 0..self.ranks() {
@@ -231,7 +234,7 @@ impl<'r> RowOfFault<'r> {
         levels::names(alloc, all.as_slice())
     }
 
-    /// What the fact's concept is given as.
+    /// Returns what the fact's concept is given as.
     pub(crate) fn concept(&self) -> CellMeaning<'r> {
         match self.written("concept") {
             Some((_, written)) => self.meaning_of(written),
@@ -239,13 +242,13 @@ impl<'r> RowOfFault<'r> {
         }
     }
 
-    /// Whether a fault is of the fact's own cell: a text that begins with one `#` there.
+    /// Returns whether a fault is of the fact's own cell: a text that begins with one `#` there.
     pub(crate) fn is_itself(&self, fault: CellFault) -> bool {
         fault == CellFault::UnknownSpecial
             && meaning(self.cell_of(self.column_id(self.column))) == CellMeaning::Unknown
     }
 
-    /// Whether the row's cell in a column of property groups has this fault.
+    /// Returns whether the row's cell in a column of property groups has this fault.
     fn is_bad_group(&self, place: usize, fault: CellFault) -> bool {
         let cell = meaning(self.cell_of(self.column_id(place)));
         match fault {
@@ -259,12 +262,14 @@ impl<'r> RowOfFault<'r> {
         }
     }
 
-    /// Whether the row's cell in the column of property groups at a place names none, or there is no such cell.
+    /// Returns whether the row's cell in the column of property groups at a place is absent or
+    /// names no group.
     pub(crate) fn names_no_group(&self, place: usize) -> bool {
         meaning(self.cell_of(self.column_id(place))) == CellMeaning::Absent
     }
 
-    /// The place of the first column from which the fact takes property groups whose cell has this fault.
+    /// Returns the place of the first column that the fact takes property groups from and whose
+    /// cell has this fault.
     pub(crate) fn bad_group(&self, fault: CellFault) -> Option<usize> {
         for place in self.from() {
             if self.is_bad_group(*place, fault) {
@@ -274,7 +279,7 @@ impl<'r> RowOfFault<'r> {
         None
     }
 
-    /// The keys that lead to a property that a level writes.
+    /// Returns the keys that lead to a property that a level writes.
     pub(crate) fn keys_of<'k>(
         &self,
         alloc: Global,
@@ -302,7 +307,7 @@ impl<'r> RowOfFault<'r> {
         Ok(keys)
     }
 
-    /// The name that the row's cell in a column of property groups has.
+    /// Returns the name that the row's cell in a column of property groups has.
     fn group_name(&self, column: &str) -> &'r str {
         match meaning(self.cell_of(column)) {
             CellMeaning::Text(name) => name,

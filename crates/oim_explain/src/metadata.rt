@@ -20,7 +20,7 @@ use oim_places::{part_at, pointer, shown, standing};
 use serde_json::Value;
 use std::alloc::{AllocError, Global};
 
-/// A place in the metadata file at this path: the file for no keys.
+/// Returns a place in the metadata file at this path: the file for no keys.
 fn place(alloc: Global, path: &str, keys: &[Text]) -> Result<Text, AllocError>
     ensures { IfOk result (λ t. t ≡ place_shown path.now keys.now) }
 {
@@ -31,13 +31,14 @@ fn place(alloc: Global, path: &str, keys: &[Text]) -> Result<Text, AllocError>
     }
 }
 
-/// What stands at the place of a fault: of namespaces that share a URI, the two prefixes.
+/// Returns what is at the place of a fault. For namespaces that share a URI, it is the two
+/// prefixes.
 fn found_there(
     alloc: Global,
     there: Option<&Value>,
     finding: &Finding,
 ) -> Result<String, AllocError> {
-    // One key deeper stands the namespace of one prefix.
+    // One key deeper is the namespace of one prefix.
     if finding.fault == MetaFault::BadNamespaces && finding.place.as_slice().len() == 2 {
         if let Some(found) = with_one_uri(alloc, there)? {
             return Ok(found);
@@ -46,7 +47,7 @@ fn found_there(
     standing(alloc, there)
 }
 
-/// What stands at a place of a metadata that is JSON, and what is wrong with it.
+/// Returns what is at a place of a metadata that is JSON, and what is wrong with it.
 fn in_value(
     alloc: Global,
     there: Option<&Value>,
@@ -57,7 +58,7 @@ fn in_value(
     Ok((found, cause(finding.fault, keys, there)))
 }
 
-/// Where a metadata stops being JSON.
+/// Returns where a metadata stops being JSON.
 fn in_text(
     alloc: Global,
     error: &serde_json::Error,
@@ -69,7 +70,7 @@ fn in_text(
     Ok((there, cause(finding.fault, &[], None)))
 }
 
-/// What this part of a metadata is, and what is wrong with it.
+/// Returns what this part of a metadata is, and what is wrong with it.
 fn in_part(
     alloc: Global,
     part: &[u8],
@@ -81,7 +82,8 @@ fn in_part(
     }
 }
 
-/// What stands at the place of a finding, and what is wrong with it. Of the JSON that part is read again, and the names on the way.
+/// Returns what is at the place of a finding, and what is wrong with it. Only that part of the JSON
+/// is read again, and the names on the way.
 fn told(
     alloc: Global,
     bytes: &[u8],
@@ -98,7 +100,7 @@ fn told(
     }
 }
 
-/// The explanation of a finding in the metadata that has these bytes and stands at this path.
+/// Returns the explanation of a finding in the metadata that has these bytes and is at this path.
 fn of_finding(
     alloc: Global,
     path: &str,
@@ -117,7 +119,7 @@ fn of_finding(
     })
 }
 
-/// The place of the name of the parameters file.
+/// Returns the place of the name of the parameters file.
 fn url_finding(alloc: Global) -> Result<Finding, AllocError>
     ensures { IfOk result (λ x. x ≡ finding_at refused.BadParameter url_place) }
 {
@@ -129,8 +131,8 @@ fn url_finding(alloc: Global) -> Result<Finding, AllocError>
     })
 }
 
-/// The explanation of a wrong name of the parameters file, of the metadata that was read of these bytes. `None` if it is
-/// not wrong.
+/// Returns the explanation of a wrong name of the parameters file in the metadata that was read
+/// from these bytes, or `None` if it is not wrong.
 fn of_parameter_url(
     alloc: Global,
     path: &str,
@@ -150,7 +152,7 @@ fn of_parameter_url(
     }
 }
 
-/// The explanation of a finding of this fault. `None` if it is of another.
+/// Returns the explanation of a finding of this fault. Returns `None` if it is of another.
 fn of_fault(
     alloc: Global,
     path: &str,
@@ -168,7 +170,7 @@ fn of_fault(
     }
 }
 
-/// Why a metadata is refused. `None` if it is not.
+/// Returns why a metadata is refused. Returns `None` if it is not.
 fn refusal_of(
     alloc: Global,
     metadata: Metadata,
@@ -184,8 +186,8 @@ fn refusal_of(
     }
 }
 
-/// The explanation of a fault that is the first finding of the metadata that was read of these bytes. `None` if it
-/// is not.
+/// Returns the explanation of a fault that is the first finding of the metadata that was read from
+/// these bytes, or `None` if it is not.
 fn of_first(
     alloc: Global,
     path: &str,
@@ -214,7 +216,8 @@ pub(crate) fn read_again(alloc: Global, bytes: &[u8]) -> Result<Metadata, MetaFa
     Metadata::read(alloc, bytes, &Limits::profile())
 }
 
-/// The explanation of a fault for which the metadata is not read. `None` if it is not read for another.
+/// Returns the explanation of a fault because of which the metadata cannot be read, or `None` if it
+/// can be, or has another fault.
 pub(crate) fn of_unread(
     alloc: Global,
     path: &str,
@@ -236,7 +239,8 @@ pub(crate) fn of_unread(
     of_fault(alloc, path, bytes, fault, &finding)
 }
 
-/// The explanation of a fault of the metadata that was read of these bytes, as `explain_metadata` gives it.
+/// Returns the explanation of a fault of the metadata that was read from these bytes, as
+/// `explain_metadata` gives it.
 pub(crate) fn explain_value(
     alloc: Global,
     path: &str,
@@ -258,10 +262,12 @@ pub(crate) fn explain_value(
     of_first(alloc, path, bytes, metadata, parameters, types, fault)
 }
 
-/// The explanation of a fault of the metadata that has these bytes and stands at this path, with the
-/// parameters of its parameters file and its types. Its place is the first at which a walk over the metadata
-/// finds the fault, or the name of the parameters file if that is wrong.
-/// `None` if the metadata has no fault, or another comes first. Fails if memory runs out.
+/// Returns the explanation of a fault of the metadata that has these bytes and is at this path,
+/// with the parameters of its parameters file and its types.
+///
+/// Its place is the first at which a walk over the metadata finds the fault, or the name of the
+/// parameters file if that is wrong. Returns `None` if the metadata has no fault, or another one
+/// occurs first.
 pub fn explain_metadata(
     alloc: Global,
     path: &str,

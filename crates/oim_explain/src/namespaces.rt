@@ -5,7 +5,7 @@ use serde_json::Value;
 use std::alloc::{AllocError, Global};
 use std::collections::HashMap;
 
-/// Two prefixes and their URI, as they are told.
+/// Returns the text of two prefixes and their URI.
 fn told(alloc: Global, first: &str, second: &str, uri: &str) -> Result<String, AllocError> {
     let mut text = quoted(alloc, first)?;
     text.push_str(" and ")?;
@@ -15,7 +15,8 @@ fn told(alloc: Global, first: &str, second: &str, uri: &str) -> Result<String, A
     Ok(text)
 }
 
-/// The first prefix of these namespaces whose URI another one before it has, with that one. `None` if there is none.
+/// Returns the first prefix of these namespaces that has the URI of an earlier one, with that one,
+/// or `None`.
 pub(crate) fn with_one_uri(
     alloc: Global,
     namespaces: Option<&Value>,

@@ -1,13 +1,13 @@
-//! What is wrong with the cell of a number, where more can be said than that it is not a numeral.
+//! What is wrong with the cell of a number, beyond that it is not a numeral.
 
 use oim_cells::{NumberKind, split_numeral, trimmed};
 
-/// Whether a text is a numeral of the widest type, with or without a suffix.
+/// Returns whether a text is a numeral of the widest type, with or without a suffix.
 fn is_numeral(text: &str) -> bool {
     split_numeral(NumberKind::Double, text).is_some()
 }
 
-/// Whether the letter `d` stands behind a numeral, whatever comes behind it.
+/// Returns whether a numeral is followed by the letter `d`, and by anything after that.
 fn has_suffix(text: &str) -> bool {
     match text.split_once('d') {
         Some((numeral, _)) => is_numeral(numeral),
@@ -15,8 +15,8 @@ fn has_suffix(text: &str) -> bool {
     }
 }
 
-/// What is wrong with the text of the cell of a number. `None` if no more is known than that it is not a numeral of
-/// its concept's type.
+/// Returns what is wrong with the text of the cell of a number, or `None` if it is only known not
+/// to be a numeral of its concept's type.
 pub(crate) fn wrong_numeral(cell: &str) -> Option<&'static str> {
     let text = trimmed(cell);
     if is_numeral(text) {

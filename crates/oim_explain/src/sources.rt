@@ -1,4 +1,4 @@
-//! The places elsewhere that the fault of a cell comes from: a cell that names a property group, a property of the
+//! The sources of a fault of a cell: a cell that names a property group, a property of the
 //! metadata, and the cell or the parameter that it refers to.
 
 use crate::levels::{RowOfFault, Writer, text_of};
@@ -13,7 +13,7 @@ use oim_resolve::{CellFault, Role, read_concept, read_value, side_of};
 use std::alloc::{AllocError, Global};
 use std::io::Read;
 
-/// What a fault of a cell comes from.
+/// What causes a fault of a cell.
 #[derive(Clone, Copy)]
 enum Origin<'r> {
     /// The row's cell in the column of property groups at this place of the template.
@@ -24,7 +24,8 @@ enum Origin<'r> {
     Decimals,
 }
 
-/// The first dimension in byte order of name whose value has this fault, in a fact whose concept is of this kind.
+/// Returns the first dimension, in byte order of name, whose value has this fault, in a fact with a
+/// concept of this kind.
 fn bad_dimension<'r>(
     alloc: Global,
     row: &RowOfFault<'r>,
@@ -50,12 +51,12 @@ fn bad_dimension<'r>(
     Ok(None)
 }
 
-/// Whether a fault can be of decimals.
+/// Returns whether a fault can be of decimals.
 fn is_of_decimals(fault: CellFault) -> bool {
     matches!(fault, CellFault::BadDecimals | CellFault::UnknownSpecial)
 }
 
-/// The first of the fact's properties behind its concept that has this fault.
+/// Returns the first of the fact's properties after its concept that has this fault.
 fn bad_property<'r>(
     alloc: Global,
     row: &RowOfFault<'r>,
@@ -71,7 +72,8 @@ fn bad_property<'r>(
     Ok(None)
 }
 
-/// What a fault of a cell comes from, in the order of the three steps of a cell. `None` if it is of the cell itself, or not found.
+/// Returns what causes a fault of a cell, in the order of the three steps of a cell. Returns `None`
+/// if it is the cell itself, or is not found.
 fn origin_of<'r>(
     alloc: Global,
     row: &RowOfFault<'r>,
@@ -99,7 +101,7 @@ struct Lines<'r, 's> {
 }
 
 impl<'r, 's> Lines<'r, 's> {
-    /// A place and what stands there.
+    /// Writes a place and what is there.
     fn put(&mut self, place: String, found: String) -> Result<(), AllocError> {
         let (place, found) = (place.as_str(), found.as_str());
         let line = format!(in self.alloc; "{place}: {found}")?;
@@ -107,7 +109,7 @@ impl<'r, 's> Lines<'r, 's> {
         Ok(())
     }
 
-    /// A cell of the fault's row, in the column of this name, if the file has it.
+    /// Writes a cell of the fault's row, in the column of this name, if the file has it.
     fn put_cell(&mut self, column: &str) -> Result<(), AllocError> {
         let Some(place) = self.row.place_in_file(column) else {
             return Ok(());
@@ -117,7 +119,7 @@ impl<'r, 's> Lines<'r, 's> {
         self.put(place, found)
     }
 
-    /// The same, or that the header has no such column.
+    /// Writes the same, or that the header has no such column.
     fn put_cell_or_none(&mut self, column: &str) -> Result<(), AllocError> {
         if self.row.place_in_file(column).is_some() {
             return self.put_cell(column);
@@ -129,7 +131,8 @@ impl<'r, 's> Lines<'r, 's> {
         self.put(place, found)
     }
 
-    /// The cells of the row that could name a property group and name none: such a group may write what is not there.
+    /// Writes the cells of the row that could name a property group and name none: such a group
+    /// could write what is missing.
     fn put_cells_without_group(&mut self) -> Result<(), AllocError> {
         let row = self.row;
         for place in row.from() {
@@ -140,13 +143,14 @@ impl<'r, 's> Lines<'r, 's> {
         Ok(())
     }
 
-    /// A property of the metadata.
+    /// Writes a property of the metadata.
     fn put_written(&mut self, keys: &[&str]) -> Result<(), AllocError> {
         let found = standing(self.alloc, self.row.again.written_at(keys))?;
         self.put(pointer_to(self.alloc, keys)?, found)
     }
 
-    /// A property that a level writes, behind the cell that names the level, if it is a property group.
+    /// Writes a property that a level writes, after the cell that names the level if that is a
+    /// property group.
     fn put_property(&mut self, writer: Writer, property: &[&str]) -> Result<(), AllocError> {
         if let Writer::Groups(place) = writer {
             self.put_cell(self.row.column_id(place))?;
@@ -156,7 +160,7 @@ impl<'r, 's> Lines<'r, 's> {
     }
 }
 
-/// The number of the record of a parameters file that has this name.
+/// Returns the number of the record of a parameters file that has this name.
 fn record_of<R: Read + Drop, F: Folder<R>>(
     alloc: Global,
     folder: &mut F,
@@ -218,7 +222,8 @@ fn put_parameter<R: Read + Drop, F: Folder<R>>(
     put_given(lines, folder, name, text)
 }
 
-/// Puts the place of what a reference names: the row's cell, unless it is empty and there is a parameter.
+/// Writes the place of what a reference names: the row's cell, unless it is empty and a parameter
+/// has that name.
 fn put_referred<R: Read + Drop, F: Folder<R>>(
     lines: &mut Lines<'_, '_>,
     folder: &mut F,
@@ -232,7 +237,8 @@ fn put_referred<R: Read + Drop, F: Folder<R>>(
     lines.put_cell(name)
 }
 
-/// Puts the places of a dimension's value. Where nothing writes it, the first are the cells that name no property group.
+/// Writes the places of a dimension's value. If nothing writes it, the cells that name no property
+/// group are first.
 fn put_dimension<R: Read + Drop, F: Folder<R>>(
     lines: &mut Lines<'_, '_>,
     folder: &mut F,
@@ -264,7 +270,7 @@ fn put_decimals<R: Read + Drop, F: Folder<R>>(
     }
 }
 
-/// The places elsewhere that the fault of a cell comes from, each with what stands there.
+/// Returns the sources of a cell's fault, each with what is there.
 pub(crate) fn sources<R: Read + Drop, F: Folder<R>>(
     alloc: Global,
     folder: &mut F,

@@ -21,7 +21,7 @@ use oim_rows::{TableFault, TableKind};
 use std::alloc::{AllocError, Global};
 use std::io::Read;
 
-/// The name of the column of row identifiers. `None` if the template has none.
+/// Returns the name of the column of row identifiers. Returns `None` if the template has none.
 fn id_column(report: &Report, table: usize) -> Option<&str>
     requires { table < length report.now.tables }
 {
@@ -32,7 +32,7 @@ fn id_column(report: &Report, table: usize) -> Option<&str>
     }
 }
 
-/// The identifier of a row, cut.
+/// Returns the identifier of a row, cut.
 fn row_id(
     alloc: Global,
     report: &Report,
@@ -52,7 +52,7 @@ fn row_id(
     }
 }
 
-/// The concept that a level writes as a literal.
+/// Returns the concept that a level writes as a literal.
 fn concept_in(level: &Level) -> Option<&str> {
     match find(level.dimensions.as_slice(), "concept") {
         Some(Written::Text(text)) => Some(text.as_str()),
@@ -60,7 +60,8 @@ fn concept_in(level: &Level) -> Option<&str> {
     }
 }
 
-/// The concept that a column itself writes as a literal, unless a property group may write another.
+/// Returns the concept that a column itself writes as a literal, unless a property group may write
+/// another.
 fn concept_of<'r>(report: &'r Report, table: usize, column: &str) -> Option<&'r str>
     requires { table < length report.now.tables }
 {
@@ -76,7 +77,7 @@ fn concept_of<'r>(report: &'r Report, table: usize, column: &str) -> Option<&'r 
     }
 }
 
-/// A column by its name in the header, cut, with its concept, if that is known.
+/// Returns a column by its name in the header, cut, with its concept, if that is known.
 fn column_named(
     alloc: Global,
     report: &Report,
@@ -97,7 +98,7 @@ fn column_named(
     }
 }
 
-/// A cell of a row, with its column and its row, if that has an identifier.
+/// Returns a cell of a row, with its column and its row, if that has an identifier.
 fn cell_of_row(
     alloc: Global,
     report: &Report,
@@ -118,7 +119,7 @@ fn cell_of_row(
     format!(in alloc; "{cell} in {column} of row {id}")
 }
 
-/// A record of another length than the header, and that of the header.
+/// Returns a record of another length than the header, and that of the header.
 fn lengths(alloc: Global, again: &RowAgain) -> Result<String, AllocError> {
     let record = record_shown(alloc, &again.row)?;
     let record = record.as_str();
@@ -126,7 +127,7 @@ fn lengths(alloc: Global, again: &RowAgain) -> Result<String, AllocError> {
     format!(in alloc; "{record}; the header has {count}")
 }
 
-/// What stands at the place of a fault.
+/// Returns what is at the place of a fault.
 fn found_in(
     alloc: Global,
     report: &Report,
@@ -144,7 +145,8 @@ fn found_in(
     }
 }
 
-/// The line of the first row that has the text of a cell at its place; 0 if it is not known.
+/// Returns the line of the first row that has the text of a cell at its place, or 0 if it is not
+/// known.
 fn first_line<R: Read + Drop, F: Folder<R>>(
     alloc: Global,
     folder: &mut F,
@@ -164,7 +166,7 @@ fn first_line<R: Read + Drop, F: Folder<R>>(
     }
 }
 
-/// What there is to say of the place of a row identifier that an earlier row has.
+/// Returns what is at the place of a row identifier that an earlier row has.
 fn with_first_line<R: Read + Drop, F: Folder<R>>(
     alloc: Global,
     folder: &mut F,
@@ -191,7 +193,7 @@ struct TableAgain<'r> {
     path: &'r str,
 }
 
-/// The places elsewhere that a fault of a row comes from.
+/// Returns the sources of a row's fault.
 fn elsewhere<R: Read + Drop, F: Folder<R>>(
     alloc: Global,
     folder: &mut F,
@@ -228,7 +230,8 @@ fn elsewhere<R: Read + Drop, F: Folder<R>>(
     sources(alloc, folder, &row, kind)
 }
 
-/// What is wrong at a record of a table's file: of the cell of a number, what is wrong with that one.
+/// Returns what is wrong with a record of a table's file. For the cell of a number, it is what is
+/// wrong with its text.
 fn cause_in(fault: &TableFault, cells: &RowAgain) -> &'static str {
     let known = match place_in_record(fault) {
         Some(place) if fault.kind == TableKind::BadNumber => {
@@ -239,7 +242,7 @@ fn cause_in(fault: &TableFault, cells: &RowAgain) -> &'static str {
     known.unwrap_or(fault.kind.explanation())
 }
 
-/// The explanation of a fault at a record of a table's file.
+/// Returns the explanation of a fault at a record of a table's file.
 fn at_record<R: Read + Drop, F: Folder<R>>(
     alloc: Global,
     folder: &mut F,
@@ -262,7 +265,7 @@ fn at_record<R: Read + Drop, F: Folder<R>>(
     })
 }
 
-/// The explanation of a fault of a table whose file is at this path.
+/// Returns the explanation of a fault of a table whose file is at this path.
 fn at_path<R: Read + Drop, F: Folder<R>>(
     alloc: Global,
     folder: &mut F,
@@ -281,7 +284,7 @@ fn at_path<R: Read + Drop, F: Folder<R>>(
     }
 }
 
-/// The explanation of a fault of a table of the report whose metadata is at this path.
+/// Returns the explanation of a fault of a table of the report whose metadata is at this path.
 fn of_table<R: Read + Drop, F: Folder<R>>(
     alloc: Global,
     meta: &str,
@@ -303,10 +306,12 @@ fn of_table<R: Read + Drop, F: Folder<R>>(
     at_path(alloc, folder, table, fault)
 }
 
-/// The lines that explain the fault of a table of this report, whose metadata is at this path and whose file is read
-/// again: three lines, four blanks deep, each with its line feed, and a line for each place elsewhere that the fault
-/// comes from. They say so where the file does not have the fault any more, or cannot be read again. Fails if memory
-/// runs out.
+/// Returns the lines that explain the fault of a table of this report, whose metadata is at `meta`.
+/// The table's file is read again.
+///
+/// There are three lines, indented by four blanks, each with a line feed, and a line for each
+/// source elsewhere. If the file no longer has the fault or cannot be read again, they are about
+/// that.
 pub fn explain_table<R: Read + Drop, F: Folder<R>>(
     alloc: Global,
     meta: &str,

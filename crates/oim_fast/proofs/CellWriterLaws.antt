@@ -1,4 +1,4 @@
--- What is ready for the cells of a table's rows, and what is written of a cell.
+-- What is prepared for the cells of a table's rows, and what is written of a cell.
 use Rattle.std.proofs.Common.{◌≡◌, ◌⊎◌, inl, inr, ◌<◌, ◌^◌, ℕ, suc, Bool, true, false, List, [], ◌∷◌, ◌++◌, length, map, set, get_or, Option, Some, None, IfSome, Result, Ok, Err, sym, ap, subst, ◌∙◌, arith, append-nil, append_assoc}
 use Rattle.std.specs.List.{All, list_all, slice_get}
 use Rattle.std.specs.Prelude.{if◌then◌else◌}
@@ -26,14 +26,14 @@ use Rattle.oim_fast.proofs.MakerLaws.{ready_again}
 use Rattle.oim_fast.specs.state.FrameTexts.{FrameValue, Segment, with_part, with_value}
 use Rattle.oim_fast.specs.state.Frames.{AreFrameDecimals, IsTextOf, no_dimensions, with_parts}
 use Rattle.oim_fast.specs.state.KeptFrames.{IsTextFor}
-use Rattle.oim_fast.specs.state.Parts.{IsPart, IsPartValue}
+use Rattle.oim_fast.specs.state.FrameParts.{IsPart, IsPartValue}
 use Rattle.oim_row.specs.References.{IsFresh, Key, ReferenceValue, key_of}
 use Rattle.oim_row.specs.Rows.{RowValue, column_in}
 use Rattle.oim_row.specs.state.Rows.{cell_in}
 use Rattle.oim_fast.specs.declared.frame.fact_column.FactColumn.{FactColumn}
 use Rattle.oim_fast.specs.declared.frame.frame_decimals.FrameDecimals.{FrameDecimals}
 use Rattle.oim_fast.specs.declared.frame.frame_decimals.FrameDecimals.TheVariants as decimals
-use Rattle.oim_fast.specs.declared.frame.part.Part.{Part}
+use Rattle.oim_fast.specs.declared.frame.part.FramePart.{FramePart}
 use Rattle.oim_fast.specs.declared.frame.part.PartValue.{PartValue}
 use Rattle.oim_fast.specs.declared.frame.part.PartValue.TheVariants as part
 use Rattle.oim_fast.specs.declared.frame.value.Value.{Value}
@@ -62,14 +62,14 @@ module _ (f : TableHeaderValue) (rs : List ReferenceValue) where
   value_within t n text w (part.Reference i) (to, is) all = all_push HasReference t.segments (record { alone = t.rest; name = text; reference = i }) all (key_within i _ to.there)
   value_within t n text w part.Unknown h all = all
 
-  part_within : (t : FrameValue) (p : Part) → IsPart f (map key_of rs) p → All HasReference t.segments → All HasReference (with_part t p).segments
+  part_within : (t : FrameValue) (p : FramePart) → IsPart f (map key_of rs) p → All HasReference t.segments → All HasReference (with_part t p).segments
   part_within t p is all = by (is_dropped t.kind p.role)
     where
       by : (b : Bool) → All HasReference (if b then t else with_value t p.text.items p.value).segments
       by true = all
       by false = value_within t p.name.now p.text.items p.written.now p.value is.value all
 
-  parts_within : (t : FrameValue) (ps : List Part) → All (IsPart f (map key_of rs)) ps → All HasReference t.segments → All HasReference (with_parts t ps).segments
+  parts_within : (t : FrameValue) (ps : List FramePart) → All (IsPart f (map key_of rs)) ps → All HasReference t.segments → All HasReference (with_parts t ps).segments
   parts_within t [] are all = all
   parts_within t (p ∷ ps) are all = parts_within (with_part t p) ps (λ k d lt. are (suc k) d (omega arith)) (part_within t p (are 0 p (omega arith)) all)
 
@@ -87,13 +87,13 @@ module _ (f : TableHeaderValue) (rs : List ReferenceValue) where
     others = h.decimals.others;
   }
 
--- a number's value needs no escape
+-- A number's value needs no escape.
 pub value_is_plain : (r : ReportValue) (k : Kind) (m : Meaning) (v : Value) → IsValue r k m v → is_numeric k ≡ true → IfSome (value_of v) (λ t. list_all is_unescaped t ≡ true)
 value_is_plain r k m v h number = subst (λ (o : Option (List ℕ)). IfSome o (λ t. list_all is_unescaped t ≡ true)) (ap text_in h.given) (given_is_plain r k m number)
 
 -- A CELL
 
--- what a cell of a column means
+-- The meaning of a column's cell.
 pub cell_meaning : (x : RowValue) (cells : List GroupCell) (c : FactColumn) → IsFactColumn x.header cells c → meaning_of (field_or_empty x.fields (Some c.place)) ≡ fact_meaning (cell_in x c.column)
 cell_meaning x cells c h = ap meaning_of (ap (field_or_empty x.fields) (sym h.there) ∙ sym (text_is x c.column c.column h.range))
 
@@ -119,14 +119,14 @@ module _ (x : RowValue) (cells : List GroupCell) (c : FactColumn) (rs : List Ref
   puts_fact (Ok false) h = h
   puts_fact (Err e) h = h
 
--- what is put of a value is put of a cell that says it
+-- What is put of a value is put of the cell that gives it.
 pub value_said : {E : Type 0} (x : RowValue) (rs : List ReferenceValue) (t : FrameValue) (v : Value) (start cell old new : List ℕ) → IsValue x.header.report t.kind (meaning_of cell) v
     → (r : Result Bool E) → PutsFact rs t v start old new r → PutsSaid x rs t start cell old new r
 value_said x rs t v start cell old new value (Ok true) h = inr (v, value, h)
 value_said x rs t v start cell old new value (Ok false) h = h
 value_said x rs t v start cell old new value (Err e) h = h
 
--- and what is put of what a cell says is put of the cell
+-- What is put of a cell's text is put of the cell.
 module _ (x : RowValue) (cells : List GroupCell) (c : FactColumn) (rs : List ReferenceValue) (t : FrameValue) (start old new : List ℕ)
     (few : x.number < 2 ^ 32) (column : IsFactColumn x.header cells c) (fresh : All (IsFresh x) rs) (text : IsTextFor x (map key_of rs) c.column t) (begins : start ≡ start_text x) where
   abbrev said : Meaning
@@ -152,7 +152,7 @@ column_there f cells cs i c h lt is =
 pub columns_length : (f : TableHeaderValue) (cells : List GroupCell) (cs : List FactColumn) → AreFactColumns f cells cs → length cs ≡ length (Rattle.oim_fast.specs.state.Columns.fact_columns_in f f.columns)
 columns_length f cells cs h = sym (length-map cs (λ (k : FactColumn). k.column)) ∙ ap length h.columns
 
--- a column was looked up
+-- A column was searched.
 pub column_set : (f : TableHeaderValue) (cells later : List GroupCell) (cs : List FactColumn) (i : ℕ) (c new : FactColumn) → AreFactColumns f cells cs → i < length cs → c ≡ get_or cs i c
     → later ≡ cells → new.column ≡ c.column → IsFactColumn f later new → AreFactColumns f later (set cs i new)
 column_set f cells later cs i c new h lt is kept same column = record {
@@ -160,11 +160,11 @@ column_set f cells later cs i c new h lt is kept same column = record {
   are = set_all (IsFactColumn f later) cs i new (subst (λ (gs : List GroupCell). All (IsFactColumn f gs) cs) (sym kept) h.are) column;
 }
 
--- what is ready in a row is ready for the rows under its header
+-- What is prepared in a row is prepared for the rows under its header.
 pub again : (x : RowValue) (w : CellWriter) → IsInRow x w → IsCellWriter x.header w
 again x w h = record { columns = h.columns; maker = ready_again x w.maker h.maker; frames = h.frames; lead = h.lead }
 
--- a cell was done, or was left
+-- A cell was written, or was left.
 pub cell_done : {E : Type 0} (x : RowValue) (c : ℕ) (old new : List ℕ) (r : Result Bool E) (b : Bool) → PutsCell x c old new r → r ≡ Ok b → b ≡ true → WritesFact (cell_result (cell_in x c)) old new
 cell_done x c old new (Ok true) b h e k = h
 cell_done x c old new (Ok false) b h e k = absurd (cc (e, k))

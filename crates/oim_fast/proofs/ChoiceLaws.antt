@@ -45,7 +45,7 @@ groups_within f cells c is = places_within cells c.groups.items (column_in f c.c
 
 -- LEVELS
 
--- one place more
+-- One more place.
 pub levels_more : (cells : List GroupCell) (ps : List ℕ) (i p : ℕ) (o : Option Level) → i < length ps → p ≡ get_or ps i p → o ≡ level_at cells p
     → levels_at cells (take (i + 1) ps) ≡ levels_at cells (take i ps) ++ option_to_list o
 levels_more cells ps i p o lt is e =
@@ -53,11 +53,11 @@ levels_more cells ps i p o lt is e =
     ∙ flat_map-append (λ q. option_to_list (level_at cells q)) (take i ps) (p ∷ [])
     ∙ ap (λ ls. levels_at cells (take i ps) ++ ls) (append-nil (option_to_list (level_at cells p)) ∙ ap option_to_list (sym e))
 
--- the levels that are pushed behind the first, from the most specific to the most general
+-- The levels that are pushed after the first, from the most specific to the most general.
 abbrev pub levels_from : Level → List Level → Level → Level → List Level
 levels_from a gs t r = ((a ∷ gs) ++ t ∷ []) ++ r ∷ []
 
--- a level is pushed
+-- A level is pushed.
 pub pushed : (xs : List (Bor Level)) (l : Bor Level) (ys : List Level) → held xs ≡ ys → held (xs ++ l ∷ []) ≡ ys ++ l.now ∷ []
 pushed xs l ys e = map-append (λ (x : Bor Level). x.now) xs (l ∷ []) ∙ ap (λ ls. ls ++ l.now ∷ []) e
 
@@ -74,7 +74,7 @@ module _ (f : TableHeaderValue) (cells : List GroupCell) (are : All (IsGroupCell
       let same : g.column ≡ x = cc in
       ap (λ gs. group_at gs g.choice) (is.groups ∙ ap (λ y. (column_in f y).groups) same)
 
-  -- the levels that are pushed are those that are chosen
+  -- The pushed levels are the chosen ones.
   pub levels_are_chosen : (ps xs : List ℕ) → map (column_at cells) ps ≡ map Some xs → levels_at cells ps ≡ groups_chosen f xs (choices_in cells ps)
   levels_are_chosen [] [] e = refl
   levels_are_chosen [] (x ∷ xs) e = absurd (cc)
@@ -93,7 +93,7 @@ module _ (f : TableHeaderValue) (cells : List GroupCell) (are : All (IsGroupCell
       ∙ ap (λ gs. f.report.level ∷ (template_of f.report f.table).level ∷ (reverse gs ++ c.level.now ∷ [])) (levels_are_chosen c.groups.items (column_in f c.column).from is.groups)
       ∙ ap (λ (l : Level). f.report.level ∷ (template_of f.report f.table).level ∷ (reverse (groups_chosen f (column_in f c.column).from (choices_in cells c.groups.items)) ++ l ∷ [])) is.level
 
-  -- THEIR DIMENSIONS RISE
+  -- DIMENSION NAMES ASCEND
 
   module _ (order : PartsRise f.report.level f.report.templates f.report.tables) where
     entry_rises : (gs : List (List ℕ × Level)) (k : ℕ) (l : Level) → AllByRecursion (λ g. LevelRises g.1) gs → option_map (λ (e : List ℕ × Level). e.1) (slice_get gs k) ≡ Some l → LevelRises l
@@ -141,7 +141,7 @@ module _ (f : TableHeaderValue) (cells : List GroupCell) (are : All (IsGroupCell
         let from = levels_from c.level.now (levels_at cells c.groups.items) (template_of f.report f.table).level f.report.level in
         levels_rise c is ls (sym (reverse-reverse ls) ∙ ap reverse (e ∙ sym (all_chosen c is from refl)) ∙ reverse-reverse from)
 
--- what holds of all that references point to
+-- What holds of all values that references point to.
 pub all_held : {X : Type 0} (P : X → Type 0) (xs : List (Bor X)) → All P (held xs) → All (λ x. P x.now) xs
 all_held {X = X} P xs all k d lt = subst P (get_or-map (λ x. x.now) xs k d d.now lt) (all k d.now (omega (arith, length_held xs)))
   where
@@ -165,7 +165,7 @@ module _ (x : RowValue) (cells : List GroupCell) (are : All (IsGroupCell x.heade
       subst (λ y. Says (column_in x.header y) (meaning_of (field_or_empty x.fields (source_of_column x.header.columns y))) c.choice) same
       (subst (λ q. Says (column_in x.header c.column) (meaning_of (field_or_empty x.fields q)) c.choice) is.place so)
 
-  -- what columns of groups say is what a row chooses
+  -- The choices in the columns of groups are those of the row.
   pub chooses : (ps gs : List ℕ) → map (column_at cells) ps ≡ map Some gs → All (λ o. is_known_choice o ≡ true) (choices_in cells ps) → Chooses x gs (choices_in cells ps)
   chooses [] [] e known = tt
   chooses [] (g ∷ gs) e known = absurd (cc)
@@ -175,7 +175,7 @@ module _ (x : RowValue) (cells : List GroupCell) (are : All (IsGroupCell x.heade
       let rest : map (column_at cells) ps ≡ map Some gs = cc in
       (known_first (choice_in cells p) (choices_in cells ps) known, said_at p g (slice_get cells p) refl one, chooses ps gs rest (λ k d lt. known (suc k) d (omega arith)))
 
--- one choice more
+-- One more choice.
 pub choices_more : (cells : List GroupCell) (ps : List ℕ) (i p : ℕ) (o : Choice) → i < length ps → p ≡ get_or ps i p → option_map (λ (g : GroupCell). g.choice) (slice_get cells p) ≡ Some o
     → choices_in cells (take (i + 1) ps) ≡ choices_in cells (take i ps) ++ o ∷ []
 choices_more cells ps i p o lt is e =

@@ -1,4 +1,4 @@
--- What is kept of the columns of a header, as columns of groups are added.
+-- What is kept of the columns of a header while columns of groups are added.
 use Rattle.std.proofs.Common.{◌≡◌, ◌<◌, ◌+◌, ℕ, zero, suc, Bool, true, false, List, [], ◌∷◌, ◌++◌, length, map, take, get_or, Option, Some, None, refl, sym, ap, subst, ◌∙◌, append-nil, arith}
 use Rattle.std.specs.Prelude.{◌==◌, ◌≤◌, slice_index_or, if◌then◌else◌}
 use Rattle.std.specs.List.{All, position_from, slice_get}
@@ -26,7 +26,7 @@ by_first : (b : Bool) (n : ℕ) (rest : Option ℕ) → (if b then Some n else r
 by_first true n rest e = absurd (cc)
 by_first false n rest e = (refl, e)
 
--- a column that a header cell names has a place in the header
+-- A column that a header cell names has a place in the header.
 pub has_place : (c n : ℕ) (h : List (Option ℕ)) (i : ℕ) → slice_get h i ≡ Some (Some c) → position_from (is_column c) n h ≡ None → ⊥
 has_place c n [] i e none = absurd (cc)
 has_place c n (o ∷ h) zero e none =
@@ -45,7 +45,7 @@ fact_columns-append f (Some c ∷ a) b =
     ap (λ xs. if is_fact_column (columns_in f) c then c ∷ xs else xs) (fact_columns-append f a b)
     ∙ by_kind (is_fact_column (columns_in f) c) c (fact_columns_in f a) (fact_columns_in f b)
 
--- one header cell more
+-- One more header cell.
 pub fact_columns_more : (f : TableHeaderValue) (i : ℕ) → i < length f.columns → fact_columns_in f (take (i + 1) f.columns) ≡ fact_columns_in f (take i f.columns) ++ fact_column_at f i
 fact_columns_more f i lt = ap (fact_columns_in f) (take_more f.columns i None lt) ∙ fact_columns-append f (take i f.columns) (get_or f.columns i None ∷ [])
 
@@ -57,7 +57,7 @@ by_true : (b : Bool) (c : ℕ) → b ≡ true → (if b then c ∷ [] else []) �
 by_true true c e = refl
 by_true false c e = absurd (cc)
 
--- a place of the header that names none
+-- A place of the header that names no column.
 pub names_no_column : (f : TableHeaderValue) (i : ℕ) → get_or f.columns i None ≡ None → fact_column_at f i ≡ []
 names_no_column f i e = ap (λ o. fact_columns_in f (o ∷ [])) e
 
@@ -67,7 +67,7 @@ names_no_facts f i c e test = ap (λ o. fact_columns_in f (o ∷ [])) e ∙ by_t
 pub names_facts : (f : TableHeaderValue) (i c : ℕ) → get_or f.columns i None ≡ Some c → is_fact_column (columns_in f) c ≡ true → fact_column_at f i ≡ c ∷ []
 names_facts f i c e test = ap (λ o. fact_columns_in f (o ∷ [])) e ∙ by_true (is_fact_column (columns_in f) c) c test
 
--- where a column stands in the template, its kind says whether it holds facts
+-- The kind of a template's column determines whether it holds facts.
 pub kind_there : (xs : List Column) (c : ℕ) → c < length xs → is_fact_column xs c ≡ holds_facts (slice_index_or xs c no_column).kind
 kind_there [] c lt = absurd (omega arith)
 kind_there (x ∷ xs) zero lt = refl
@@ -78,7 +78,7 @@ kind_past [] c le = refl
 kind_past (x ∷ xs) zero le = absurd (omega arith)
 kind_past (x ∷ xs) (suc c) le = kind_past xs c (omega arith)
 
--- a column that a place names has a place
+-- A column that a place names has a place.
 pub names_it : (h : List (Option ℕ)) (i c : ℕ) → i < length h → get_or h i None ≡ Some c → position_from (is_column c) 0 h ≡ None → ⊥
 names_it h i c lt e none = has_place c 0 h i (slice_get-get_or h i None lt ∙ ap Some e) none
 
@@ -87,14 +87,14 @@ names_it h i c lt e none = has_place c 0 h i (slice_get-get_or h i None lt ∙ a
 abbrev pub column_of : GroupCell → ℕ
 column_of g = g.column
 
--- the column of the template that is kept at a place
+-- The column of the template that is kept at a place.
 abbrev pub column_at : List GroupCell → ℕ → Option ℕ
 column_at cells p = option_map column_of (slice_get cells p)
 
 at_later : (cells more : List GroupCell) (p x : ℕ) → column_at cells p ≡ Some x → column_at (cells ++ more) p ≡ Some x
 at_later cells more p x e = sym (slice_get-map column_of (cells ++ more) p) ∙ ap (λ xs. slice_get xs p) (map-append column_of cells more) ∙ slice_get-append (map column_of cells) (map column_of more) p x (slice_get-map column_of cells p ∙ e)
 
--- the places of columns of groups stay
+-- The places of columns of groups stay.
 places_later : (cells more : List GroupCell) (ps xs : List ℕ) → map (column_at cells) ps ≡ map Some xs → map (column_at (cells ++ more)) ps ≡ map Some xs
 places_later cells more [] [] e = refl
 places_later cells more [] (x ∷ xs) e = absurd (cc)
@@ -107,7 +107,7 @@ places_later cells more (p ∷ ps) (x ∷ xs) e =
 pub places_grow : (cells later : List GroupCell) (ps xs : List ℕ) → Grows cells later → map (column_at cells) ps ≡ map Some xs → map (column_at later) ps ≡ map Some xs
 places_grow cells later ps xs g e = subst (λ (cs : List GroupCell). map (column_at cs) ps ≡ map Some xs) (sym g.is) (places_later cells g.more ps xs e)
 
--- and a place more is of a column more
+-- One more place is that of one more column.
 pub place_more : (cells : List GroupCell) (ps xs : List ℕ) (i p x d : ℕ) → i < length xs → x ≡ get_or xs i d → map (column_at cells) ps ≡ map Some (take i xs) → column_at cells p ≡ Some x
     → map (column_at cells) (ps ++ p ∷ []) ≡ map Some (take (i + 1) xs)
 place_more cells ps xs i p x d lt is before here =
@@ -129,7 +129,7 @@ places_same : (cells later : List GroupCell) (ps : List ℕ) → map column_of l
 places_same cells later [] same = refl
 places_same cells later (p ∷ ps) same = ap (λ o. o ∷ map (column_at later) ps) (by_columns cells later p same) ∙ ap (λ os. column_at cells p ∷ os) (places_same cells later ps same)
 
--- what is kept of a column says nothing of what rows choose
+-- What is kept of a column does not depend on the rows' choices.
 pub column_kept : (f : TableHeaderValue) (cells later : List GroupCell) (c : FactColumn) → map column_of later ≡ map column_of cells → IsFactColumn f cells c → IsFactColumn f later c
 column_kept f cells later c same is =
     record { range = is.range; there = is.there; level = is.level; lead = is.lead; from = is.from; groups = places_same cells later c.groups.items same ∙ is.groups }
@@ -137,7 +137,7 @@ column_kept f cells later c same is =
 pub all_columns_kept : (f : TableHeaderValue) (cells later : List GroupCell) (cs : List FactColumn) → map column_of later ≡ map column_of cells → AreFactColumns f cells cs → AreFactColumns f later cs
 all_columns_kept f cells later cs same are = record { columns = are.columns; are = λ k d lt. column_kept f cells later (get_or cs k d) same (are.are k d lt) }
 
--- a place of the header more
+-- One more place of the header.
 abbrev with_column : List FactColumn → Option FactColumn → List FactColumn
 with_column cs None = cs
 with_column cs (Some c) = cs ++ c ∷ []
@@ -152,7 +152,7 @@ one_more f cells later cs i (Some c) lt g same are some = (
   all_push (IsFactColumn f later) cs c (columns_grow f cells later cs g are) some.1,
 )
 
--- where its frames may stand does not matter
+-- Where its frames may be has no effect.
 pub guessed : (f : TableHeaderValue) (cells : List GroupCell) (c later : FactColumn) → later ≡ record c { last = later.last } → IsFactColumn f cells c → IsFactColumn f cells later
 guessed f cells c later e is = subst (IsFactColumn f cells) (sym e) (record { range = is.range; there = is.there; level = is.level; lead = is.lead; from = is.from; groups = is.groups })
 

@@ -1,4 +1,5 @@
--- Worked cases of the pieces of a fact.
+-- Examples of the rules for a fact's text in parts (`specs/state/Pieces.antt`,
+-- `specs/state/FrameTexts.antt`).
 use Rattle.std.proofs.Common.{◌≡◌, ℕ, zero, suc, List, [], ◌∷◌, codes, refl}
 use Rattle.oim_json.specs.JsonText.{escaped_byte, quoted}
 use Rattle.oim_report.specs.declared.kind.Kind.TheVariants as kind
@@ -13,7 +14,7 @@ named_value = refl
 no_piece : behind (name_text (codes "unit")) [] ≡ []
 no_piece = refl
 
--- the second reference gives nothing, so the name of its dimension is left out
+-- `frame_dimensions`: the second reference gives nothing, so the name of its dimension is left out.
 abbrev frame : FrameValue
 frame = record {
   kind = kind.Text;

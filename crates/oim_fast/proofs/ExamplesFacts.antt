@@ -1,4 +1,4 @@
--- Worked cases of what is written of one fact.
+-- Examples of the rules for one fact's text (`specs/state/FactTexts.antt`).
 use Rattle.std.proofs.Common.{◌≡◌, ◌∙◌, ◌++◌, ℕ, List, true, false, [], Some, None, get_or, codes, refl, sym, ap, arith}
 use Rattle.std.specs.Fmt.{decimal, digits}
 use Rattle.oim_cells.specs.declared.cells.Accuracy.TheVariants as accuracy
@@ -21,15 +21,16 @@ frame k d = record { kind = k; lead = codes ".c\":{"; settled = codes "\"decimal
 abbrev number_frame : FrameValue
 number_frame = frame (kind.Number number.Integer) decimals.Settled
 
--- the last comma goes, and of nothing nothing
+-- `cut`: the last comma is taken off, and nothing from the empty text.
 without_comma : (cut (codes "a,") ≡ codes "a") × (cut [] ≡ [])
 without_comma = (refl, refl)
 
--- a cell without a fact writes nothing
+-- `fact_text`: a cell without a fact writes nothing.
 no_fact : fact_text None ≡ []
 no_fact = refl
 
--- a number without a suffix has the frame's decimals, one that is nil has none, and a text has none
+-- `opening_decimals`: a number without a suffix has the frame's decimals. Nil has none, and a text
+-- has none.
 frame_s_decimals : (v : Value) → v.is_nil ≡ false → v.accuracy ≡ None → opening_decimals [] number_frame v ≡ codes "\"decimals\":2,"
 frame_s_decimals v some plain = rw (some, plain)
 
@@ -39,7 +40,7 @@ nil_has_no_decimals v nil = rw nil
 text_has_no_decimals : (v : Value) → opening_decimals [] (frame kind.Text decimals.Settled) v ≡ []
 text_has_no_decimals v = refl
 
--- a suffix stands over the frame's decimals, and what these are is then not asked
+-- `opening_decimals`: a suffix counts before the frame's decimals, which are then not needed.
 suffix_first : (v : Value) → v.is_nil ≡ false → v.accuracy ≡ Some accuracy.Infinite → opening_decimals [] number_frame v ≡ []
 unfolding decimals_text
 suffix_first v some exact = rw (some, exact)
@@ -50,12 +51,13 @@ unknown_is_not_asked v nil = rw nil
 unknown_is_asked : (v : Value) → v.is_nil ≡ false → v.accuracy ≡ None → are_sound_decimals [] (frame (kind.Number number.Integer) decimals.Unknown) v ≡ false
 unknown_is_asked v some plain = rw (some, plain)
 
--- the text of a fact that is nil
+-- `object_text`: the text of a fact that is nil.
 nil_text : (v : Value) → v.is_nil ≡ true → object_text [] (frame kind.Text decimals.Settled) v ≡ codes ".c\":{\"dimensions\":{\"concept\":\"eg:A\"},\"value\":null}"
 unfolding value_text
 nil_text v nil = rw nil
 
--- a text ends with the number of its row behind "r_", of no other row, and where no column gives identifiers
+-- `IsNumbered`: without a column of identifiers, a text ends with "r_" and the number of its row,
+-- and of no other row.
 abbrev numbered_text : List ℕ → ℕ → List ℕ
 numbered_text lead n = (lead ++ codes "r_") ++ decimal n
 

@@ -1,4 +1,4 @@
--- The text of a fact, from what stands in its frame.
+-- The text of a fact from its frame.
 use Rattle.std.proofs.Common.{◌≡◌, ◌<◌, ◌≤◌, ◌+◌, ◌-◌, ◌*◌, ℕ, zero, suc, Bool, true, false, not, ◌&&◌, ◌||◌, List, [], ◌∷◌, ◌++◌, length, take, drop, Option, Some, None, codes, is_none, refl, sym, ap, subst, ◌∙◌, arith, append_assoc, length-append, length-take-le, length-drop, take-add, take-append-drop, drop-drop}
 use Rattle.std.specs.Prelude.{ℤ, MatchOption, if◌then◌else◌, slice_range}
 use Rattle.std.specs.Fmt.{signed_decimal}
@@ -20,7 +20,7 @@ use Rattle.oim_fast.specs.state.GivenTexts.{given_by, is_sound_by}
 use Rattle.oim_fast.specs.state.Writing.{WritesRuns}
 use Rattle.oim_fast.specs.declared.frame.frame_decimals.FrameDecimals.{FrameDecimals}
 use Rattle.oim_fast.specs.declared.frame.frame_decimals.FrameDecimals.TheVariants as decimals
-use Rattle.oim_fast.specs.declared.frame.frame_text.Run.{Run}
+use Rattle.oim_fast.specs.declared.frame.frame_text.TextRun.{TextRun}
 use Rattle.oim_fast.specs.declared.frame.value.Value.{Value}
 use Rattle.oim_fast.proofs.FrameTextLaws.{runs_within, seen}
 use Rattle.oim_text.proofs.PlacedBytes.{Placed-less, Placed-stays, Placed-then, Stays-then}
@@ -34,7 +34,7 @@ opening_by rs t number nil suffix d = if number && not nil then option_map_or (�
 abbrev sound_by : List ReferenceValue → Bool → Bool → Option Accuracy → FrameDecimals → Bool
 sound_by rs number nil suffix d = if number && not nil && is_none suffix then has_decimals rs d else true
 
--- decimals are these, and have no fault
+-- The decimals have this text and no fault.
 pub record AreThese (rs : List ReferenceValue) (t : FrameValue) (v : Value) (text : List ℕ) : Type 0 where
   pub sound : are_sound_decimals rs t v ≡ true
   pub is : text ≡ opening_decimals rs t v
@@ -48,7 +48,7 @@ settled_by rs t true false None decimals.Settled e others = (refl, refl)
 settled_by rs t true false None (decimals.Reference i) e others = absurd (cc e)
 settled_by rs t true false None decimals.Unknown e others = absurd (cc e)
 
--- those that are settled
+-- Settled decimals.
 pub settled_decimals : (rs : List ReferenceValue) (t : FrameValue) (v : Value) → has_settled t v ≡ true → (is_numeric t.kind ≡ false → t.settled ≡ []) → AreThese rs t v t.settled
 settled_decimals rs t v e others =
     let so = settled_by rs t (is_numeric t.kind) v.is_nil v.accuracy t.decimals e others in
@@ -59,7 +59,7 @@ nil_by rs t number false suffix d e = absurd (cc e)
 nil_by rs t true true suffix d e = (refl, refl)
 nil_by rs t false true suffix d e = (refl, refl)
 
--- nil has none
+-- Nil has no decimals.
 pub nil_decimals : (rs : List ReferenceValue) (t : FrameValue) (v : Value) → v.is_nil ≡ true → AreThese rs t v []
 nil_decimals rs t v e =
     let so = nil_by rs t (is_numeric t.kind) v.is_nil v.accuracy t.decimals e in
@@ -72,7 +72,7 @@ suffix_by rs t true true suffix d a p q r = absurd (cc q)
 suffix_by rs t true false None d a p q r = absurd (cc r)
 suffix_by rs t true false (Some b) d a p q r = (ap (λ o. option_map_or (λ x. decimals_text (places x)) o []) (sym r), refl)
 
--- those of a suffix
+-- The decimals of a suffix.
 pub suffix_decimals : (rs : List ReferenceValue) (t : FrameValue) (v : Value) (a : Accuracy) → is_numeric t.kind ≡ true → v.is_nil ≡ false → v.accuracy ≡ Some a → AreThese rs t v (decimals_text (places a))
 suffix_decimals rs t v a p q r =
     let so = suffix_by rs t (is_numeric t.kind) v.is_nil v.accuracy t.decimals a p q r in
@@ -85,7 +85,7 @@ referred_by rs t true true suffix d i p q r e s = absurd (cc q)
 referred_by rs t true false (Some b) d i p q r e s = absurd (cc r)
 referred_by rs t true false None d i p q r e s = (sym (ap (frame_decimals rs t) e), ap (has_decimals rs) e ∙ s)
 
--- those of a reference
+-- The decimals of a reference.
 pub referred_decimals : (rs : List ReferenceValue) (t : FrameValue) (v : Value) (i : ℕ) → is_numeric t.kind ≡ true → v.is_nil ≡ false → v.accuracy ≡ None → t.decimals ≡ decimals.Reference i
     → is_sound_by rs i ≡ true → AreThese rs t v (given_by rs i)
 referred_decimals rs t v i p q r e s =
@@ -96,7 +96,7 @@ number_by : (number rest : Bool) → (not number || rest) ≡ false → number �
 number_by true rest e = refl
 number_by false rest e = absurd (cc e)
 
--- where they are not settled the fact is a number
+-- If they are not settled, the fact is a number.
 pub is_number : (t : FrameValue) (v : Value) → has_settled t v ≡ false → is_numeric t.kind ≡ true
 is_number t v e = number_by (is_numeric t.kind) (not v.is_nil && is_none v.accuracy && are_settled t.decimals) e
 
@@ -108,7 +108,7 @@ range_length text i j le within = length-take-le (j - i) (drop i text) (omega (a
 abbrev segment_length : Segment → ℕ
 segment_length s = length s.alone + length s.name
 
-runs_length : (text : List ℕ) (from : ℕ) (rs : List Run) → AreRuns (length text) from rs
+runs_length : (text : List ℕ) (from : ℕ) (rs : List TextRun) → AreRuns (length text) from rs
     → from + (sum_by segment_length (segments_from text from rs) + length (rest_from text from rs)) ≡ length text
 runs_length text from [] h = omega (arith, h, length-drop from text)
 runs_length text from (r ∷ rs) h =
@@ -118,24 +118,24 @@ runs_length text from (r ∷ rs) h =
     let all : sum_by segment_length (one ∷ more) ≡ (length (slice_range text from r.alone) + length (slice_range text r.alone r.named)) + sum_by segment_length more = sum_by-cons segment_length one more in
     omega (arith, all, h.0, h.1, within, runs_length text r.named rs h.2, range_length text from r.alone h.0 (omega (arith, h.1, within)), range_length text r.alone r.named h.1 within)
 
-pub segments_length : (text : List ℕ) (from : ℕ) (rs : List Run) → length (segments_from text from rs) ≡ length rs
+pub segments_length : (text : List ℕ) (from : ℕ) (rs : List TextRun) → length (segments_from text from rs) ≡ length rs
 segments_length text from [] = refl
 segments_length text from (r ∷ rs) = ap suc (segments_length text r.named rs)
 
--- what holds of the references of segments holds of those of runs, and the other way round
-pub runs_hold : (P : ℕ → Type 0) (text : List ℕ) (from : ℕ) (rs : List Run) → All (λ (s : Segment). P s.reference) (segments_from text from rs) → All (λ (r : Run). P r.reference) rs
+-- What holds of the references of segments holds of those of runs, and the reverse.
+pub runs_hold : (P : ℕ → Type 0) (text : List ℕ) (from : ℕ) (rs : List TextRun) → All (λ (s : Segment). P s.reference) (segments_from text from rs) → All (λ (r : TextRun). P r.reference) rs
 runs_hold P text from [] h k d lt = absurd (omega arith)
 runs_hold P text from (r ∷ rs) h zero d lt = h 0 (record { alone = []; name = []; reference = 0 }) (omega arith)
 runs_hold P text from (r ∷ rs) h (suc k) d lt = runs_hold P text r.named rs (λ j e b. h (suc j) e (omega arith)) k d (omega arith)
 
-pub segments_hold : (P : ℕ → Type 0) (text : List ℕ) (from : ℕ) (rs : List Run) → All (λ (r : Run). P r.reference) rs → All (λ (s : Segment). P s.reference) (segments_from text from rs)
+pub segments_hold : (P : ℕ → Type 0) (text : List ℕ) (from : ℕ) (rs : List TextRun) → All (λ (r : TextRun). P r.reference) rs → All (λ (s : Segment). P s.reference) (segments_from text from rs)
 segments_hold P text from [] h k d lt = absurd (omega arith)
 segments_hold P text from (r ∷ rs) h zero d lt = h 0 r (omega arith)
 segments_hold P text from (r ∷ rs) h (suc k) d lt = segments_hold P text r.named rs (λ j e b. h (suc j) e (omega arith)) k d (omega arith)
 
 -- RUNS FROM AN EARLIER PLACE
 
-pub runs_earlier : (long from body : ℕ) (rs : List Run) → from ≤ body → AreRuns long body rs → AreRuns long from rs
+pub runs_earlier : (long from body : ℕ) (rs : List TextRun) → from ≤ body → AreRuns long body rs → AreRuns long from rs
 runs_earlier long from body [] le h = omega (arith, h)
 runs_earlier long from body (r ∷ rs) le h = (omega (arith, h.0), h.1, h.2)
 
@@ -143,10 +143,10 @@ regroup : (a b c d e : List ℕ) → (((a ++ b) ++ c) ++ d) ++ e ≡ a ++ (((b +
 regroup a b c d e = simp append_assoc
 
 module _ (gives : ℕ → List ℕ) (text : List ℕ) where
-  abbrev dimensions_from : ℕ → List Run → List ℕ
+  abbrev dimensions_from : ℕ → List TextRun → List ℕ
   dimensions_from from rs = flat_map (segment_text gives) (segments_from text from rs) ++ rest_from text from rs
 
-  pub text_earlier : (from body : ℕ) (rs : List Run) → from ≤ body → AreRuns (length text) body rs → dimensions_from from rs ≡ slice_range text from body ++ dimensions_from body rs
+  pub text_earlier : (from body : ℕ) (rs : List TextRun) → from ≤ body → AreRuns (length text) body rs → dimensions_from from rs ≡ slice_range text from body ++ dimensions_from body rs
   text_earlier from body [] le h =
       let at : from + (body - from) ≡ body = omega arith in
       sym (take-append-drop (body - from) (drop from text)) ∙ ap (λ q. slice_range text from body ++ q) (drop-drop (body - from) from text ∙ ap (λ n. drop n text) at)
@@ -158,7 +158,7 @@ module _ (gives : ℕ → List ℕ) (text : List ℕ) where
 
 -- THE OPENING
 
-module _ (text : List ℕ) (lead opening body : ℕ) (rs : List Run) (h : IsLaidOut text lead opening body rs) where
+module _ (text : List ℕ) (lead opening body : ℕ) (rs : List TextRun) (h : IsLaidOut text lead opening body rs) where
   body_within : body ≤ length text
   body_within = runs_within (length text) body rs h.dimensions
 
@@ -174,7 +174,7 @@ module _ (text : List ℕ) (lead opening body : ℕ) (rs : List Run) (h : IsLaid
   front : take opening text ≡ take lead text ++ slice_range text lead opening
   front = let at : opening ≡ lead + (opening - lead) = omega (arith, h.settled) in ap (λ n. take n text) at ∙ take-add lead (opening - lead) text
 
-  -- the text from a place before the dimensions' name up to the first dimension
+  -- The text from a place before the dimensions' name up to the first dimension.
   pub opening_from : (from : ℕ) → from ≤ opening → slice_range text from body ≡ drop from (take lead text ++ slice_range text lead opening) ++ dimensions_start
   opening_from from le =
       let at : opening ≡ from + (opening - from) = omega arith in
@@ -190,7 +190,7 @@ take_behind (x ∷ a) p n =
     let e : length (x ∷ a) + n ≡ suc (length a + n) = omega arith in
     ap (λ m. take m (x ∷ (a ++ p))) e ∙ ap (λ t. x ∷ t) (take_behind a p n)
 
--- the comma behind the last dimension is taken back
+-- The comma after the last dimension is taken back.
 pub closed : {a c d : List ℕ} {from end last : ℕ} (front dims closing : List ℕ) (body : ℕ) → from ≤ length a → Placed a c from (front ++ dims) end → body ≡ from + length front
     → Placed c d (body + ((end - body) - 1)) closing last → Placed a d from ((front ++ cut dims) ++ closing) last
 closed {a} {c} {d} {from} {end} {last} front dims closing body within p is q =
@@ -222,7 +222,7 @@ places_placed n p q r = Placed-then (Placed-then p q) r
 
 -- THE WHOLE OBJECT
 
-module _ {rs : List ReferenceValue} {t : FrameValue} {v : Value} {text : List ℕ} {lead opening body : ℕ} {runs : List Run} {k : Kind} {d : FrameDecimals} {from at rest : ℕ} {old mid : List ℕ}
+module _ {rs : List ReferenceValue} {t : FrameValue} {v : Value} {text : List ℕ} {lead opening body : ℕ} {runs : List TextRun} {k : Kind} {d : FrameDecimals} {from at rest : ℕ} {old mid : List ℕ}
     (h : IsLaidOut text lead opening body runs) (view : seen k d lead opening body text runs ≡ t) (w : WritesOpening rs t v old mid from at rest) where
   rest_le : rest ≤ opening
   rest_le =
@@ -240,11 +240,11 @@ module _ {rs : List ReferenceValue} {t : FrameValue} {v : Value} {text : List �
   pub runs_there : AreRuns (length text) rest runs
   runs_there = runs_earlier (length text) rest body runs rest_body h.dimensions
 
-  pub runs_within_references : (n : ℕ) → All (λ (s : Segment). s.reference < n) t.segments → All (λ (r : Run). r.reference < n) runs
+  pub runs_within_references : (n : ℕ) → All (λ (s : Segment). s.reference < n) t.segments → All (λ (r : TextRun). r.reference < n) runs
   runs_within_references n all = runs_hold (λ i. i < n) text body runs (subst (λ (q : FrameValue). All (λ (s : Segment). s.reference < n) q.segments) (sym view) all)
 
   pub runs_fit : (most size : ℕ) → from + fact_room t most size ≤ length old → at + (length text - rest) + length runs * most + 32 ≤ length mid
-  runs_fit most size room = omega (arith, room, w.few, w.bytes.len, whole_length, products most, rest_le, h.starts, runs_within (length text) body runs h.dimensions)
+  runs_fit most size memory = omega (arith, memory, w.few, w.bytes.len, whole_length, products most, rest_le, h.starts, runs_within (length text) body runs h.dimensions)
 
   module _ {new : List ℕ} {end most : ℕ} (r : WritesRuns rs text rest most runs mid new at end) where
     earlier : dimensions_from (given_by rs) text rest runs ≡ slice_range text rest body ++ dimensions_from (given_by rs) text body runs
@@ -260,7 +260,7 @@ module _ {rs : List ReferenceValue} {t : FrameValue} {v : Value} {text : List �
         omega (arith, r.bytes.moved, long, slice_length)
 
     pub end_fits : (size : ℕ) → from + fact_room t most size ≤ length old → end + 6 * size + 96 ≤ length new
-    end_fits size room = omega (arith, room, w.few, w.bytes.len, r.few, r.bytes.len, whole_length, products most, rest_le, h.starts, runs_within (length text) body runs h.dimensions)
+    end_fits size memory = omega (arith, memory, w.few, w.bytes.len, r.few, r.bytes.len, whole_length, products most, rest_le, h.starts, runs_within (length text) body runs h.dimensions)
 
     opened : w.written ++ slice_range text rest body ≡ t.lead ++ opening_decimals rs t v ++ dimensions_start
     opened =

@@ -1,4 +1,4 @@
--- The text that was written of a frame is that of the fact of its cell.
+-- The text that was written from a frame is that of the fact of its cell.
 use Rattle.std.proofs.Common.{◌≡◌, ◌<◌, ◌^◌, ℕ, Bool, true, false, not, ◌&&◌, List, [], ◌++◌, map, Option, Some, None, Ok, codes, is_none, refl, sym, ap, subst, ◌∙◌, append_assoc}
 use Rattle.std.specs.List.{All, flat_map}
 use Rattle.std.specs.Option.{option_and_then, option_map_or}
@@ -49,7 +49,7 @@ good : (c : Cell) → is_absent (fact_meaning c) ≡ false → least (cell_and_g
 unfolding cell_result
 good c e a b d = rw (e, a, b, d) refl
 
--- a cell that says nothing has no fact
+-- A cell that is absent has no fact.
 pub absent_given : (c : Cell) → is_absent (fact_meaning c) ≡ true → cell_result c ≡ Ok None
 unfolding cell_result
 absent_given c e = rw e refl
@@ -148,7 +148,7 @@ module _ (x : RowValue) (c : ℕ) (few : x.number < 2 ^ 32) (rs : List Reference
   rest : least (rest_faults here t.kind) ≡ None
   rest = no_rest_faults here t.kind (sound_faults here t.kind (names (levels here)) dimensions_sound) no_decimals_faults (ap faults_in given_value)
 
-  -- the cell has no fault in its concept and in what comes behind it
+  -- The cell has no fault in its concept or in what follows it.
   pub fact_given : is_unknown (fact_meaning here) ≡ false → AreNamed here (column here).from → cell_result here ≡ Ok (Some (fact_of here))
   fact_given known named = good here value.said (no_first_faults here known named) concept_is.0 (subst (λ (k : Kind). least (rest_faults here k) ≡ None) kind rest)
 

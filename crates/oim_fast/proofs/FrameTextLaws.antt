@@ -7,33 +7,33 @@ use Rattle.oim_report.specs.declared.kind.Kind.{Kind}
 use Rattle.oim_resolve.specs.Facts.{is_dropped}
 use Rattle.oim_fast.specs.state.FrameTexts.{AreRuns, FrameValue, IsLaidOut, Segment, rest_from, segments_from, with_part, with_value}
 use Rattle.oim_fast.specs.declared.frame.frame_decimals.FrameDecimals.{FrameDecimals}
-use Rattle.oim_fast.specs.declared.frame.part.Part.{Part}
+use Rattle.oim_fast.specs.declared.frame.part.FramePart.{FramePart}
 use Rattle.oim_fast.specs.declared.frame.part.PartValue.{PartValue}
 use Rattle.oim_fast.specs.declared.frame.part.PartValue.TheVariants as part
-use Rattle.oim_fast.specs.declared.frame.frame_text.Run.{Run}
+use Rattle.oim_fast.specs.declared.frame.frame_text.TextRun.{TextRun}
 
--- a range of a text stays as the text grows
+-- A range of a text stays as the text grows.
 pub range_more : (text more : List ℕ) (i j : ℕ) → i ≤ j → j ≤ length text → slice_range (text ++ more) i j ≡ slice_range text i j
 range_more text more i j le within =
     ap (take (j - i)) (drop-append-le i text more (omega arith)) ∙ take-append-le (j - i) (drop i text) more (omega (arith, length-drop i text))
 
--- runs stay
-pub runs_within : (long from : ℕ) (rs : List Run) → AreRuns long from rs → from ≤ long
+-- Runs stay.
+pub runs_within : (long from : ℕ) (rs : List TextRun) → AreRuns long from rs → from ≤ long
 runs_within long from [] h = h
 runs_within long from (r ∷ rs) h = let more = runs_within long r.named rs h.2 in omega (arith, h.0, h.1, more)
 
-pub runs_more : (long longer from : ℕ) (rs : List Run) → long ≤ longer → AreRuns long from rs → AreRuns longer from rs
+pub runs_more : (long longer from : ℕ) (rs : List TextRun) → long ≤ longer → AreRuns long from rs → AreRuns longer from rs
 runs_more long longer from [] le h = omega (arith, h)
 runs_more long longer from (r ∷ rs) le h = (h.0, h.1, runs_more long longer r.named rs le h.2)
 
-pub segments_more : (text more : List ℕ) (from : ℕ) (rs : List Run) → AreRuns (length text) from rs → segments_from (text ++ more) from rs ≡ segments_from text from rs
+pub segments_more : (text more : List ℕ) (from : ℕ) (rs : List TextRun) → AreRuns (length text) from rs → segments_from (text ++ more) from rs ≡ segments_from text from rs
 segments_more text more from [] h = refl
 segments_more text more from (r ∷ rs) h =
     let within = runs_within (length text) r.named rs h.2 in
     let segment : List ℕ → List ℕ → List Segment → List Segment = λ alone name later. record { alone = alone; name = name; reference = r.reference } ∷ later in
     rw (range_more text more from r.alone h.0 (omega (arith, h.1, within)), range_more text more r.alone r.named h.1 within, segments_more text more r.named rs h.2) refl
 
-pub rest_more : (text more : List ℕ) (from : ℕ) (rs : List Run) → AreRuns (length text) from rs → rest_from (text ++ more) from rs ≡ rest_from text from rs ++ more
+pub rest_more : (text more : List ℕ) (from : ℕ) (rs : List TextRun) → AreRuns (length text) from rs → rest_from (text ++ more) from rs ≡ rest_from text from rs ++ more
 rest_more text more from [] h = drop-append-le from text more h
 rest_more text more from (r ∷ rs) h = rest_more text more r.named rs h.2
 
@@ -43,30 +43,30 @@ front_range text name from h = range_more text name from (length text) h (omega 
 back_range : (text name : List ℕ) → slice_range (text ++ name) (length text) (length (text ++ name)) ≡ name
 back_range text name = ap (take (length (text ++ name) - length text)) (drop-append_seam text name) ∙ take_all (length (text ++ name) - length text) name (omega (arith, length-append text name))
 
--- what contracts see of a text that is laid out so
-abbrev pub seen : Kind → FrameDecimals → ℕ → ℕ → ℕ → List ℕ → List Run → FrameValue
+-- What contracts see of a text with this layout.
+abbrev pub seen : Kind → FrameDecimals → ℕ → ℕ → ℕ → List ℕ → List TextRun → FrameValue
 seen k d lead opening body t runs = record { kind = k; lead = take lead t; settled = slice_range t lead opening; decimals = d; segments = segments_from t body runs; rest = rest_from t body runs }
 
--- a run more at the end
-abbrev pub run_at_end : List ℕ → List ℕ → ℕ → Run
+-- One more run at the end.
+abbrev pub run_at_end : List ℕ → List ℕ → ℕ → TextRun
 run_at_end text name i = record { alone = length text; named = length (text ++ name); reference = i }
 
-runs_push : (text name : List ℕ) (i from : ℕ) (rs : List Run) → AreRuns (length text) from rs → AreRuns (length (text ++ name)) from (rs ++ run_at_end text name i ∷ [])
+runs_push : (text name : List ℕ) (i from : ℕ) (rs : List TextRun) → AreRuns (length text) from rs → AreRuns (length (text ++ name)) from (rs ++ run_at_end text name i ∷ [])
 runs_push text name i from [] h = (h, omega (arith, length-append text name), omega arith)
 runs_push text name i from (r ∷ rs) h = (h.0, h.1, runs_push text name i r.named rs h.2)
 
-segments_push : (text name : List ℕ) (i from : ℕ) (rs : List Run) → AreRuns (length text) from rs
+segments_push : (text name : List ℕ) (i from : ℕ) (rs : List TextRun) → AreRuns (length text) from rs
     → segments_from (text ++ name) from (rs ++ run_at_end text name i ∷ []) ≡ segments_from text from rs ++ record { alone = rest_from text from rs; name = name; reference = i } ∷ []
 segments_push text name i from [] h = rw (front_range text name from h, back_range text name) refl
 segments_push text name i from (r ∷ rs) h =
     let within = runs_within (length text) r.named rs h.2 in
     rw (range_more text name from r.alone h.0 (omega (arith, h.1, within)), range_more text name r.alone r.named h.1 within, segments_push text name i r.named rs h.2) refl
 
-rest_push : (text name : List ℕ) (i from : ℕ) (rs : List Run) → rest_from (text ++ name) from (rs ++ run_at_end text name i ∷ []) ≡ []
+rest_push : (text name : List ℕ) (i from : ℕ) (rs : List TextRun) → rest_from (text ++ name) from (rs ++ run_at_end text name i ∷ []) ≡ []
 rest_push text name i from [] = drop_all (length (text ++ name)) (text ++ name) (omega arith)
 rest_push text name i from (r ∷ rs) = rest_push text name i r.named rs
 
-module _ (text : List ℕ) (lead opening body : ℕ) (rs : List Run) (h : IsLaidOut text lead opening body rs) where
+module _ (text : List ℕ) (lead opening body : ℕ) (rs : List TextRun) (h : IsLaidOut text lead opening body rs) where
   within : body ≤ length text
   within = runs_within (length text) body rs h.dimensions
 
@@ -102,6 +102,6 @@ module _ (text : List ℕ) (lead opening body : ℕ) (rs : List Run) (h : IsLaid
     rest_push text name i body rs,
   ) refl
 
--- a part whose facts have it is added by what is kept of it
-pub with_it : (old new : FrameValue) (p : Part) (v : PartValue) → is_dropped old.kind p.role ≡ false → p.value ≡ v → new ≡ with_value old p.text.items v → new ≡ with_part old p
+-- A part that the facts have is added as it was prepared.
+pub with_it : (old new : FrameValue) (p : FramePart) (v : PartValue) → is_dropped old.kind p.role ≡ false → p.value ≡ v → new ≡ with_value old p.text.items v → new ≡ with_part old p
 with_it old new p v kept is e = rw kept (e ∙ ap (with_value old p.text.items) (sym is))

@@ -1,4 +1,4 @@
--- What is kept ready of dimensions stays right as references are added.
+-- Prepared dimensions stay right as references are added.
 use Rattle.std.proofs.Common.{◌≡◌, ℕ, List, ◌++◌, codes, map, get_or, sym, ap, subst, ◌∙◌}
 use Rattle.std.specs.Prelude.{Option, Some, None}
 use Rattle.std.specs.List.{All}
@@ -11,15 +11,15 @@ use Rattle.oim_report.specs.declared.kind.Kind.{Kind}
 use Rattle.oim_resolve.specs.Written.{written_decimals}
 use Rattle.oim_fast.specs.state.Frames.{AreFrameDecimals, AreKindDecimals, HasReferredKind, IsTextOf, levels_chosen}
 use Rattle.oim_fast.specs.state.KeptFrames.{IsBody, IsFrame}
-use Rattle.oim_fast.specs.state.Parts.{AreDecimals, IsPart, IsPartValue, IsReferred}
+use Rattle.oim_fast.specs.state.FrameParts.{AreDecimals, IsPart, IsPartValue, IsReferred}
 use Rattle.oim_row.specs.References.{Grows, Key, ReferenceValue, key_of}
 use Rattle.oim_fast.specs.state.FrameTexts.{FrameValue}
-use Rattle.oim_fast.specs.declared.frame.frame.Body.{Body}
-use Rattle.oim_fast.specs.declared.frame.frame.Body.TheVariants as body
+use Rattle.oim_fast.specs.declared.frame.frame.FrameBody.{FrameBody}
+use Rattle.oim_fast.specs.declared.frame.frame.FrameBody.TheVariants as body
 use Rattle.oim_fast.specs.declared.frame.frame.Frame.{Frame}
 use Rattle.oim_fast.specs.declared.frame.frame_decimals.FrameDecimals.{FrameDecimals}
 use Rattle.oim_fast.specs.declared.frame.frame_decimals.FrameDecimals.TheVariants as decimals
-use Rattle.oim_fast.specs.declared.frame.part.Part.{Part}
+use Rattle.oim_fast.specs.declared.frame.part.FramePart.{FramePart}
 use Rattle.oim_fast.specs.declared.frame.part.PartValue.{PartValue}
 use Rattle.oim_fast.specs.declared.frame.part.PartValue.TheVariants as part
 use Rattle.oim_row.specs.declared.group_cells.Choice.{Choice}
@@ -35,7 +35,7 @@ module _ (f : TableHeaderValue) (keys more : List Key) where
   value_more n w text (part.Reference i) h = (referred_more n w i h.0, h.1)
   value_more n w text part.Unknown h = h
 
-  pub part_more : (p : Part) → IsPart f keys p → IsPart f (keys ++ more) p
+  pub part_more : (p : FramePart) → IsPart f keys p → IsPart f (keys ++ more) p
   part_more p h = record { role = h.role; value = value_more p.name.now p.written.now p.text.items p.value h.value; same = h.same; concept = h.concept }
 
   decimals_more : (w : WrittenDecimals) (text : List ℕ) (d : FrameDecimals) → AreDecimals f keys w text d → AreDecimals f (keys ++ more) w text d
@@ -47,15 +47,15 @@ module _ (f : TableHeaderValue) (keys more : List Key) where
   frame_decimals_more None text d h = h
   frame_decimals_more (Some w) text d h = decimals_more w text d h
 
--- the keys of references that were added to
+-- The keys of the references that were added to.
 pub keys_more : (rs later : List ReferenceValue) → (g : Grows rs later) → map key_of later ≡ map key_of rs ++ map key_of g.more
 keys_more rs later g = ap (map key_of) g.is ∙ map-append key_of rs g.more
 
 module _ (f : TableHeaderValue) (rs later : List ReferenceValue) (g : Grows rs later) where
-  pub part_grows : (p : Part) → IsPart f (map key_of rs) p → IsPart f (map key_of later) p
+  pub part_grows : (p : FramePart) → IsPart f (map key_of rs) p → IsPart f (map key_of later) p
   part_grows p h = subst (λ (ks : List Key). IsPart f ks p) (sym (keys_more rs later g)) (part_more f (map key_of rs) (map key_of g.more) p h)
 
-  pub parts_grow : (ps : List Part) → All (IsPart f (map key_of rs)) ps → All (IsPart f (map key_of later)) ps
+  pub parts_grow : (ps : List FramePart) → All (IsPart f (map key_of rs)) ps → All (IsPart f (map key_of later)) ps
   parts_grow ps all k d lt = part_grows (get_or ps k d) (all k d lt)
 
   pub referred_grows : (n : List ℕ) (w : Written) (i : ℕ) → IsReferred f (map key_of rs) n w i → IsReferred f (map key_of later) n w i
@@ -82,7 +82,7 @@ module _ (f : TableHeaderValue) (rs later : List ReferenceValue) (g : Grows rs l
   pub referred_kind_grows : (ls : List Level) (i : ℕ) → HasReferredKind f (map key_of rs) ls i → HasReferredKind f (map key_of later) ls i
   referred_kind_grows ls i h = record { concept = h.concept; written = h.written; referred = referred_grows (codes "concept") h.concept i h.referred }
 
-  pub body_grows : (c : ℕ) (os : List Choice) (k : ℕ) (b : Body) → IsBody f (map key_of rs) c os k b → IsBody f (map key_of later) c os k b
+  pub body_grows : (c : ℕ) (os : List Choice) (k : ℕ) (b : FrameBody) → IsBody f (map key_of rs) c os k b → IsBody f (map key_of later) c os k b
   body_grows c os k (body.Text t) h = (text_grows (levels_chosen f c os) _ t h.0, h.1)
   body_grows c os k (body.ByConcept i) h = referred_kind_grows (levels_chosen f c os) i h
   body_grows c os k body.Unknown h = h

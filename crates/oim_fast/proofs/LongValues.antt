@@ -13,7 +13,7 @@ use Rattle.oim_fast.specs.declared.frame.value.Value.{Value}
 abbrev emptied : Value → Value
 emptied v = record v { len = 0 }
 
--- the text of a fact up to the quote before its value
+-- The text of a fact up to the quote before its value.
 abbrev lead_of : List ReferenceValue → FrameValue → Value → List ℕ
 lead_of rs t v = t.lead ++ opening_decimals rs t v ++ dimensions_start ++ cut (frame_dimensions (given_by rs) t) ++ codes "},\"value\":" ++ codes "\""
 
@@ -28,14 +28,14 @@ object_is rs t v some =
     let is : value_text (value_of v) ≡ codes "\"" ++ text ++ codes "\"" = ap (λ e. value_text (if e then None else Some (take v.len v.bytes.now))) some in
     ap (λ q. (front ++ q) ++ codes "}") is ∙ regroup front (codes "\"") text (codes "}")
 
--- where a fact was put it was appended
+-- A fact that was put was appended.
 pub put_true : {E : Type 0} {rs : List ReferenceValue} {t : FrameValue} {v : Value} {start old new : List ℕ} (r : Result Bool E) (b : Bool) → r ≡ Ok b → b ≡ true → PutsFact rs t v start old new r
     → AddsFact rs t v start old new
 put_true (Ok true) b e k h = h
 put_true (Ok false) b e k h = absurd (cc (e, k))
 put_true (Err x) b e k h = absurd (cc e)
 
--- the end of a text taken off
+-- The end of a text is taken off.
 without_end : (a b : List ℕ) → length b ≡ 2 → take (length (a ++ b) - 2) (a ++ b) ≡ a
 without_end a b two =
     let n : length (a ++ b) - 2 ≡ length a = omega (arith, length-append a b) in

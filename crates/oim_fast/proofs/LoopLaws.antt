@@ -20,7 +20,7 @@ use Rattle.oim_fast.specs.state.Facts.{WritesFact, fact_text}
 use Rattle.oim_row.specs.Rows.{RowValue, columns_in, row_in}
 use Rattle.oim_row.specs.state.Rows.{cell_in}
 
--- one column more
+-- One more column.
 give_more : (x : RowValue) (cs : List ℕ) (c : ℕ) (fs : List Fact) (o : Option Fact) → GiveFacts x cs fs → cell_result (cell_in x c) ≡ Ok o → GiveFacts x (cs ++ c ∷ []) (fs ++ option_to_list o)
 give_more x [] c fs o h e = (o, [], e, ap (λ q. q ++ option_to_list o) h ∙ sym (append-nil (option_to_list o)), refl)
 give_more x (k ∷ cs) c fs o (p, more, is, same, rest) e =
@@ -30,7 +30,7 @@ joined_front : (o : Option Fact) (fs : List Fact) → in_front (Ok o) (Ok fs) �
 joined_front None fs = refl
 joined_front (Some f) fs = refl
 
--- what the columns of facts of a header give is what the header gives
+-- The columns of facts of a header give what the header gives.
 facts_found : (x : RowValue) (p : ℕ) (h : Header) (fs : List Fact) → GiveFacts x (fact_columns_in x.header h) fs → facts_from x.header.report x.header.table (row_in x) p h ≡ Ok fs
 facts_found x p [] fs g = ap (λ (q : List Fact). Ok q) (sym g)
 facts_found x p (None ∷ h) fs g = facts_found x (p + 1) h fs g
@@ -51,7 +51,7 @@ unfolding behind_commas
 text_step None = refl
 text_step (Some f) = append-nil (codes "," ++ member_text f)
 
--- the end of a text that came is noted
+-- The end of a text that was written is recorded.
 noted_more : (old now next noted ns ms : List ℕ) (fs : List Fact) (o : Option Fact) → now ≡ old ++ behind_commas fs → next ≡ now ++ fact_text o → ns ≡ noted ++ ends_from (length old) fs
     → (length now < length next → ms ≡ ns ++ length next ∷ []) → (length next ≤ length now → ms ≡ ns) → ms ≡ noted ++ ends_from (length old) (fs ++ option_to_list o)
 noted_more old now next noted ns ms fs None is grown marks more none =
@@ -65,7 +65,7 @@ noted_more old now next noted ns ms fs (Some f) is grown marks more none =
     more (omega arith) ∙ ap (λ t. t ++ length next ∷ []) marks ∙ append_assoc noted (ends_from (length old) fs) (length next ∷ [])
     ∙ ap (λ k. noted ++ (ends_from (length old) fs ++ k ∷ [])) long ∙ ap (λ t. noted ++ t) (sym (ends_push (length old) fs f))
 
--- nothing is written and noted yet
+-- Nothing is written or recorded yet.
 nothing_yet : (old noted : List ℕ) → (old ≡ old ++ behind_commas []) × (noted ≡ noted ++ ends_from (length old) [])
 unfolding behind_commas ends_from
 nothing_yet old noted = (sym (append-nil old), sym (append-nil noted))
@@ -95,7 +95,7 @@ module _ (x : RowValue) where
     ends = p.ends;
   }
 
--- what was there stays
+-- The old text stays.
 pub text_stays : {x : RowValue} {i : ℕ} {old new noted ns : List ℕ} → HasFacts x i old new noted ns → IsPrefix old new
 text_stays p = (behind_commas p.facts, sym p.text)
 

@@ -1,4 +1,4 @@
--- How the text of a frame is made of the parts of its entries.
+-- How the text of a frame is made from the parts of its entries.
 use Rattle.std.proofs.Common.{◌≡◌, ◌<◌, ◌+◌, ℕ, zero, suc, true, List, [], ◌∷◌, ◌++◌, codes, length, map, take, get_or, Option, Some, None, Ok, IfSome, refl, sym, ap, subst, ◌∙◌, append-nil, arith}
 use Rattle.std.specs.Prelude.{◌⊎◌, if◌then◌else◌, Bool, false}
 use Rattle.std.proofs.Common.{inr}
@@ -20,15 +20,15 @@ use Rattle.oim_fast.specs.state.Frames.{AreKindDecimals, HasConstantKind, HasRef
 use Rattle.oim_fast.specs.state.Facts.{column_lead}
 use Rattle.oim_fast.specs.state.KeptFrames.{IsBody, kind_code}
 use Rattle.oim_fast.specs.state.Making.{AddsEntries, IsBodyOf, IsConcept, IsOpening, SaysConcept}
-use Rattle.oim_fast.specs.state.Parts.{IsPart, IsPartValue, IsReferred}
+use Rattle.oim_fast.specs.state.FrameParts.{IsPart, IsPartValue, IsReferred}
 use Rattle.oim_fast.specs.state.Pieces.{constant_meaning}
 use Rattle.oim_resolve.specs.state.ProgramLevels.{named, written_entries}
 use Rattle.oim_row.specs.Sources.{source_written}
 use Rattle.oim_row.specs.References.{Grows, Key, ReferenceValue, key_of}
-use Rattle.oim_fast.specs.declared.frame.frame.Body.{Body}
+use Rattle.oim_fast.specs.declared.frame.frame.FrameBody.{FrameBody}
 use Rattle.oim_fast.specs.declared.frame.frame_maker.Concept.{Concept}
 use Rattle.oim_fast.specs.declared.frame.frame_maker.Concept.TheVariants as concept
-use Rattle.oim_fast.specs.declared.frame.part.Part.{Part}
+use Rattle.oim_fast.specs.declared.frame.part.FramePart.{FramePart}
 use Rattle.oim_row.specs.declared.group_cells.Choice.{Choice}
 use Rattle.oim_fast.specs.declared.frame.part.PartValue.{PartValue}
 use Rattle.oim_fast.specs.declared.frame.part.PartValue.TheVariants as part
@@ -37,21 +37,21 @@ use Rattle.oim_fast.proofs.KeyLaws.{kind_decimals_grow, parts_grow}
 
 -- PARTS
 
-pub parts_append : (t : FrameValue) (ps qs : List Part) → with_parts t (ps ++ qs) ≡ with_parts (with_parts t ps) qs
+pub parts_append : (t : FrameValue) (ps qs : List FramePart) → with_parts t (ps ++ qs) ≡ with_parts (with_parts t ps) qs
 parts_append t [] qs = refl
 parts_append t (p ∷ ps) qs = parts_append (with_part t p) ps qs
 
-pub ready_append : (t : FrameValue) (ps qs : List Part) → are_ready t ps → are_ready (with_parts t ps) qs → are_ready t (ps ++ qs)
+pub ready_append : (t : FrameValue) (ps qs : List FramePart) → are_ready t ps → are_ready (with_parts t ps) qs → are_ready t (ps ++ qs)
 ready_append t [] qs h more = more
 ready_append t (p ∷ ps) qs h more = (h.0, ready_append (with_part t p) ps qs h.1 more)
 
--- the entry of a part at a place
-pub entry_there : (xs : List Part) (i : ℕ) (p : Part) (e : List ℕ × Written) → i < length xs → p ≡ get_or xs i p → option_map entry_of (slice_get xs i) ≡ Some e → entry_of p ≡ e
+-- The entry of the part at a place.
+pub entry_there : (xs : List FramePart) (i : ℕ) (p : FramePart) (e : List ℕ × Written) → i < length xs → p ≡ get_or xs i p → option_map entry_of (slice_get xs i) ≡ Some e → entry_of p ≡ e
 entry_there xs i p e lt is at =
     let same : Some (entry_of p) ≡ Some e = sym (ap (option_map entry_of) (slice_get_read xs (length xs) i p refl lt is)) ∙ at in
     cc
 
-pub entry_known : (xs : List Part) (i : ℕ) (p : Part) (n : List ℕ) (w : Written) → i < length xs → p ≡ get_or xs i p → p.name.now ≡ n → p.written.now ≡ w → option_map entry_of (slice_get xs i) ≡ Some (n, w)
+pub entry_known : (xs : List FramePart) (i : ℕ) (p : FramePart) (n : List ℕ) (w : Written) → i < length xs → p ≡ get_or xs i p → p.name.now ≡ n → p.written.now ≡ w → option_map entry_of (slice_get xs i) ≡ Some (n, w)
 entry_known xs i p n w lt is name same =
     ap (option_map entry_of) (slice_get_read xs (length xs) i p refl lt is) ∙ ap (λ (q : List ℕ). Some (q, p.written.now)) name ∙ ap (λ (q : Written). Some (n, q)) same
 
@@ -64,7 +64,7 @@ module _ (f : TableHeaderValue) where
   pub adds_none : (keys : List Key) (t : FrameValue) → AddsEntries f keys [] t t
   adds_none keys t = record { parts = []; entries = refl; are = λ k d lt. absurd (omega arith); ready = tt; text = refl }
 
-  pub adds_one : (keys : List Key) (n : List ℕ) (w : Written) (o : Option Written) (p : Part) (old new : FrameValue) → o ≡ Some w → entry_of p ≡ (n, w) → IsPart f keys p
+  pub adds_one : (keys : List Key) (n : List ℕ) (w : Written) (o : Option Written) (p : FramePart) (old new : FrameValue) → o ≡ Some w → entry_of p ≡ (n, w) → IsPart f keys p
       → is_ready old p ≡ true → new ≡ with_part old p → AddsEntries f keys (named n o) old new
   adds_one keys n w o p old new e is part ready text =
       subst (λ q. AddsEntries f keys (named n q) old new) (sym e) (record {
@@ -92,7 +92,7 @@ module _ (f : TableHeaderValue) where
   pub adds_grow : (rs later : List ReferenceValue) (g : Grows rs later) (es : List (List ℕ × Written)) (old new : FrameValue) → AddsEntries f (map key_of rs) es old new → AddsEntries f (map key_of later) es old new
   adds_grow rs later g es old new a = record { parts = a.parts; entries = a.entries; are = parts_grow f rs later g a.parts a.are; ready = a.ready; text = a.text }
 
--- one name more
+-- One more name.
 pub entries_more : (ls : List Level) (ns : List (Bor (List ℕ))) (i : ℕ) (n : Bor (List ℕ)) → i < length ns → n ≡ get_or ns i n
     → flat_map (λ q. named q (written ls q)) (held (take (i + 1) ns)) ≡ flat_map (λ q. named q (written ls q)) (held (take i ns)) ++ named n.now (written ls n.now)
 entries_more ls ns i n lt is =
@@ -104,7 +104,7 @@ entries_more ls ns i n lt is =
 
 -- THE TEXT
 
--- a frame before its dimensions
+-- A frame before its dimensions.
 abbrev head_of : FrameValue → FrameValue
 head_of t = no_dimensions t.kind t.lead t.settled t.decimals
 
@@ -114,18 +114,18 @@ by_value t text part.Text = refl
 by_value t text (part.Reference i) = refl
 by_value t text part.Unknown = refl
 
-head_kept : (t : FrameValue) (p : Part) → head_of (with_part t p) ≡ head_of t
+head_kept : (t : FrameValue) (p : FramePart) → head_of (with_part t p) ≡ head_of t
 head_kept t p = by (is_dropped t.kind p.role)
   where
     by : (b : Bool) → head_of (if b then t else with_value t p.text.items p.value) ≡ head_of t
     by true = refl
     by false = by_value t p.text.items p.value
 
-heads_kept : (t : FrameValue) (ps : List Part) → head_of (with_parts t ps) ≡ head_of t
+heads_kept : (t : FrameValue) (ps : List FramePart) → head_of (with_parts t ps) ≡ head_of t
 heads_kept t [] = refl
 heads_kept t (p ∷ ps) = heads_kept (with_part t p) ps ∙ head_kept t p
 
--- with the parts of all that levels write a frame is their text
+-- With the parts of all that the levels write, the frame is their text.
 pub text_made : (f : TableHeaderValue) (rs later : List ReferenceValue) (ls : List Level) (k : Kind) (lead : List ℕ) (old new : FrameValue) → Grows rs later → IsOpening f (map key_of rs) ls k lead old
     → AddsEntries f (map key_of later) (written_entries ls) old new → (new.kind ≡ k) × IsTextOf f (map key_of later) ls lead new
 text_made f rs later ls k lead old new g start adds =
@@ -146,16 +146,16 @@ text_made f rs later ls k lead old new g start adds =
       },
     )
 
--- where the concept's kind was given, or is the same in each row, it is the text's
+-- A concept's kind that was given, or is the same in each row, is the text's.
 pub kind_made : (f : TableHeaderValue) (ls : List Level) (n : ℕ) (k c : Kind) → k ≡ c → (n ≡ kind_code (Some c)) ⊎ HasConstantKind f ls c → (n ≡ kind_code (Some k)) ⊎ HasConstantKind f ls k
 kind_made f ls n k c e h = subst (λ (q : Kind). (n ≡ kind_code (Some q)) ⊎ HasConstantKind f ls q) (sym e) h
 
 -- THE CONCEPT
 
-pub part_there : (f : TableHeaderValue) (keys : List Key) (xs : List Part) (i : ℕ) (p : Part) → All (IsPart f keys) xs → i < length xs → p ≡ get_or xs i p → IsPart f keys p
+pub part_there : (f : TableHeaderValue) (keys : List Key) (xs : List FramePart) (i : ℕ) (p : FramePart) → All (IsPart f keys) xs → i < length xs → p ≡ get_or xs i p → IsPart f keys p
 part_there f keys xs i p all lt is = subst (IsPart f keys) (sym is) (all i p lt)
 
-pub referred_made : (f : TableHeaderValue) (keys : List Key) (ls : List Level) (p : Part) (w : Written) (i : ℕ) → entry_of p ≡ (codes "concept", w) → IsPart f keys p → p.value ≡ part.Reference i
+pub referred_made : (f : TableHeaderValue) (keys : List Key) (ls : List Level) (p : FramePart) (w : Written) (i : ℕ) → entry_of p ≡ (codes "concept", w) → IsPart f keys p → p.value ≡ part.Reference i
     → written ls (codes "concept") ≡ Some w → HasReferredKind f keys ls i
 referred_made f keys ls p w i e is v there =
     let value : IsPartValue f keys p.name.now p.written.now p.text.items (part.Reference i) = subst (IsPartValue f keys p.name.now p.written.now p.text.items) v is.value in
@@ -163,7 +163,7 @@ referred_made f keys ls p w i e is v there =
     let same : p.written.now ≡ w = ap (λ (q : List ℕ × Written). q.1) e in
     record { concept = w; written = there; referred = subst (λ (n : List ℕ). IsReferred f keys n w i) name (subst (λ (q : Written). IsReferred f keys p.name.now q i) same value.0) }
 
-pub constant_made : (f : TableHeaderValue) (keys : List Key) (ls : List Level) (p : Part) (w : Written) (k : Kind) (n : List ℕ) → entry_of p ≡ (n, w) → IsPart f keys p → p.kind ≡ Some k
+pub constant_made : (f : TableHeaderValue) (keys : List Key) (ls : List Level) (p : FramePart) (w : Written) (k : Kind) (n : List ℕ) → entry_of p ≡ (n, w) → IsPart f keys p → p.kind ≡ Some k
     → written ls (codes "concept") ≡ Some w → HasConstantKind f ls k
 constant_made f keys ls p w k n e is v there =
     let written_same : p.written.now ≡ w = ap (λ (q : List ℕ × Written). q.1) e in
@@ -176,7 +176,7 @@ constant_made f keys ls p w k n e is v there =
       kind = ap (λ (q : Written). concept_read f.report (constant_meaning f q)) (sym written_same) ∙ kind;
     }
 
-pub concept_made : (f : TableHeaderValue) (keys : List Key) (ls : List Level) (p : Part) (w : Written) (n : ℕ) (v : Concept) → entry_of p ≡ (codes "concept", w) → IsPart f keys p → SaysConcept p v
+pub concept_made : (f : TableHeaderValue) (keys : List Key) (ls : List Level) (p : FramePart) (w : Written) (n : ℕ) (v : Concept) → entry_of p ≡ (codes "concept", w) → IsPart f keys p → SaysConcept p v
     → written ls (codes "concept") ≡ Some w → IsConcept f keys ls n v
 concept_made f keys ls p w n (concept.Constant k) e is says there = inr (constant_made f keys ls p w k (codes "concept") e is says there)
 concept_made f keys ls p w n (concept.Reference i) e is says there = referred_made f keys ls p w i e is says there
@@ -184,7 +184,7 @@ concept_made f keys ls p w n concept.Unknown e is says there = tt
 
 -- THE BODY
 
-pub body_made : (f : TableHeaderValue) (keys : List Key) (c : ℕ) (os : List Choice) (n : ℕ) (k : Kind) (o : Option FrameValue) (b : Body) → IfSome o (λ t. (t.kind ≡ k) × IsTextOf f keys (levels_chosen f c os) (column_lead f c) t)
+pub body_made : (f : TableHeaderValue) (keys : List Key) (c : ℕ) (os : List Choice) (n : ℕ) (k : Kind) (o : Option FrameValue) (b : FrameBody) → IfSome o (λ t. (t.kind ≡ k) × IsTextOf f keys (levels_chosen f c os) (column_lead f c) t)
     → (n ≡ kind_code (Some k)) ⊎ HasConstantKind f (levels_chosen f c os) k → IsBodyOf o b → IsBody f keys c os n b
 body_made f keys c os n k None b h by is = subst (IsBody f keys c os n) (sym is) tt
 body_made f keys c os n k (Some t) b h by is = subst (IsBody f keys c os n) (sym is) (h.1, kind_made f (levels_chosen f c os) n t.kind k h.0 by)

@@ -21,7 +21,7 @@ use Rattle.oim_fast.specs.state.Pieces.{behind, dimension_piece, name_text, writ
 use Rattle.oim_resolve.specs.state.ProgramLevels.{named, written_entries}
 use Rattle.oim_fast.proofs.FrameLaws.{piece_text}
 
--- dimensions, each with a comma behind it
+-- Dimensions with a comma after each.
 abbrev pub pieces : List (List ℕ × Option (List ℕ)) → List ℕ
 pieces = flat_map (λ d. dimension_text d ++ codes ",")
 
@@ -32,7 +32,7 @@ pieces_joined d (e ∷ ds) =
     ∙ append_assoc (dimension_text d) (codes ",") (joined (map dimension_text (e ∷ ds)) ++ codes ",")
     ∙ sym (append_assoc (dimension_text d) (44 ∷ joined (map dimension_text (e ∷ ds))) (codes ","))
 
--- without the last comma they are the members of an object
+-- Without the last comma they are the members of an object.
 pub pieces_cut : (ds : List (List ℕ × Option (List ℕ))) → cut (pieces ds) ≡ joined (map dimension_text ds)
 pieces_cut [] = refl
 pieces_cut (d ∷ ds) =

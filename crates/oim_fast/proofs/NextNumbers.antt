@@ -6,7 +6,7 @@ use Rattle.std.proofs.lemmas.Fmt.{decimal_digit, decimal_step}
 use Rattle.std.proofs.lemmas.List.{length_push, get_or_push}
 use native.Mathlib.Decide.{dec_lt}
 
--- all digits of a number but the last, which those of the next number begin with too, where the last is no nine
+-- All digits except the last. If the last is not 9, the next number begins with them too.
 by_last : (n : ℕ) → n < 2 ^ 32 → (f : List ℕ) × (decimal n ≡ f ++ (48 + n % 10) ∷ []) × (n % 10 < 9 → decimal (n + 1) ≡ f ++ (49 + n % 10) ∷ [])
 by_last n few = elim (dec_lt n 10) [
   | yes small ↦ ([], decimal_digit n small ∙ ap (λ d. (48 + d) ∷ []) (omega arith), λ less. decimal_digit (n + 1) (omega arith) ∙ ap (λ d. d ∷ []) (omega arith))
@@ -20,7 +20,8 @@ by_last n few = elim (dec_lt n 10) [
   )
 ]
 
--- where a text ends with a number whose last digit is no nine, the next digit in its place makes it end with the next number
+-- If a text ends with a number whose last digit is not 9, replacing that digit by the next one
+-- makes the text end with the next number.
 pub stepped : (out old text new : List ℕ) (n : ℕ) → n < 2 ^ 32 → text ≡ old → old ≡ out ++ decimal n → (get_or text (length text - 1) 0 ≡ 57 → ⊥)
     → new ≡ take (length old - 1) old ++ (get_or text (length text - 1) 0 + 1) ∷ [] → new ≡ out ++ decimal (n + 1)
 stepped out old text new n few same is other set =

@@ -12,14 +12,14 @@ use Rattle.oim_resolve.specs.Facts.{entry_given, is_dropped, role_of}
 use Rattle.oim_resolve.specs.Values.{side_of, value}
 use Rattle.oim_row.specs.Answers.{dimension_json, json_for}
 use Rattle.oim_fast.specs.state.FrameTexts.{FrameValue, Segment, frame_dimensions, is_known, is_ready, segment_text, with_part, with_value}
-use Rattle.oim_fast.specs.state.Parts.{IsPart, IsPartValue}
+use Rattle.oim_fast.specs.state.FrameParts.{IsPart, IsPartValue}
 use Rattle.oim_fast.specs.state.Pieces.{behind, dimension_piece, name_text}
 use Rattle.oim_row.specs.References.{IsFresh, Key, ReferenceValue, key_of, meaning_at_hand}
 use Rattle.oim_fast.specs.state.GivenTexts.{given_by}
 use Rattle.oim_row.specs.Rows.{RowValue}
 use Rattle.oim_row.specs.state.Rows.{cell_in}
 use Rattle.oim_row.specs.Sources.{source_text}
-use Rattle.oim_fast.specs.declared.frame.part.Part.{Part}
+use Rattle.oim_fast.specs.declared.frame.part.FramePart.{FramePart}
 use Rattle.oim_fast.specs.declared.frame.part.PartValue.{PartValue}
 use Rattle.oim_fast.specs.declared.frame.part.PartValue.TheVariants as part
 use Rattle.oim_fast.proofs.RowLaws.{value_constant, value_referred}
@@ -33,7 +33,7 @@ pub all_at : {A : Type 0} (P : A → Type 0) (xs : List A) (i : ℕ) (x : A) →
 all_at P xs i x p e = subst P (get_or_from_slice_get xs i x x e) (p i x (slice_get_within xs i x e))
 
 module _ (x : RowValue) (c : ℕ) (few : x.number < 2 ^ 32) (rs : List ReferenceValue) (fresh : All (IsFresh x) rs) where
-  -- what a reference gives in the row
+  -- What a reference gives in the row.
   pub given_at : (i : ℕ) (key : Key) → slice_get (map key_of rs) i ≡ Some key → given_by rs i ≡ json_for x.header.report key.purpose (meaning_of (source_text x key.source))
   given_at i key e =
       let at = found key_of rs i key e in
@@ -44,7 +44,7 @@ module _ (x : RowValue) (c : ℕ) (few : x.number < 2 ^ 32) (rs : List Reference
       ∙ ap (λ (t : List ℕ). json_for x.header.report r.key.purpose (meaning_of t)) so.text
       ∙ ap (λ (k : Key). json_for x.header.report k.purpose (meaning_of (source_text x k.source))) at.2
 
-  -- what a written value gives a dimension's text
+  -- What a written value gives a dimension's text.
   abbrev given : List ℕ → Written → List ℕ
   given n w = dimension_json (entry_given x.header.report (role_of x.header.report n) (side_of w) (value (cell_in x c) w))
 
@@ -70,8 +70,8 @@ module _ (x : RowValue) (c : ℕ) (few : x.number < 2 ^ 32) (rs : List Reference
       ∙ ap (λ q. frame_dimensions (given_by rs) t ++ behind (name_text n) q) (given_at i _ to.there ∙ sym (by_meaning n w _ (value_referred x c w to.source few to.written)))
   value_added t n text w part.Unknown k is = absurd (cc k)
 
-  -- a part that is added gives the piece of its dimension
-  pub part_added : (t : FrameValue) (p : Part) → IsPart x.header (map key_of rs) p → is_ready t p ≡ true
+  -- An added part gives the text of its dimension.
+  pub part_added : (t : FrameValue) (p : FramePart) → IsPart x.header (map key_of rs) p → is_ready t p ≡ true
       → frame_dimensions (given_by rs) (with_part t p) ≡ frame_dimensions (given_by rs) t ++ dimension_piece x.header.report t.kind p.name.now (side_of p.written.now) (value (cell_in x c) p.written.now)
   part_added t p is ready = by (is_dropped t.kind p.role) refl
     where

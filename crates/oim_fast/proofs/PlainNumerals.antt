@@ -39,7 +39,7 @@ plain_split : (kind : NumberKind) (s v : List ℕ) (a : Option Accuracy) → IsS
 plain_split k s v a (suffixed kind numeral decimals accuracy n d) = plain_numeral kind numeral n
 plain_split k s v a (bare kind numeral n) = plain_numeral kind numeral n
 
--- the numeral that a text writes needs no escape
+-- The numeral in a text needs no escape.
 pub numeral_is_plain : (kind : NumberKind) (text v : List ℕ) (a : Option Accuracy) → Some (v, a) ≡ numeral_of kind text → list_all is_unescaped v ≡ true
 numeral_is_plain kind text v a e = plain_split kind (trimmed text) v a ((numeral_law kind text v a).0 (sym e))
 
@@ -54,7 +54,7 @@ number_is_plain r n m.Empty = part_is_plain (numeral_of n []) (numeral_is_plain 
 number_is_plain r n (m.Text t) = part_is_plain (numeral_of n t) (numeral_is_plain n t)
 number_is_plain r n m.Unknown = tt
 
--- what the cell of a number gives needs no escape
+-- What the cell of a number gives needs no escape.
 pub given_is_plain : (r : ReportValue) (k : Kind) (v : Meaning) → is_numeric k ≡ true → IfSome (text_in (value_given r k v)) (λ t. list_all is_unescaped t ≡ true)
 given_is_plain r (kind.Number n) v h = number_is_plain r n v
 given_is_plain r kind.Text v h = absurd (cc)
@@ -65,6 +65,6 @@ given_is_plain r kind.Other v h = absurd (cc)
 given_is_plain r kind.Explicit v h = absurd (cc)
 given_is_plain r kind.Typed v h = absurd (cc)
 
--- a number in digits needs no escape
+-- A number in digits needs no escape.
 pub decimal_is_plain : (n : ℕ) → n < 2 ^ 64 → list_all is_unescaped (decimal n) ≡ true
 decimal_is_plain n h = plain_digits (decimal n) (decimal_is_IsNumeral n h).0.1

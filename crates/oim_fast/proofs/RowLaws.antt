@@ -1,4 +1,5 @@
--- What levels write gives in a row what the definition says: the constant where rows say nothing of it, else what its reference names.
+-- What levels write gives in a row what the definition requires: the constant if it does not depend
+-- on the row, else what its reference names.
 use Rattle.std.proofs.Common.{◌≡◌, ◌<◌, ◌^◌, ℕ, List, [], ◌∷◌, length, Option, Some, None, refl, sym, ap, ◌∙◌, arith, zero-add}
 use Rattle.std.specs.Prelude.{decimal}
 use Rattle.std.specs.Option.{option_map, option_map_or, option_and_then, option_or, unwrap_or}
@@ -42,7 +43,7 @@ module _ (x : RowValue) (c : ℕ) where
   abbrev parameter : List ℕ → Option (List ℕ)
   parameter n = parameter_of x.header.report x.header.table n
 
-  -- the text of a cell in range
+  -- The text of a cell in range.
   pub text_is : (i : ℕ) → i < length (columns_in x.header) → text_at cell i ≡ field_or_empty x.fields (source_of_column x.header.columns i)
   text_is i b = get_or-map-range_with_len (cell_at x.header.columns x.fields) 0 (length (columns_in x.header)) i i [] b (zero-add i)
 
@@ -51,7 +52,7 @@ module _ (x : RowValue) (c : ℕ) where
   named_text n None e = refl
   named_text n (Some i) e = ap not_empty (sym (text_is i (position-Some (λ (k : AColumn). bytes_eq k.id n) (columns_in x.header) i no_column e).0))
 
-  -- what a name refers to, by its place in the header
+  -- What a name refers to, by its place in the header.
   referred_at : (n : List ℕ) (o : Option ℕ) → place_named x.header n ≡ o → referred cell n ≡ option_map_or meaning_of (option_or (not_empty (field_or_empty x.fields o)) (parameter n)) m.Absent
   referred_at n o e =
       sym (ap (λ t. option_map_or meaning_of (option_or t (parameter n)) m.Absent)
@@ -70,7 +71,7 @@ module _ (x : RowValue) (c : ℕ) where
       let same : RowNumber ≡ s = cc e in
       sym (number_meaning x.number (omega arith)) ∙ ap (λ q. meaning_of (source_text x q)) same
 
-  -- dimensions
+  -- Dimensions.
   pub value_constant : (e : Written) → source_written x.header e ≡ None → value cell e ≡ constant_meaning x.header e
   value_constant w.Absent h = refl
   value_constant w.Nil h = refl
@@ -87,7 +88,7 @@ module _ (x : RowValue) (c : ℕ) where
   value_referred (w.RowNumber side) s few h = numbered s few h
   value_referred (w.Named n side) s few h = named_source n s h
 
-  -- decimals
+  -- Decimals.
   pub stated_constant : (e : WrittenDecimals) → source_decimals x.header e ≡ None → decimals_value cell e ≡ constant_stated x.header e
   stated_constant d.Absent h = refl
   stated_constant (d.Fixed a) h = refl

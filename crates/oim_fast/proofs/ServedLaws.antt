@@ -27,8 +27,8 @@ use Rattle.oim_row.specs.Rows.{RowValue, column_in}
 use Rattle.oim_row.specs.state.Rows.{cell_in}
 use Rattle.oim_row.specs.Sources.{source_text}
 use Rattle.oim_fast.specs.declared.frame.fact_column.FactColumn.{FactColumn}
-use Rattle.oim_fast.specs.declared.frame.frame.Body.{Body}
-use Rattle.oim_fast.specs.declared.frame.frame.Body.TheVariants as body
+use Rattle.oim_fast.specs.declared.frame.frame.FrameBody.{FrameBody}
+use Rattle.oim_fast.specs.declared.frame.frame.FrameBody.TheVariants as body
 use Rattle.oim_fast.specs.declared.frame.frame.Frame.{Frame}
 use Rattle.oim_row.specs.declared.answer.Answer.{Answer}
 use Rattle.oim_row.specs.declared.group_cells.Choice.{Choice}
@@ -75,7 +75,7 @@ module _ (x : RowValue) (c : ℕ) where
   constant_read : (ls : List Level) (k : Kind) → levels (cell_in x c) ≡ ls → HasConstantKind x.header ls k → concept_read x.header.report (given (cell_in x c) (codes "concept")) ≡ Ok k
   constant_read ls k e h = ap (concept_read x.header.report) (given_is ls h.concept e h.written ∙ value_constant x c h.concept h.same) ∙ h.kind
 
-  -- the kind that a reference answers is that of the concept
+  -- The kind that a reference answers is that of the concept.
   pub referred_read : (rs : List ReferenceValue) (i : ℕ) (a : Answer) (k : Kind) → x.number < 2 ^ 32 → All (IsFresh x) rs → HasReferredKind x.header (map key_of rs) (levels (cell_in x c)) i
       → IfSome (slice_get rs i) (λ r. IsAnswer r.report r.key.purpose (meaning_at_hand r) a) → a.kind ≡ Some k → concept_read x.header.report (given (cell_in x c) (codes "concept")) ≡ Ok k
   referred_read rs i a k few fresh h answer e =
@@ -92,7 +92,7 @@ module _ (x : RowValue) (c : ℕ) where
 
   -- THE TEXT
 
-  pub served_body : (keys : List Key) (os : List Choice) (n : ℕ) (b : Body) → levels (cell_in x c) ≡ levels_chosen x.header c os → Chooses x (column_in x.header c).from os → IsBody x.header keys c os n b
+  pub served_body : (keys : List Key) (os : List Choice) (n : ℕ) (b : FrameBody) → levels (cell_in x c) ≡ levels_chosen x.header c os → Chooses x (column_in x.header c).from os → IsBody x.header keys c os n b
       → ((k : Kind) → n ≡ kind_code (Some k) → concept_read x.header.report (given (cell_in x c) (codes "concept")) ≡ Ok k) → IfSome (text_of b) (IsTextFor x keys c)
   served_body keys os n (body.Text t) is chosen h by = record {
     choices = os;
@@ -104,7 +104,7 @@ module _ (x : RowValue) (c : ℕ) where
   served_body keys os n body.Unknown is chosen h by = tt
 
 module _ (x : RowValue) (cells : List GroupCell) (c : FactColumn) (column : IsFactColumn x.header cells c) where
-  -- what is known of a column's choices
+  -- The choices of a column are known.
   pub known_choices : (k : Option Kind) (v : Frame) → IsKnownFor cells c k v → All (λ o. is_known_choice o ≡ true) (choices_in cells c.groups.items)
   known_choices k v h = subst (All (λ o. is_known_choice o ≡ true)) h.is.choices h.known
 
@@ -115,7 +115,7 @@ module _ (x : RowValue) (cells : List GroupCell) (c : FactColumn) (column : IsFa
     pub levels_found : levels (cell_in x c.column) ≡ levels_chosen x.header c.column (choices_in cells c.groups.items)
     levels_found = levels_are x c.column (choices_in cells c.groups.items) column.from chosen
 
-    -- the reference that a frame says its concept is
+    -- The reference that names the concept of a frame.
     pub concept_found : (keys : List Key) (k : Option Kind) (v : Frame) (i : ℕ) → IsFor cells c k v → IsFrame x.header keys v → v.body ≡ body.ByConcept i → HasReferredKind x.header keys (levels (cell_in x c.column)) i
     concept_found keys k v i is frame e =
         let here : HasReferredKind x.header keys (levels_chosen x.header v.column v.choices.items) i = subst (IsBody x.header keys v.column v.choices.items v.kind) e frame in
@@ -132,14 +132,14 @@ module _ (x : RowValue) (cells : List GroupCell) (c : FactColumn) (column : IsFa
         (subst (λ (q : ℕ). IsBody x.header keys q v.choices.items v.kind v.body) is.column frame)) in
         served_body x c.column keys (choices_in cells c.groups.items) (kind_code k) v.body levels_found chosen here by
 
-    -- a frame whose concept is the same in each row
+    -- A frame whose concept is the same in each row.
     pub served_first : (keys : List Key) (vs : List Frame) (place : ℕ) (v : Frame) → slice_get vs place ≡ Some v → IsFor cells c None v → All (IsFrame x.header keys) vs
         → IfSome (option_and_then (λ (q : Frame). text_of q.body) (slice_get vs place)) (IsTextFor x keys c.column)
     served_first keys vs place v e is frames =
         subst (λ (o : Option Frame). IfSome (option_and_then (λ (q : Frame). text_of q.body) o) (IsTextFor x keys c.column)) (sym e)
         (served_one keys None v is (all_at (IsFrame x.header keys) vs place v frames e) (λ q same. let no : None ≡ Some q = same_kind None (Some q) same in absurd (cc)))
 
-    -- and one that was made for the kind of the row's concept
+    -- A frame for the kind of the row's concept.
     served_kind : (keys : List Key) (vs : List Frame) (place : ℕ) (o : Option Frame) → slice_get vs place ≡ o → IsSomeAnd o (IsOfConcept x cells c) → All (IsFrame x.header keys) vs
         → IfSome (option_and_then (λ (q : Frame). text_of q.body) o) (IsTextFor x keys c.column)
     served_kind keys vs place None e h frames = absurd h
@@ -179,7 +179,7 @@ known_for cells c k v is known = record { is = is; known = subst (All (λ o. is_
 
 -- THE ROW'S FRAME
 
--- a frame that was found for a column, its concept apart
+-- A frame that was found for a column without a kind.
 module _ (x : RowValue) (cells : List GroupCell) (c : FactColumn) (column : IsFactColumn x.header cells c) (are : All (IsGroupCell x.header) cells) (said : All (IsSaid x) cells)
     (keys : List Key) (vs : List Frame) (frames : All (IsFrame x.header keys) vs) (place : ℕ) (v : Frame) (lt : place < length vs) (is : v ≡ get_or vs place v) (found_for : IsSomeAnd (slice_get vs place) (IsKnownFor cells c None)) where
   here : IsKnownFor cells c None v
@@ -197,7 +197,7 @@ module _ (x : RowValue) (cells : List GroupCell) (c : FactColumn) (column : IsFa
   pub concept_here : (i : ℕ) → v.body ≡ body.ByConcept i → HasReferredKind x.header keys (levels (cell_in x c.column)) i
   concept_here i e = concept_found x cells c column are said known_here keys None v i here.is (all_at (IsFrame x.header keys) vs place v frames stands) e
 
--- and one for the kind of its concept
+-- A frame for the kind of its concept.
 pub served_places : (x : RowValue) (cells : List GroupCell) (c : FactColumn) → IsFactColumn x.header cells c → All (IsGroupCell x.header) cells → All (IsSaid x) cells
     → All (λ o. is_known_choice o ≡ true) (choices_in cells c.groups.items) → (keys : List Key) (vs : List Frame) → All (IsFrame x.header keys) vs → (o : Option ℕ)
     → IfSome o (λ place. IsSomeAnd (slice_get vs place) (IsOfConcept x cells c)) → IfSome o (λ place. IfSome (option_and_then (λ (q : Frame). text_of q.body) (slice_get vs place)) (IsTextFor x keys c.column))

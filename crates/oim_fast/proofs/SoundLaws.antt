@@ -1,4 +1,5 @@
--- A cell has no fault in its groups, its concept, its dimensions and its decimals where something is known of its frame and no reference of the frame has a fault.
+-- A cell has no fault in its groups, its concept, its dimensions and its decimals, if its frame is
+-- known and no reference of the frame has a fault.
 use Rattle.std.proofs.Common.{◌≡◌, ◌<◌, ◌^◌, ℕ, zero, suc, Bool, true, false, cond, ◌||◌, List, [], ◌∷◌, ◌++◌, length, map, Option, Some, None, Ok, is_ok, refl, sym, ap, subst, ◌∙◌, arith}
 use Rattle.std.specs.List.{All, flat_map, list_any, slice_get}
 use Rattle.std.specs.Option.{option_and_then, option_map_or}
@@ -27,7 +28,7 @@ use Rattle.oim_fast.specs.state.FactTexts.{frame_decimals, has_decimals}
 use Rattle.oim_fast.specs.state.FrameTexts.{FrameValue, Segment, is_known, is_ready, with_part, with_value}
 use Rattle.oim_fast.specs.state.Frames.{AreFrameDecimals, Chooses, are_ready, entry_of, is_known_choice, with_parts}
 use Rattle.oim_row.specs.Groups.{Names, Says}
-use Rattle.oim_fast.specs.state.Parts.{IsPart, IsPartValue}
+use Rattle.oim_fast.specs.state.FrameParts.{IsPart, IsPartValue}
 use Rattle.oim_fast.specs.state.Pieces.{AreSound, constant_stated, is_sound_dimension}
 use Rattle.oim_resolve.specs.state.ProgramLevels.{named}
 use Rattle.oim_row.specs.References.{IsFresh, Key, ReferenceValue, key_of, meaning_at_hand}
@@ -37,7 +38,7 @@ use Rattle.oim_row.specs.state.Rows.{cell_in}
 use Rattle.oim_row.specs.Sources.{source_text}
 use Rattle.oim_fast.specs.declared.frame.frame_decimals.FrameDecimals.{FrameDecimals}
 use Rattle.oim_fast.specs.declared.frame.frame_decimals.FrameDecimals.TheVariants as decimals
-use Rattle.oim_fast.specs.declared.frame.part.Part.{Part}
+use Rattle.oim_fast.specs.declared.frame.part.FramePart.{FramePart}
 use Rattle.oim_fast.specs.declared.frame.part.PartValue.{PartValue}
 use Rattle.oim_fast.specs.declared.frame.part.PartValue.TheVariants as part
 use Rattle.oim_row.specs.declared.group_cells.Choice.{Choice}
@@ -74,7 +75,7 @@ neither false false p q = refl
 neither true b p q = absurd (cc p)
 neither false true p q = absurd (cc q)
 
--- the cells of groups have no fault
+-- The cells of groups have no fault.
 pub record AreNamed (c : Cell) (gs : List ℕ) : Type 0 where
   pub known : list_any (λ i. is_unknown (meaning_at c i)) gs ≡ false
   pub named : list_any (names_no_group c) gs ≡ false
@@ -132,7 +133,7 @@ module _ (c : Cell) (k : Kind) where
       ap (λ fs. fs ++ flat_map (dimension_faults c k) ns) (sound_written c k n x e (sound 0 (n, x) (omega arith)))
       ∙ more (λ i d lt. sound (suc i) d (omega arith))
 
-  -- dimensions that are written without a fault
+  -- Written dimensions without a fault.
   pub sound_faults : (ns : List (List ℕ)) → AreSound c k (entries_by ns) → flat_map (dimension_faults c k) ns ≡ []
   sound_faults [] sound = refl
   sound_faults (n ∷ ns) sound = sound_step n ns (written (levels c) n) refl sound (sound_faults ns)
@@ -162,18 +163,18 @@ module _ (x : RowValue) (c : ℕ) (few : x.number < 2 ^ 32) (rs : List Reference
   value_kept t text (part.Reference i) h = all_front IsSoundSegment t.segments _ h
   value_kept t text part.Unknown h = h
 
-  part_kept : (t : FrameValue) (p : Part) → All IsSoundSegment (with_part t p).segments → All IsSoundSegment t.segments
+  part_kept : (t : FrameValue) (p : FramePart) → All IsSoundSegment (with_part t p).segments → All IsSoundSegment t.segments
   part_kept t p = by (is_dropped t.kind p.role)
     where
       by : (b : Bool) → All IsSoundSegment (if b then t else with_value t p.text.items p.value).segments → All IsSoundSegment t.segments
       by true h = h
       by false h = value_kept t p.text.items p.value h
 
-  parts_kept : (t : FrameValue) (ps : List Part) → All IsSoundSegment (with_parts t ps).segments → All IsSoundSegment t.segments
+  parts_kept : (t : FrameValue) (ps : List FramePart) → All IsSoundSegment (with_parts t ps).segments → All IsSoundSegment t.segments
   parts_kept t [] h = h
   parts_kept t (p ∷ ps) h = part_kept t p (parts_kept (with_part t p) ps h)
 
-  -- whether a reference has a fault in the row
+  -- Whether a reference has a fault in the row.
   pub sound_at : (i : ℕ) (key : Key) → slice_get (map key_of rs) i ≡ Some key → is_sound_by rs i ≡ is_sound_for x.header.report key.purpose (meaning_of (source_text x key.source))
   sound_at i key e =
       let at = found key_of rs i key e in
@@ -195,7 +196,7 @@ module _ (x : RowValue) (c : ℕ) (few : x.number < 2 ^ 32) (rs : List Reference
       ap (value_sound n w) (value_referred x c w to.source few to.written) ∙ sym (sound_at i _ to.there) ∙ last_of IsSoundSegment t.segments (record { alone = t.rest; name = text; reference = i }) h
   known_sound t n text w part.Unknown k is h = absurd (cc k)
 
-  part_sound : (t : FrameValue) (p : Part) → IsPart x.header (map key_of rs) p → is_ready t p ≡ true → All IsSoundSegment (with_part t p).segments
+  part_sound : (t : FrameValue) (p : FramePart) → IsPart x.header (map key_of rs) p → is_ready t p ≡ true → All IsSoundSegment (with_part t p).segments
       → is_sound_dimension x.header.report t.kind p.name.now (side_of p.written.now) (value (cell_in x c) p.written.now) ≡ true
   part_sound t p is ready h = sound_either (is_dropped t.kind (role_of x.header.report p.name.now)) (value_sound p.name.now p.written.now (value (cell_in x c) p.written.now)) kept
     where
@@ -207,8 +208,8 @@ module _ (x : RowValue) (c : ℕ) (few : x.number < 2 ^ 32) (rs : List Reference
       kept : is_dropped t.kind (role_of x.header.report p.name.now) ≡ false → value_sound p.name.now p.written.now (value (cell_in x c) p.written.now) ≡ true
       kept e = by (is_dropped t.kind p.role) (ap (is_dropped t.kind) is.role ∙ e) ready h
 
-  -- what was added of known parts has no fault
-  pub parts_sound : (t : FrameValue) (ps : List Part) → All (IsPart x.header (map key_of rs)) ps → are_ready t ps → All IsSoundSegment (with_parts t ps).segments → AreSound (cell_in x c) t.kind (map entry_of ps)
+  -- What was added of known parts has no fault.
+  pub parts_sound : (t : FrameValue) (ps : List FramePart) → All (IsPart x.header (map key_of rs)) ps → are_ready t ps → All IsSoundSegment (with_parts t ps).segments → AreSound (cell_in x c) t.kind (map entry_of ps)
   parts_sound t [] are ready h i d lt = absurd (omega arith)
   parts_sound t (p ∷ ps) are ready h zero d lt = part_sound t p (are 0 p (omega arith)) ready.0 (parts_kept (with_part t p) ps h)
   parts_sound t (p ∷ ps) are ready h (suc i) d lt =
@@ -218,7 +219,7 @@ module _ (x : RowValue) (c : ℕ) (few : x.number < 2 ^ 32) (rs : List Reference
 
   -- DECIMALS
 
-  -- decimals that are looked at have no fault, and are these
+  -- The needed decimals have no fault and this text.
   pub record AreStated (o : Option WrittenDecimals) (text : List ℕ) : Type 0 where
     pub sound : stated_faults (stated_by (cell_in x c) o) ≡ []
     pub is : text ≡ decimals_text (option_and_then places (stated_accuracy (stated_by (cell_in x c) o)))

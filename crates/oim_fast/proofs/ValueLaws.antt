@@ -1,4 +1,4 @@
--- What the cell of a fact says, by the kind of its concept.
+-- What the cell of a fact gives, by the kind of its concept.
 use Rattle.std.proofs.Common.{◌≡◌, ◌<◌, ◌≤◌, ℕ, zero, suc, Bool, true, false, inl, inr, List, [], ◌∷◌, ◌++◌, length, take, get_or, Option, Some, None, Ok, codes, is_none, refl, sym, ap, subst, ◌∙◌, arith, take-take, length-take-le, length-append}
 use Rattle.std.specs.Prelude.{if◌then◌else◌}
 use Rattle.std.specs.Char.{digit_value}
@@ -63,7 +63,7 @@ no_numeral Integer h = absurd (omega (arith, h.0))
 no_numeral Decimal h = no_decimal h
 no_numeral Double h = no_double [] h refl
 
--- a text begins with another byte than `#`
+-- A text begins with another byte than `#`.
 record BeginsPlain (s : List ℕ) : Type 0 where
   some : 0 < length s
   other : get_or s 0 0 ≡ 35 → ⊥
@@ -85,9 +85,9 @@ split_numeral : (kind : NumberKind) (s v : List ℕ) (a : Option Accuracy) → I
 split_numeral k s v a (suffixed kind numeral decimals accuracy n d) = n
 split_numeral k s v a (bare kind numeral n) = n
 
--- TEXTS THAT STAND FOR THEMSELVES
+-- TEXTS AS THEY ARE WRITTEN
 
--- the value of a text that means itself
+-- The value of a text as it is written.
 text_value : (r : ReportValue) (k : Kind) (cell : List ℕ) (x : Value) → BeginsPlain cell → x.len ≤ length x.bytes.now → x.is_nil ≡ false
     → text_given r k cell ≡ Ok (record { text = Some (take x.len x.bytes.now); accuracy = x.accuracy }) → IsValue r k (meaning_of cell) x
 text_value r k cell x begins within some given =
@@ -100,7 +100,7 @@ text_value r k cell x begins within some given =
       nil = some ∙ sym (ap is_nil is);
     }
 
--- a number's cell that is split
+-- A number's cell that is split.
 pub number_value : (r : ReportValue) (n : NumberKind) (cell : List ℕ) (x : Value) → take (length cell) x.bytes.now ≡ cell → length cell ≤ length x.bytes.now → x.is_nil ≡ false
     → x.len ≤ length cell → IsSplit n (trimmed cell) (take x.len cell) x.accuracy → IsValue r (kind.Number n) (meaning_of cell) x
 number_value r n cell x same within some few split =
@@ -109,7 +109,7 @@ number_value r n cell x same within some few split =
     (omega (arith, within, few)) some
     (ap numeral_given ((numeral_law n cell (take x.len cell) x.accuracy).1 split) ∙ ap (λ t. Ok (record { text = Some t; accuracy = x.accuracy })) (sym front))
 
--- the cell of a text as it stands
+-- The cell of a text as it is written.
 pub plain_value : (r : ReportValue) (k : Kind) (cell : List ℕ) (x : Value) → take x.len x.bytes.now ≡ cell → x.len ≤ length x.bytes.now → x.is_nil ≡ false → x.accuracy ≡ None
     → 0 < x.len → (get_or x.bytes.now 0 0 ≡ 35 → ⊥) → ((t : List ℕ) → text_given r k t ≡ Ok (plain t)) → IsValue r k (meaning_of cell) x
 plain_value r k cell x same within some exact long other given =
@@ -144,7 +144,7 @@ text_some r kind.Other t p e = form_some true t p e
 text_some r kind.Explicit t p e = form_some true t p e
 text_some r kind.Typed t p e = form_some true t p e
 
--- a cell that says something of known meaning is nil where its value has no text
+-- A cell with a known meaning is nil if its value has no text.
 nil_where : (r : ReportValue) (k : Kind) (v : Meaning) (p : ValueParts) → is_absent v ≡ false → is_unknown v ≡ false → value_given r k v ≡ Ok p → is_none p.text ≡ is_nil v
 nil_where r k m.Absent p said known e = absurd (cc said)
 nil_where r k m.Unknown p said known e = absurd (cc known)
@@ -156,7 +156,7 @@ text_or_none : (o : Option (List ℕ)) (t : List ℕ) → ((s : List ℕ) → o 
 text_or_none None t h = refl
 text_or_none (Some s) t h = ap Some (h s refl)
 
--- a value that was read, and its text, where it has one, copied
+-- A value that was read, and its text, copied if it has one.
 pub read_value : (r : ReportValue) (k : Kind) (v : Meaning) (p : ValueParts) (x : Value) → value_given r k v ≡ Ok p → is_absent v ≡ false → is_unknown v ≡ false
     → x.len ≤ length x.bytes.now → x.is_nil ≡ is_none p.text → x.accuracy ≡ p.accuracy → ((s : List ℕ) → p.text ≡ Some s → s ≡ take x.len x.bytes.now) → IsValue r k v x
 read_value r k v p x given said known within nil exact text = record {
@@ -170,7 +170,7 @@ read_value r k v p x given said known within nil exact text = record {
   nil = nil ∙ nil_where r k v p said known given;
 }
 
--- a number's cell that is split, where the bytes begin with it
+-- A number's cell that is split, if the bytes begin with it.
 pub number_found : (r : ReportValue) (n : NumberKind) (cell bytes : List ℕ) (len : ℕ) (x : Value) → take len bytes ≡ cell → len ≤ length bytes → x.bytes.now ≡ bytes → x.is_nil ≡ false
     → x.len ≤ len → (take (length cell) bytes ≡ cell → length cell ≡ len → IsSplit n (trimmed cell) (take x.len cell) x.accuracy) → IsValue r (kind.Number n) (meaning_of cell) x
 number_found r n cell bytes len x same within is some few split =
@@ -178,7 +178,7 @@ number_found r n cell bytes len x same within is some few split =
     let whole : take (length cell) bytes ≡ cell = ap (λ k. take k bytes) long ∙ same in
     number_value r n cell x (ap (take (length cell)) is ∙ whole) (omega (arith, long, within, ap length is)) some (omega (arith, long, few)) (split whole long)
 
--- the cell `#nil`
+-- The cell `#nil`.
 pub nil_value : (r : ReportValue) (k : Kind) (x : Value) → x.is_nil ≡ true → x.accuracy ≡ None → x.len ≡ 0 → IsValue r k (meaning_of (codes "#nil")) x
 nil_value r k x some exact none =
     let is : m.Nil ≡ meaning_of (codes "#nil") = meaning_law m.nil in

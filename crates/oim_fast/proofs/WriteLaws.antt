@@ -9,7 +9,7 @@ use Rattle.oim_fast.specs.state.GivenTexts.{given_by, is_sound_by}
 use Rattle.oim_row.specs.declared.answer.Answer.{Answer}
 use Rattle.oim_fast.proofs.FrameTextLaws.{range_more}
 
--- what the answer of a reference says
+-- What the answer of a reference gives.
 pub record IsGiven (rs : List ReferenceValue) (i : ℕ) (a : Answer) : Type 0 where
   pub sound : is_sound_by rs i ≡ true
   pub json : a.json.items ≡ given_by rs i
@@ -34,14 +34,14 @@ pub none_given : (js : List ℕ) → length js ≡ 0 → js ≡ []
 none_given [] h = refl
 none_given (b ∷ bs) h = absurd (omega arith)
 
--- a range of the front of a room
-pub range_of_front : (room text : List ℕ) (len from to : ℕ) → take len room ≡ text → from ≤ to → to ≤ length text → take (to - from) (drop from room) ≡ slice_range text from to
-range_of_front room text len from to is le within =
-    ap (λ r. slice_range r from to) (sym (take-append-drop len room) ∙ ap (λ t. t ++ drop len room) is) ∙ range_more text (drop len room) from to le within
+-- A range of a buffer's prefix.
+pub range_of_front : (memory text : List ℕ) (len from to : ℕ) → take len memory ≡ text → from ≤ to → to ≤ length text → take (to - from) (drop from memory) ≡ slice_range text from to
+range_of_front memory text len from to is le within =
+    ap (λ r. slice_range r from to) (sym (take-append-drop len memory) ∙ ap (λ t. t ++ drop len memory) is) ∙ range_more text (drop len memory) from to le within
 
 times_more : (a m : ℕ) → (a + 1) * m ≡ a * m + m
 times_more a m = omega arith
 
--- one run less is left
+-- One run less is left.
 pub one_less : (n i m : ℕ) → i < n → (n - i) * m ≡ (n - (i + 1)) * m + m
 one_less n i m lt = let k : n - i ≡ (n - (i + 1)) + 1 = omega arith in ap (λ q. q * m) k ∙ times_more (n - (i + 1)) m

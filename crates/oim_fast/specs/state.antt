@@ -2,7 +2,7 @@ pub mod GivenTexts
 pub mod StillHolds
 pub mod ChosenGroups
 pub mod Pieces
-pub mod Parts
+pub mod FrameParts
 pub mod FrameTexts
 pub mod Writing
 pub mod CellValues

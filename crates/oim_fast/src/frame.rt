@@ -1,4 +1,4 @@
-//! Columns of facts under the property groups that a row names, as text.
+//! Columns of facts, under the property groups that a row names, as text.
 
 pub(crate) mod constant;
 pub(crate) mod fact;

@@ -1,20 +1,23 @@
 //! The fast way from a row of a table to the texts of its facts.
 //!
-//! It writes them straight from the bytes of the row's cells, or answers "not by me". It knows no fault: a row with any
-//! fault, or of a form that is rare, is not by it, and goes the plain way (`oim_rows` gives its facts or its first fault,
-//! `oim_json` the texts of the facts). So what it has to meet is one-sided: what it wrote is the texts of the facts that
-//! the definition gives. Which good rows it leaves alone no clause says.
+//! It writes the texts straight from the bytes of the row's cells, or leaves the row. It finds no
+//! faults: a row with any fault, or of a rare form, is left, and goes the plain way (`oim_rows`
+//! gives its facts or its first fault, `oim_json` the texts of the facts). So the contract has one
+//! side: what the fast way wrote is the texts of the facts that the definition gives.
 //!
-//! - `frame`: a column of facts under the property groups that a row names: all of its text that is the same in each row;
+//! - `frame`: a column of facts under the property groups that a row names: all of its text that is
+//!   the same in each row;
 //! - `table`: the rows of a table.
 //!
-//! What a row's cells give the references and the columns of property groups is of `oim_row`; the texts that grow, and the escapes, are of
-//! `oim_text`. The row and the text that a caller meets here are theirs.
+//! `oim_row` reads what a row's cells give the references and the columns of property groups.
+//! `oim_text` has the texts that grow, and the escapes. `TableRow` and `TextBuffer` are theirs.
 //!
-//! A call:
+//! Not proved: which good rows are left; what `HashIndex`, the hashes and the counted sizes hold.
+//!
+//! A call, which returns the texts of the facts of a table's first row, each with a comma before
+//! it, or None if that row goes the plain way:
 //!
 //! ```
-//! /// The texts of the facts of a table's first row, each behind a comma, or none where that row goes the plain way.
 //! fn first_texts(
 //!     alloc: Global,
 //!     header: &TableHeader<'_>,

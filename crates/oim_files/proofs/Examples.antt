@@ -1,4 +1,4 @@
--- The definitions on worked cases.
+-- The definitions on worked cases. The rules are this project's order of steps and its limits.
 use Rattle.std.proofs.Common.{◌≡◌, ◌++◌, ◌∷◌, [], ℕ, List, Some, None, Ok, Err, codes, inl, inr, map, refl, take, if◌then◌else◌}
 use Rattle.std.specs.Borrow.{Bor}
 use Rattle.std.specs.Str.{bytes_eq, chars, is_utf8}
@@ -19,25 +19,25 @@ use Rattle.oim_files.specs.Steps.{Stops, looking, metadata_steps, opening, param
 use Rattle.oim_files.specs.declared.early_fault.EarlyFault.TheVariants as early
 use Rattle.oim_files.specs.declared.early_fault.Source.TheVariants as source
 
--- a text, wherever it is in memory
+-- A text at any address in memory.
 abbrev word : List ℕ → Bor (List ℕ)
 word text = record { ref_ptr = (0, 0); now = text }
 
--- ---- the limits
+-- THE LIMITS
 
 limits : profile ≡ record { rows = 100_000_000; tables = 4_096; columns = 4_096; metadata = 67_108_864 }
 limits = refl
 
--- ---- the metadata
+-- THE METADATA
 
--- a report with these members
+-- A report with these members.
 abbrev csv_with : Members → Data
 csv_with members = object (member (codes "documentInfo") (object (member (codes "documentType") (string (codes "https://xbrl.org/2021/xbrl-csv")) no_members)) members)
 
 abbrev two_bytes : Limits
 two_bytes = record profile { metadata = 2 }
 
--- a metadata of as many bytes as the limit is read, one of more is not
+-- A metadata with as many bytes as the limit is read. One with more is not.
 metadata_at_the_limit : read_as {A = ℕ} two_bytes (λ _. Ok 0) (255 ∷ 255 ∷ []) ≡ Err refused.Syntax
 unfolding is_utf8 chars
 metadata_at_the_limit = refl
@@ -45,11 +45,11 @@ metadata_at_the_limit = refl
 metadata_past_the_limit : read_as {A = ℕ} two_bytes (λ _. Ok 0) (255 ∷ 255 ∷ 255 ∷ []) ≡ Err refused.TooLarge
 metadata_past_the_limit = refl
 
--- one byte past the limit is read, and no byte behind it
+-- One byte past the limit is read, and no byte after it.
 front_past_the_limit : front_within two_bytes (1 ∷ 2 ∷ 3 ∷ 4 ∷ []) ≡ 1 ∷ 2 ∷ 3 ∷ []
 front_past_the_limit = refl
 
--- a byte-order mark is passed over, and a text that is not UTF-8 is not JSON
+-- A byte-order mark is skipped, and a text that is not UTF-8 is not JSON.
 json_after_a_mark : json_of (239 ∷ 187 ∷ 191 ∷ codes "null") ≡ json_of (codes "null")
 unfolding is_utf8 chars encode
 json_after_a_mark = refl
@@ -70,9 +70,9 @@ named_file_above : url_in (csv_with (member (codes "parameterURL") (string (code
 unfolding has_no_report has_bad_parameter_url is_plain_path
 named_file_above = refl
 
--- ---- the files
+-- THE FILES
 
--- the first of two files with one path
+-- The first of two files with one path.
 first_files : map (first_at ((word (codes "a"), word (codes "1")) ∷ (word (codes "b"), word (codes "2")) ∷ (word (codes "a"), word (codes "3")) ∷ []))
     (codes "a" ∷ codes "b" ∷ codes "c" ∷ []) ≡ Some (codes "1") ∷ Some (codes "2") ∷ None ∷ []
 first_files = refl
@@ -93,7 +93,7 @@ wrong_types : reading {A = ReportValue} source.Types (Err refused.BadTypes)
     ≡ step (Some (early.Report source.Types refused.BadTypes)) (early.Report source.Types refused.Read ∷ early.Report source.Types refused.Memory ∷ [])
 wrong_types = refl
 
--- the types table is opened and read, and then the parameters file
+-- The types table is opened and read, and then the parameters file.
 unread_types : map (λ s. s.refusals) (types_steps held (codes "f/types.csv"))
     ≡ (early.Memory ∷ []) ∷ (early.Report source.Types refused.Read ∷ early.Report source.Types refused.Memory ∷ []) ∷ []
 unread_types = refl
@@ -117,7 +117,7 @@ missing_parameters = refl
 unread_metadata : map (λ s. s.refusals) (metadata_steps held (codes "f/m.json")) ≡ (early.Memory ∷ []) ∷ (early.Report source.Report refused.Read ∷ early.Memory ∷ []) ∷ []
 unread_metadata = refl
 
--- a run ends at the first file that is missing, or at a file that is there because memory runs out
+-- A run ends at the first file that is missing, or at a file that exists because memory runs out.
 stops_at_the_second : Stops (opening held (codes "f/m.json") ∷ opening held (codes "x.csv") ∷ []) (early.CannotRead (codes "x.csv"))
 stops_at_the_second =
     record { before = opening held (codes "f/m.json") ∷ []; here = opening held (codes "x.csv"); later = []; split = refl; passed = (refl, tt); ends = inl refl }
@@ -125,13 +125,14 @@ stops_at_the_second =
 stops_without_memory : Stops (opening held (codes "f/m.json") ∷ opening held (codes "x.csv") ∷ []) early.Memory
 stops_without_memory = record { before = []; here = opening held (codes "f/m.json"); later = opening held (codes "x.csv") ∷ []; split = refl; passed = tt; ends = inr (inl refl) }
 
--- ---- the order
+-- THE ORDER
 
--- a metadata that is not UTF-8 and so not JSON, and no other file
+-- A metadata that is not UTF-8 and so not JSON, and no other file.
 abbrev no_text : Files
 no_text path = if bytes_eq path (codes "f/m.json") then Some (255 ∷ []) else None
 
--- the metadata is opened and read, then the types table; then the metadata is looked at, for the parameters file and as a whole
+-- The metadata is opened and read, then the types table. Then the metadata is tested, for the name
+-- of the parameters file and as a whole.
 faults_in_order : map (λ s. s.fault) (steps no_text (codes "f/") (codes "f/m.json") (codes "x.csv"))
     ≡ None ∷ None ∷ Some (early.CannotRead (codes "x.csv")) ∷ Some (early.Report source.Types refused.BadTypes)
     ∷ Some (early.Report source.Report refused.Syntax) ∷ Some (early.Report source.Report refused.Syntax) ∷ []

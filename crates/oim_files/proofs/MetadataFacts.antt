@@ -1,4 +1,4 @@
--- The calls that read a metadata answer with its result as it is defined.
+-- The calls that read a metadata return its result as it is defined.
 use Rattle.std.proofs.Common.{◌≡◌, ◌∙◌, refl, sym, ap, arith, ℕ, ◌+◌, ◌<◌, ◌≤◌, ◌⊎◌, List, length, take, Bool, true, false, Option, Some, None, Result, Ok, Err, inl, inr, nat_lt}
 use Rattle.std.specs.Prelude.{if◌then◌else◌, codes}
 use Rattle.std.specs.Str.{is_utf8}
@@ -57,7 +57,7 @@ pub says_report : (limits : Limits) (given : ParametersValue) (types : TypesValu
 says_report limits given types bytes r h =
     reads_value limits (report_in limits given types) bytes h.1.0 h.0 h.1.1 ∙ ap (λ f. unless_fault f (report_of given types h.1.0)) h.1.2 ∙ ap Ok (sym h.1.3)
 
--- a fault of the value
+-- A fault of the value.
 has_first : {A : Type 0} (limits : Limits) (first : Data → Option MetaFault) (value : Data → A) (bytes : List ℕ) (f : MetaFault)
     → (length bytes ≤ limits.metadata) × ((d : Data) × IsJson bytes d × (first d ≡ Some f))
     → (f ≡ meta.Memory) ⊎ (read_as limits (λ d. unless_fault (first d) (value d)) bytes ≡ Err f)
@@ -83,7 +83,7 @@ url_fault limits bytes meta.BadParameter h = has_first limits first_url_fault (t
 url_fault limits bytes meta.BadTypes h = has_first limits first_url_fault (text_at (codes "parameterURL")) bytes meta.BadTypes h
 url_fault limits bytes meta.Read h = has_first limits first_url_fault (text_at (codes "parameterURL")) bytes meta.Read h
 
--- why no JSON is read from the bytes is why no URL is
+-- The fault of unread bytes is also the fault of their URL.
 pub unread_url : (limits : Limits) (bytes : List ℕ) (f : MetaFault) → IsUnread limits bytes f → (f ≡ meta.Memory) ⊎ (url_result limits bytes ≡ Err f)
 unread_url limits bytes f h = url_fault limits bytes f (url_of_unread limits bytes f h)
 
@@ -113,7 +113,7 @@ report_fault limits given types bytes meta.BadParameter h = has_first limits (fi
 report_fault limits given types bytes meta.BadTypes h = has_first limits (first_fault limits given types) (report_of given types) bytes meta.BadTypes h
 report_fault limits given types bytes meta.Read h = has_first limits (first_fault limits given types) (report_of given types) bytes meta.Read h
 
--- the report of a JSON value
+-- The report of a JSON value.
 module _ (limits : Limits) (given : ParametersValue) (types : TypesValue) (d : Data) where
   pub value_says : (r : ReportValue) → first_fault limits given types d ≡ None → r ≡ report_of given types d → report_in limits given types d ≡ Ok r
   value_says r sound is = ap (λ f. unless_fault f (report_of given types d)) sound ∙ ap Ok (sym is)
@@ -122,7 +122,7 @@ module _ (limits : Limits) (given : ParametersValue) (types : TypesValue) (d : D
   value_refuses (Found x) h = inr (ap (λ f. unless_fault f (report_of given types d)) (first_found limits given types d (Some x) h))
   value_refuses Memory h = inl refl
 
--- bytes past the limit do not matter
+-- Bytes past the limit do not matter.
 take_reads : {A : Type 0} (limits : Limits) (next : Data → Result A MetaFault) (bytes : List ℕ) (b : Bool) → nat_lt limits.metadata (length bytes) ≡ b
     → read_as limits next (front_within limits bytes) ≡ read_as limits next bytes
 take_reads limits next bytes true long =

@@ -1,4 +1,4 @@
--- The results of reading a metadata, as they are defined, hold just where the relations do by which the calls tell them.
+-- The defined results of reading a metadata agree with the relations in the contracts of the calls.
 use Rattle.std.proofs.Common.{◌≡◌, ◌∙◌, ap, sym, refl, arith, ℕ, ◌<◌, ◌≤◌, ◌⊎◌, List, [], ◌∷◌, length, Bool, true, false, Option, Some, None, Result, Ok, Err, inl, inr, nat_lt}
 use Rattle.std.specs.Prelude.{◌↔◌, if◌then◌else◌, codes, find}
 use Rattle.std.specs.Str.{is_utf8}
@@ -29,7 +29,7 @@ is_json bytes d h = by (is_utf8 (after_mark bytes)) refl h
 has_none : (bytes : List ℕ) → json_of bytes ≡ None → HasNoJson bytes
 has_none bytes h d is = let same : None ≡ Some d = sym h ∙ json_is bytes d is in absurd cc
 
--- what a metadata within the limit says, or why none is read
+-- The result of a metadata within the limit, or why none is read.
 module _ {A : Type 0} (limits : Limits) (first : Data → Option MetaFault) (value : Data → A) (bytes : List ℕ) where
   abbrev answer : Result A MetaFault
   answer = read_as limits (λ d. unless_fault (first d) (value d)) bytes
@@ -71,7 +71,7 @@ module _ {A : Type 0} (limits : Limits) (first : Data → Option MetaFault) (val
       by false e None j k = inr (inl (cc, omega (arith, ltb-false limits.metadata (length bytes) e), has_none bytes j))
       by false e (Some d) j k = inr (inr (omega (arith, ltb-false limits.metadata (length bytes) e), (d, is_json bytes d j, fault d (first d) refl k)))
 
-  -- a fault that no value has
+  -- A fault that no value has.
   never : (f : MetaFault) → ((d : Data) → first d ≡ Some f → ⊥) → HasFirst f → ⊥
   never f none h = none h.1.0 h.1.2
 
@@ -85,13 +85,13 @@ module _ {A : Type 0} (limits : Limits) (first : Data → Option MetaFault) (val
   no_json none (inr (inl h)) = (h.1, h.2)
   no_json none (inr (inr h)) = absurd (never meta.Syntax none h)
 
-  -- a fault of the value
+  -- A fault of the value.
   other : (f : MetaFault) → (f ≡ meta.TooLarge → ⊥) → (f ≡ meta.Syntax → ⊥) → Refuses f → HasFirst f
   other f l s (inl h) = absurd (l h.0)
   other f l s (inr (inl h)) = absurd (s h.0)
   other f l s (inr (inr h)) = h
 
--- what a search finds passes its test
+-- The item that a search finds passes its test.
 found_has : (p : MetaFault → Bool) (xs : List MetaFault) (f : MetaFault) → find p xs ≡ Some f → p f ≡ true
 found_has p [] f found = absurd cc
 found_has p (x ∷ xs) f found = at (p x) refl found (λ k. found_has p xs f k)

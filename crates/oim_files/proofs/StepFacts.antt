@@ -1,4 +1,4 @@
--- What the steps of a run give, from the answers of the calls in them.
+-- The results of the steps of a run, from the results of the calls in them.
 use Rattle.std.proofs.Common.{
   ◌≡◌,
   ◌∙◌,
@@ -53,7 +53,8 @@ pub passes_both : (xs ys : List Step) → Passes xs → Passes ys → Passes (xs
 passes_both [] ys p q = q
 passes_both (x ∷ xs) ys p q = (p.0, passes_both xs ys p.1 q)
 
--- a run that ends at a step ends the same way with more steps after it, and with steps before it that have no fault
+-- A run that ends at a step ends the same way with more steps after it, and with steps before it
+-- that have no fault.
 pub stops_first : (xs ys : List Step) (o : EarlyFault) → Stops xs o → Stops (xs ++ ys) o
 stops_first xs ys o s =
     record {
@@ -81,7 +82,7 @@ stops_at here later o ends = record { before = []; here = here; later = later; s
 
 -- ONE STEP
 
--- a file that was opened, or not
+-- A file that was opened, or not.
 opened_by : {R : Type 0} (told : R → Option (List ℕ)) (r : R) (path : List ℕ) (file : Option (List ℕ)) → IsFileOf told (Some r) file
     → Passes (step (missing path file) (early.Memory ∷ []) ∷ []) × (told r ≡ Some (unwrap_or file []))
 opened_by told r path None h = absurd h
@@ -117,7 +118,7 @@ ok_no_err a b e = cc
 err_same : {A B : Type 0} (a b : B) → is_same {A = A} (Err a) (Err b) → a ≡ b
 err_same a b e = cc
 
--- the reader of a file tells the bytes of the file
+-- The reader of a file has the bytes of the file.
 abbrev pub IsOpened : {R : Type 0} → (R → Option (List ℕ)) → R → Files → List ℕ → Type 0
 IsOpened told r files path = Passes (opening files path ∷ []) × (told r ≡ Some (bytes_at files path))
 
@@ -152,7 +153,7 @@ module _ {R A : Type 0} (told : R → Option (List ℕ)) (r : R) (s : Source) (r
       (stops_at (reading s (read (bytes_at files path))) [] o
       (fault_read f (read (bytes_at files path)) (subst (λ k. IfSome k (λ bytes. OrOutside {A = A} (Err f) (read bytes))) is.1 answer)))
 
--- a file that was not opened is not read
+-- A file that was not opened is not read.
 pub reads_none : {A : Type 0} (s : Source) (read : List ℕ → Result A MetaFault) (known : Option Files) (path : List ℕ) (o : EarlyFault) → IfSome known (λ files. Stops (opening files path ∷ []) o)
     → IfSome known (λ files. Stops (opening files path ∷ reading s (read (bytes_at files path)) ∷ []) o)
 reads_none s read None path o stop = tt
@@ -183,7 +184,7 @@ pub metadata_none : (known : Option Files) (path : List ℕ) (o : EarlyFault) �
 metadata_none None path o s = tt
 metadata_none (Some files) path o s = stops_first (opening files path ∷ []) (step None unread ∷ []) o s
 
--- a reader read up to the limit
+-- A reader read up to the limit.
 pub read_most : {R : Type 0} (told : R → Option (List ℕ)) (r inner : R) (limit : ℕ) (start items : List ℕ) → inner ≡ r → limit ≡ most → start ≡ []
     → IfSome (option_map (take limit) (told inner)) (λ xs. items ≡ start ++ xs) → IfSome (told r) (λ bytes. items ≡ front_within profile bytes)
 read_most told r inner limit start items same is empty h =
@@ -195,7 +196,7 @@ read_most told r inner limit start items same is empty h =
     most_of None e = tt
     most_of (Some bytes) e = e
 
--- LOOKING AT WHAT WAS READ
+-- TESTS OF WHAT WAS READ
 
 module _ {A : Type 0} (answer : Result A MetaFault) where
   pub looks_value : (a : A) → answer ≡ Ok a → TakesTo {X = A} (looking answer ∷ []) answer (Ok a)
@@ -207,7 +208,7 @@ module _ {A : Type 0} (answer : Result A MetaFault) where
 
 -- ALL STEPS
 
--- the steps after the first ones
+-- The steps after the first ones.
 abbrev from_report : Files → (base meta types : List ℕ) → List Step
 from_report files base meta types = looking (report_at files base meta types) ∷ []
 
@@ -265,7 +266,7 @@ module _ (files : Files) (base meta types : List ℕ) where
       (stops_first (parameters_steps files base (value_or None (url_at files meta))) (from_report files base meta types) o
       (subst (λ u. Stops (parameters_steps files base u) o) (sym (url_named files meta items url read.1 named.1)) s))))
 
-  -- the report, from the parts that were read
+  -- The report, from the parts that were read.
   report_same : (items : List ℕ) (known : TypesValue) (url : Option (List ℕ)) (given : ParametersValue) → HasRead files meta items
       → HasTypes files types known → HasUrl items url → HasParameters files base url given
       → report_result profile given known items ≡ report_at files base meta types
@@ -305,7 +306,7 @@ module _ (files : Files) (base meta types : List ℕ) where
           (stops_later (looking (url_at files meta) ∷ []) (from_parameters files base meta types) o looked
           (stops_later (parameters_steps files base (value_or None (url_at files meta))) (from_report files base meta types) o found takes)))
 
--- the same, for a folder that tells its files
+-- The same, for a folder whose files are known.
 pub metadata_stop : (told : Option Files) (base meta types : List ℕ) (o : EarlyFault) → IfSome told (λ files. Stops (metadata_steps files meta) o)
     → IfSome told (λ files. GivesReport files base meta types (Err o))
 metadata_stop None base meta types o s = tt

@@ -1,5 +1,5 @@
--- The steps in which a report is read before its tables, in order, and the report that the files of a folder give.
--- xBRL-CSV 1.0 (the metadata, the parameters file).
+-- The steps that read a report before its tables, in order, and the report that the files of a
+-- folder give. xBRL-CSV 1.0 (the metadata, the parameters file).
 use Rattle.std.specs.Prelude.{⊤, ◌≡◌, ◌⊎◌, ℕ, List, [], ◌∷◌, ◌++◌, Option, Some, None, Result, Ok, Err, unwrap_or}
 use Rattle.oim_records.specs.Grids.{grid}
 use Rattle.oim_report.specs.Parameters.{ParametersValue}
@@ -16,34 +16,34 @@ use Rattle.oim_files.specs.declared.early_fault.EarlyFault.TheVariants as early
 use Rattle.oim_files.specs.declared.early_fault.Source.{Source}
 use Rattle.oim_files.specs.declared.early_fault.Source.TheVariants as source
 
--- ---- what the files say
+-- THE VALUES OF THE FILES
 
--- the bytes of the file at a path
+-- The bytes of the file at a path.
 abbrev pub bytes_at : Files → List ℕ → List ℕ
 bytes_at files path = unwrap_or (files path) []
 
--- as much of the metadata at a path as is read
+-- The prefix of the metadata at a path that is read.
 abbrev pub front_at : Files → List ℕ → List ℕ
 front_at files meta = front_within profile (bytes_at files meta)
 
--- the value of a file, or an empty one if it has a fault
+-- The value of a file, or an empty one if it has a fault.
 abbrev pub value_or : {A : Type 0} → A → Result A MetaFault → A
 value_or empty (Ok a) = a
 value_or empty (Err f) = empty
 
--- the types table
+-- The types table.
 abbrev pub types_at : Files → List ℕ → Result TypesValue MetaFault
 types_at files types = types_result (grid (bytes_at files types))
 
--- the URL of the parameters file, if a metadata of these bytes has one
+-- The URL of the parameters file, if a metadata of these bytes has one.
 abbrev pub url_of : List ℕ → Result (Option (List ℕ)) MetaFault
 url_of bytes = url_result profile bytes
 
--- the same of the metadata at a path
+-- The same for the metadata at a path.
 abbrev pub url_at : Files → List ℕ → Result (Option (List ℕ)) MetaFault
 url_at files meta = url_of (bytes_at files meta)
 
--- the parameters, or none if no file is named
+-- The parameters; empty if no file is named.
 abbrev pub parameters_at : Files → List ℕ → Option (List ℕ) → Result ParametersValue MetaFault
 parameters_at files base None = Ok []
 parameters_at files base (Some url) = parameters_result (grid (bytes_at files (base ++ url)))
@@ -51,14 +51,15 @@ parameters_at files base (Some url) = parameters_result (grid (bytes_at files (b
 abbrev pub parameters_of : Files → (base meta : List ℕ) → ParametersValue
 parameters_of files base meta = value_or [] (parameters_at files base (value_or None (url_at files meta)))
 
--- the report
+-- The report.
 abbrev pub report_at : Files → (base meta types : List ℕ) → Result ReportValue MetaFault
 report_at files base meta types = report_result profile (parameters_of files base meta) (value_or [] (types_at files types)) (bytes_at files meta)
 
--- ---- the steps
+-- THE STEPS
 
--- a step: the early fault that names the fault of the files at this step, if they have one, and the early faults that are possible whatever the
--- files hold, since a read may fail and memory may run out
+-- A step: the early fault that names the fault of the files at this step, if they have one. The
+-- refusals are the early faults that are possible whatever the files have, because a read may fail
+-- and memory may run out.
 pub record Step : Type 0 where
   pub fault : Option EarlyFault
   pub refusals : List EarlyFault
@@ -66,12 +67,12 @@ pub record Step : Type 0 where
 abbrev pub step : Option EarlyFault → List EarlyFault → Step
 step fault refusals = record { fault = fault; refusals = refusals }
 
--- there is no file
+-- The file does not exist.
 abbrev pub missing : List ℕ → Option (List ℕ) → Option EarlyFault
 missing path None = Some (early.CannotRead path)
 missing path (Some bytes) = None
 
--- the file of this source has a fault
+-- The file of this source has a fault.
 abbrev pub wrong : {A : Type 0} → Source → Result A MetaFault → Option EarlyFault
 wrong s (Ok a) = None
 wrong s (Err f) = Some (early.Report s f)
@@ -82,7 +83,7 @@ opening files path = step (missing path (files path)) (early.Memory ∷ [])
 abbrev pub reading : {A : Type 0} → Source → Result A MetaFault → Step
 reading s answer = step (wrong s answer) (early.Report s refused.Read ∷ early.Report s refused.Memory ∷ [])
 
--- the metadata that was read is looked at, and no file is read
+-- The metadata is in memory: this step reads no file.
 abbrev pub looking : {A : Type 0} → Result A MetaFault → Step
 looking answer = step (wrong source.Report answer) (early.Report source.Report refused.Memory ∷ [])
 
@@ -96,8 +97,8 @@ abbrev pub parameters_steps : Files → List ℕ → Option (List ℕ) → List 
 parameters_steps files base None = []
 parameters_steps files base (Some url) = opening files (base ++ url) ∷ reading source.Parameters (parameters_at files base (Some url)) ∷ []
 
--- the metadata is read, then the types table; then the parameters file's URL is looked up and that file is read; last, the report is made
--- from the metadata
+-- The metadata is read, then the types table. Then the parameters file's URL is looked up and that
+-- file is read. Last, the report is made from the metadata.
 abbrev pub steps : Files → (base meta types : List ℕ) → List Step
 steps files base meta types =
     metadata_steps files meta
@@ -106,18 +107,18 @@ steps files base meta types =
     ++ (parameters_steps files base (value_or None (url_at files meta))
     ++ looking (report_at files base meta types) ∷ [])))
 
--- ---- how they are taken
+-- TAKING THE STEPS
 
 abbrev pub IsAmong : EarlyFault → List EarlyFault → Type 0
 IsAmong o [] = ⊥
 IsAmong o (x ∷ xs) = (o ≡ x) ⊎ IsAmong o xs
 
--- none of the steps has a fault
+-- None of the steps has a fault.
 abbrev pub Passes : List Step → Type 0
 Passes [] = ⊤
 Passes (s ∷ later) = (s.fault ≡ None) × Passes later
 
--- reading ends at a step, by its fault or by one of its refusals, and no step before it has a fault
+-- Reading ends at a step, with its fault or one of its refusals. No step before it has a fault.
 pub record Stops (steps : List Step) (o : EarlyFault) : Type 0 where
   pub before : List Step
   pub here : Step
@@ -126,23 +127,23 @@ pub record Stops (steps : List Step) (o : EarlyFault) : Type 0 where
   pub passed : Passes before
   pub ends : (here.fault ≡ Some o) ⊎ IsAmong o here.refusals
 
--- all steps passed and the value is right, or reading ends at one of them
+-- All steps passed and the value is right, or reading ends at one of them.
 abbrev pub Takes : {X : Type 0} → List Step → (X → Type 0) → Result X EarlyFault → Type 0
 Takes steps right (Ok x) = Passes steps × right x
 Takes steps right (Err o) = Stops steps o
 
--- the same of the value that what was read gives
+-- The same, for a value that is given as a result.
 abbrev pub TakesTo : {X : Type 0} → List Step → Result X MetaFault → Result X EarlyFault → Type 0
 TakesTo {X} steps answer result = Takes {X = X} steps (λ x. answer ≡ Ok x) result
 
--- what the types table gives, or the step at which reading it ends
+-- The types of the types table, or the step at which reading it ends.
 abbrev pub IsTypes : Files → List ℕ → Result TypesValue EarlyFault → Type 0
 IsTypes files types result = TakesTo (types_steps files types) (types_at files types) result
 
--- what the parameters file gives, or the step at which reading it ends
+-- The parameters of the parameters file, or the step at which reading it ends.
 abbrev pub IsParameters : Files → List ℕ → Option (List ℕ) → Result ParametersValue EarlyFault → Type 0
 IsParameters files base url result = TakesTo (parameters_steps files base url) (parameters_at files base url) result
 
--- the report that the files give, or the step at which reading them ends
+-- The report that the files give, or the step at which reading them ends.
 abbrev pub GivesReport : Files → (base meta types : List ℕ) → Result ReportValue EarlyFault → Type 0
 GivesReport files base meta types result = TakesTo (steps files base meta types) (report_at files base meta types) result

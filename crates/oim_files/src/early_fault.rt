@@ -17,9 +17,11 @@ pub enum Source {
 /// Why the files of a folder give no report.
 #[derive(Drop)]
 pub enum EarlyFault {
-    /// The metadata, the parameters file or the types table has a fault, or was not read to its end.
+    /// The metadata, the parameters file or the types table has a fault, or was not read to its
+    /// end.
     Report(Source, MetaFault),
-    /// The metadata, the types table or the parameters file, which is at this path, cannot be opened.
+    /// The metadata, the types table or the parameters file, which is at this path, cannot be
+    /// opened.
     CannotRead(Text),
     /// Memory ran out.
     Memory,

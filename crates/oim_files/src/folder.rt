@@ -8,18 +8,21 @@ use std::io::Read;
 
 /// Files by their paths. Opening a file changes none of them.
 pub trait Folder<R: Read> {
-    /// The bytes of the file at each path, if the folder tells them.
+    /// The bytes of the file at each path, if they are known.
     ghost files: { Self → Option (List ℕ → Option (List ℕ)) } = { λ _. None };
 
-    /// Opens the file at the path: gives a reader of exactly its bytes, or `None` exactly if there is no
-    /// such file.
+    /// Opens the file at the path.
+    ///
+    /// Returns a reader of exactly its bytes, or `None` exactly if the file does not exist.
     fn open(&mut self, path: &str) -> Option<R>
         ensures same { files self.new ≡ files self.old }
         ensures opens { IfSome (files self.old) (λ at. IsFileOf R.remaining result (at path.now)) };
 
-    /// Looks for the file at the path: gives a reader of exactly its bytes, or `None` exactly if there is
-    /// no such file. It opens the file, unless the folder has a way of its own: then the reader may open
-    /// it at its first read, so that not all files are open at once.
+    /// Finds the file at the path.
+    ///
+    /// Returns a reader of exactly its bytes, or `None` exactly if the file does not exist. By
+    /// default it opens the file. A folder may do it another way: its reader may open the file at
+    /// the first read, so that not all files are open at once.
     fn find(&mut self, path: String) -> Option<R>
         ensures same { files self.new ≡ files self.old }
         ensures finds { IfSome (files self.old) (λ at. IsFileOf R.remaining result (at (string_bytes path))) }
@@ -35,7 +38,7 @@ pub struct Texts<'a> {
     pub files: &'a [(&'a str, &'a [u8])],
 }
 
-/// The bytes of the first file with this path.
+/// Returns the bytes of the first file with this path.
 fn bytes_at<'a>(files: &'a [(&'a str, &'a [u8])], path: &str) -> Option<&'a [u8]>
     ensures { option_map (λ b. b.now) result ≡ first_at files.now path.now }
 {
@@ -59,8 +62,8 @@ impl<'a> Folder<&'a [u8]> for Texts<'a> {
     }
 }
 
-/// The folder of the file at a path: the path up to and including its last `/`, or the empty text if it
-/// has none.
+/// Returns the folder of the file at a path: the path up to and including its last `/`, or the
+/// empty text if it has none.
 pub fn folder_of(path: &str) -> &str
     ensures { IsFolderOf result.now path.now }
 {

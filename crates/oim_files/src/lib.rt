@@ -1,17 +1,19 @@
 //! The files of a report in a folder, and the report that they give.
 //!
-//! What is proved, of any folder that tells its files honestly:
+//! What is proved, for any folder whose files are known (`Folder::files`):
 //!
-//! - `report_of` gives the report that the files define, or the first fault in the order in which they are read: the
-//!   metadata, up to one byte past the limit, the types table, the parameters file that the metadata names, and
-//!   last the report that the metadata says (`specs/Steps.antt`). Only a read that fails or memory that runs out
-//!   may end it elsewhere, at a step that can end so: then it is `Read` with the source of that step's file, or `Memory`;
-//! - `metadata_at`, `types_in`, `url_in` and `parameters_in` are its steps one by one, with the same clauses;
-//! - `folder_of` gives a path up to and including its last `/`, and `path_in` the path of a file in a folder
-//!   (`specs/Folders.antt`);
-//! - no step changes a file.
+//! - `report_of` returns the report that the files define, or the first fault in the order in which
+//!   they are read (`specs/Steps.antt`). It reads the metadata, up to one byte past the limit, the
+//!   types table and the parameters file that the metadata names. Last it makes the report of the
+//!   metadata. Only a failed read or running out of memory may end it elsewhere, at a step where
+//!   that is possible: with `Read` and the source of that step's file, or with `Memory`.
+//! - `metadata_at`, `types_in`, `url_in` and `parameters_in` are its steps one by one, with the
+//!   same clauses.
+//! - `folder_of` returns a path up to and including its last `/`, and `path_in` the path of a file
+//!   in a folder (`specs/Folders.antt`).
+//! - No step changes a file.
 //!
-//! A call:
+//! Example:
 //!
 //! ```
 //! /// Whether the files of a folder give a report of one table.

@@ -1,5 +1,5 @@
-//! The steps in which a report is read from its files. Each step reads a file, or fails with the early fault that
-//! names the file and its fault.
+//! The steps that read a report from its files. Each step reads a file, or fails with the early
+//! fault that names the file and its fault.
 
 ghost use Rattle.std.specs.Prelude.{◌≡◌, ◌≢◌, ◌⊎◌, ◌++◌, [], ◌∷◌, IfErr, IfOk, IfSome, Ok, Some, option_map, string_bytes};
 ghost use Rattle.std.specs.IoError.{error_kind};
@@ -22,7 +22,7 @@ use std::alloc::{AllocError, Global};
 use std::io;
 use std::io::{ErrorKind, Read};
 
-/// The path of a file in the report's folder. Fails if memory runs out.
+/// Returns the path of a file in the report's folder.
 pub fn path_in(alloc: Global, base: &str, url: &str) -> Result<String, AllocError>
     ensures { IfOk result (λ s. string_bytes s ≡ base.now ++ url.now) }
 {
@@ -31,7 +31,7 @@ pub fn path_in(alloc: Global, base: &str, url: &str) -> Result<String, AllocErro
     Ok(path)
 }
 
-/// That the file at this path cannot be opened.
+/// Returns the fault that the file at this path cannot be opened, or `Memory`.
 fn cannot_read(alloc: Global, path: &str) -> EarlyFault
     ensures { (result ≡ early.CannotRead path.now) ⊎ (result ≡ early.Memory) }
 {
@@ -41,7 +41,7 @@ fn cannot_read(alloc: Global, path: &str) -> EarlyFault
     }
 }
 
-/// A reader of the file at a path.
+/// Opens the file at a path.
 fn opened<R: Read + Drop, F: Folder<R>>(
     alloc: Global,
     folder: &mut F,
@@ -57,7 +57,7 @@ fn opened<R: Read + Drop, F: Folder<R>>(
     }
 }
 
-/// Why the metadata was not read to its end.
+/// Returns why the metadata was not read to its end.
 fn unread(error: io::Error) -> EarlyFault
     ensures memory { error_kind error ≡ ErrorKind.OutOfMemory → result ≡ early.Memory }
     ensures read { error_kind error ≢ ErrorKind.OutOfMemory → result ≡ early.Report source.Report refused.Read }
@@ -69,7 +69,7 @@ fn unread(error: io::Error) -> EarlyFault
     }
 }
 
-/// The bytes of a metadata, up to one byte past the limit.
+/// Reads a metadata, up to one byte past the limit.
 fn bytes_of<R: Read + Drop>(alloc: Global, reader: R) -> Result<Vec<u8>, EarlyFault>
     ensures bytes { IfSome (R.remaining reader) (λ bytes. IfOk result (λ v. v.items ≡ front_within profile bytes)) }
     ensures refused { IfErr result (λ e. IsAmong e (early.Report source.Report refused.Read ∷ early.Memory ∷ [])) }
@@ -82,7 +82,7 @@ fn bytes_of<R: Read + Drop>(alloc: Global, reader: R) -> Result<Vec<u8>, EarlyFa
     }
 }
 
-/// The bytes of the metadata file, up to one byte past the limit.
+/// Reads the metadata file, up to one byte past the limit.
 pub fn metadata_at<R: Read + Drop, F: Folder<R>>(
     alloc: Global,
     folder: &mut F,
@@ -97,7 +97,7 @@ pub fn metadata_at<R: Read + Drop, F: Folder<R>>(
     }
 }
 
-/// The types of the types table.
+/// Reads the types table.
 pub fn types_in<R: Read + Drop, F: Folder<R>>(
     alloc: Global,
     folder: &mut F,
@@ -116,7 +116,7 @@ pub fn types_in<R: Read + Drop, F: Folder<R>>(
     }
 }
 
-/// The parameters of the file whose path is `base` followed by its URL.
+/// Reads the parameters file whose path is `base` followed by `url`.
 fn parameters_of<R: Read + Drop, F: Folder<R>>(
     alloc: Global,
     folder: &mut F,
@@ -139,7 +139,7 @@ fn parameters_of<R: Read + Drop, F: Folder<R>>(
     }
 }
 
-/// The parameters of the named parameters file, or no parameters if no file is named.
+/// Reads the parameters file with this URL. Returns no parameters if there is no URL.
 pub fn parameters_in<R: Read + Drop, F: Folder<R>>(
     alloc: Global,
     folder: &mut F,
@@ -155,7 +155,7 @@ pub fn parameters_in<R: Read + Drop, F: Folder<R>>(
     }
 }
 
-/// A string as a text, if there is one. It takes no memory.
+/// Converts a string to a text, if there is one.
 fn text_of(string: Option<String>) -> Option<Text>
     ensures { result ≡ option_map string_bytes string }
 {
@@ -165,7 +165,7 @@ fn text_of(string: Option<String>) -> Option<Text>
     }
 }
 
-/// The URL of the parameters file, if the metadata has one.
+/// Returns the URL of the parameters file, if the metadata has one.
 pub fn url_in(alloc: Global, metadata: &[u8]) -> Result<Option<Text>, EarlyFault>
     ensures gives { TakesTo (looking (url_of metadata.now) ∷ []) (url_of metadata.now) result }
 {
@@ -175,7 +175,8 @@ pub fn url_in(alloc: Global, metadata: &[u8]) -> Result<Option<Text>, EarlyFault
     }
 }
 
-/// The metadata that has these bytes, and the URL of its parameters file, if it has one. The bytes are let go.
+/// Returns the metadata that has these bytes, and the URL of its parameters file, if it has one.
+/// Drops the bytes.
 fn metadata_in(alloc: Global, bytes: Vec<u8>) -> Result<(Metadata, Option<Text>), EarlyFault>
     ensures gives { Takes (looking (url_of bytes.items) ∷ []) (λ m. Reads profile bytes.items (view m.0) × (url_of bytes.items ≡ Ok m.1)) result }
 {
@@ -189,7 +190,7 @@ fn metadata_in(alloc: Global, bytes: Vec<u8>) -> Result<(Metadata, Option<Text>)
     }
 }
 
-/// The report of a metadata, with its parameters and its types.
+/// Makes the report of a metadata, with its parameters and its types.
 fn report_in(
     alloc: Global,
     metadata: Metadata,
@@ -204,12 +205,13 @@ fn report_in(
     }
 }
 
-/// The report that the files of a folder give: the metadata at `meta`, with the types table at `types`
-/// and the parameters file that the metadata names, whose path is `base` followed by its URL. Fails with
-/// the early fault that names the first fault, in the order in which the files are read: first the metadata,
-/// up to one byte past the limit, then the types table, then the parameters file; last, the report is
-/// made from the metadata. A read that fails or memory that runs out may end it at an earlier step, or in place of
-/// that step's fault: with `Read` (17) and the source of its file, or with `Memory`.
+/// Returns the report that the files of a folder give: the metadata at `meta`, the types table at
+/// `types`, and the parameters file that the metadata names, at `base` followed by its URL.
+///
+/// Fails with the early fault that names the first fault, in this order: the metadata, up to one
+/// byte past the limit, then the types table, then the parameters file; last, the report is made
+/// from the metadata. A failed read gives `Read` (17) with the source of its file, and running out
+/// of memory gives `Memory`. Either may end it at an earlier step, or instead of that step's fault.
 pub fn report_of<R: Read + Drop, F: Folder<R>>(
     alloc: Global,
     folder: &mut F,

@@ -1,4 +1,4 @@
--- Texts of facts, each behind a comma, and where each ends.
+-- Texts of facts, each after a comma, and where each ends.
 use Rattle.std.proofs.Common.{◌≡◌, ℕ, zero, suc, ◌+◌, ◌-◌, ◌≤◌, ◌<◌, List, [], ◌∷◌, ◌++◌, length, take, drop, get_or, slice_get}
 use Rattle.std.proofs.Common.{Some, None, option_map, inl, inr, ◌⊎◌, refl, ap, sym, ◌∙◌, arith, append-nil, append_assoc, length-append}
 use Rattle.std.specs.List.{slice_range}
@@ -19,14 +19,14 @@ pub texts_one : (f : Fact) → behind_commas (f ∷ []) ≡ behind_comma f
 unfolding behind_commas
 texts_one f = append-nil (behind_comma f)
 
--- the texts of a block: all joined by commas, behind one
+-- The texts of a block: a comma, then all texts joined by commas.
 pub texts_joined : (fs : List Fact) → 1 ≤ length fs → behind_commas fs ≡ 44 ∷ facts_text fs
 unfolding behind_commas facts_text
 texts_joined [] h = absurd (omega (arith, h))
 texts_joined (f ∷ []) h = ap (λ t. 44 ∷ t) (append-nil (member_text f))
 texts_joined (f ∷ g ∷ gs) h = ap (λ t. 44 ∷ (member_text f ++ t)) (texts_joined (g ∷ gs) (omega arith))
 
--- each fact takes a byte at least
+-- Each fact takes at least one byte.
 pub facts_within : (fs : List Fact) → length fs ≤ length (behind_commas fs)
 unfolding behind_commas
 facts_within [] = omega arith
@@ -49,7 +49,7 @@ unfolding ends_from
 ends_length n [] = refl
 ends_length n (f ∷ fs) = ap suc (ends_length (n + length (behind_comma f)) fs)
 
--- where the fact at a place ends
+-- Where the fact at an index ends.
 pub ends_at : (n : ℕ) (fs : List Fact) (i d : ℕ) → i < length fs → get_or (ends_from n fs) i d ≡ n + length (behind_commas (take (i + 1) fs))
 unfolding behind_commas ends_from
 ends_at n [] i d h = absurd (omega (arith, h))
@@ -61,7 +61,7 @@ ends_at n (f ∷ fs) (suc i) d h =
     let there : (n + length (behind_comma f)) + length rest ≡ n + length (behind_comma f ++ rest) = omega (arith, length-append (member_text f) rest) in
     rw one (more ∙ there)
 
--- one more fact
+-- One more fact.
 pub texts_push : (fs : List Fact) (f : Fact) → behind_commas (fs ++ f ∷ []) ≡ behind_commas fs ++ (44 ∷ member_text f)
 texts_push fs f = texts_append fs (f ∷ []) ∙ ap (λ t. behind_commas fs ++ t) (texts_one f)
 
@@ -71,11 +71,11 @@ ends_push n fs f =
     omega (arith, length-append (behind_commas fs) (behind_comma f), ap length (texts_push fs f)) in
     ends_append n fs (f ∷ []) ∙ ap (λ t. ends_from n fs ++ t) (ends_one (n + length (behind_commas fs)) f ∙ ap (λ k. k ∷ []) there)
 
--- the texts before a place, and those from there on
+-- The texts before an index, and those from it on.
 pub texts_cut : (n : ℕ) (fs : List Fact) → behind_commas fs ≡ behind_commas (take n fs) ++ behind_commas (drop n fs)
 texts_cut n fs = ap behind_commas (sym (take-append-drop n fs)) ∙ texts_append (take n fs) (drop n fs)
 
--- the text of one fact, out of those of all
+-- The text of one fact, taken from those of all.
 cut_out : (before text after : List ℕ) (a b : ℕ) → a ≡ length before + 1 → b ≡ a + length text → slice_range ((before ++ (44 ∷ text)) ++ after) a b ≡ text
 cut_out before text after a b from to =
     let long : length text ≡ b - a = omega arith in
@@ -93,7 +93,7 @@ text_at fs i f a b at from to =
     let end : b ≡ a + length (member_text f) = omega (arith, to, from, ap length upto, length-append before (44 ∷ member_text f)) in
     ap (λ t. slice_range t a b) all ∙ cut_out before (member_text f) (behind_commas (drop (i + 1) fs)) a b from end
 
--- how far the texts before a place reach
+-- The length of the texts before an index.
 pub texts_within : (n : ℕ) (fs : List Fact) → length (behind_commas (take n fs)) ≤ length (behind_commas fs)
 texts_within n fs = omega (arith, ap length (texts_cut n fs), length-append (behind_commas (take n fs)) (behind_commas (drop n fs)))
 
@@ -109,7 +109,7 @@ read_start fs ends i v is h some got =
     let one : (i - 1) + 1 ≡ i = omega arith in
     read_end fs ends (i - 1) v is (omega arith) got ∙ ap (λ k. length (behind_commas (take k fs))) one
 
--- one more fact is written behind a comma, and its end noted
+-- One more fact is written after a comma, and its end recorded.
 pub written_one : (fs : List Fact) (i : ℕ) (f : Fact) (bytes opened written : List ℕ) → i < length fs → f ≡ get_or fs i f → bytes ≡ behind_commas (take i fs) → opened ≡ bytes ++ 44 ∷ []
     → written ≡ opened ++ member_text f → written ≡ behind_commas (take (i + 1) fs)
 written_one fs i f bytes opened written h is so first then =
@@ -136,7 +136,7 @@ text_got fs bytes got i a b is h from to cut = by (slice_get_cases fs i).1
         ap (option_map member_text) at ∙ ap (λ t. Some t) (sym (text_at fs i f a b at from to) ∙ ap (λ t. slice_range t a b) (sym is) ∙ sym cut)
     by (inr (past, none)) = absurd (omega arith)
 
--- a text ends behind its beginning, and no later than all of them
+-- A text ends after its start, and no later than all of them.
 pub text_between : (fs : List Fact) (i a b : ℕ) → i < length fs → a ≡ length (behind_commas (take i fs)) + 1 → b ≡ length (behind_commas (take (i + 1) fs)) → (a ≤ b) × (b ≤ length (behind_commas fs))
 text_between fs i a b h from to = by (slice_get_cases fs i).1
   where

@@ -1,4 +1,4 @@
--- The worked texts of facts, of the head and of documents.
+-- Worked texts of facts, of the head and of documents (xBRL-JSON 1.0).
 use Rattle.std.proofs.Common.{◌≡◌, ◌∙◌, ◌<◌, ℕ, suc, List, Result, [], ◌∷◌, ◌++◌, Some, None, Ok, Err, true, false, ap, arith, length, sym, refl, codes, negsuc}
 use Rattle.std.specs.List.{list_all}
 use Rattle.std.specs.Str.{bytes_eq}
@@ -48,7 +48,7 @@ note_text : member_text note ≡ codes "\"t1.r_1.note\":{\"dimensions\":{\"conce
 unfolding note escaped_byte quoted value_text dimension_text decimals_text member_text
 note_text = refl
 
--- decimals below zero, a nil value and a nil dimension
+-- Decimals below zero, a nil value and a nil dimension.
 other : Fact
 other = record { id = codes "a.1.b"; value = None; decimals = Some (negsuc 1); dimensions = (codes "eg:Branch", None) ∷ [] }
 
@@ -56,12 +56,13 @@ other_text : member_text other ≡ codes "\"a.1.b\":{\"decimals\":-2,\"dimension
 unfolding digits other escaped_byte quoted value_text dimension_text decimals_text member_text
 other_text = refl
 
--- what is escaped
+-- What is escaped.
 escapes : quoted (codes "say \"hi\" \\" ++ 10 ∷ 195 ∷ 169 ∷ 1 ∷ []) ≡ codes "\"say \\\"hi\\\" \\\\\\n" ++ 195 ∷ 169 ∷ codes "\\u0001\""
 unfolding escaped_byte quoted
 escapes = refl
 
--- control characters, by their short forms or by four digits; the blank and the byte 127 stand for themselves
+-- Control characters, by their short forms or by four digits. The blank and the byte 127 need no
+-- escape.
 controls : quoted (8 ∷ 9 ∷ 12 ∷ 13 ∷ 16 ∷ 31 ∷ 32 ∷ 127 ∷ []) ≡ codes "\"\\b\\t\\f\\r\\u0010\\u001f " ++ 127 ∷ codes "\""
 unfolding escaped_byte quoted
 controls = refl
@@ -90,7 +91,8 @@ sample_head : head_text sample
 unfolding sample escaped_byte quoted namespace_text base_url_text head_text
 sample_head = refl
 
--- bytes that stand for themselves, past ASCII too, and those that do not: a quote, a backslash, a line feed
+-- Bytes that need no escape, non-ASCII ones too, and those that do: a quote, a backslash, a line
+-- feed.
 stands_for_itself : list_all is_unescaped (codes "a b/9é~") ≡ true
 stands_for_itself = refl
 
@@ -106,21 +108,21 @@ line_feed_escaped = refl
 last_control_escaped : list_all is_unescaped (31 ∷ []) ≡ false
 last_control_escaped = refl
 
--- what stands behind the facts, and before those behind others
+-- The text after the facts, and the text before facts that follow others.
 tail : (tail_text Compact ≡ codes "}}" ++ 10 ∷ []) × (tail_text Lines ≡ 10 ∷ codes "}}" ++ 10 ∷ [])
 tail = (refl, refl)
 
 commas : (piece true (codes "a") ≡ codes ",a") × (piece false (codes "a") ≡ codes "a") × (comma_before 0 ≡ []) × (comma_before 2 ≡ codes ",")
 commas = (refl, refl, refl, refl)
 
--- the faults of a write, and the mark that each leaves
+-- The faults of a write, and the mark that each leaves.
 write_faults : (number_of faults.Failed ≡ 63) × (number_of faults.Zero ≡ 64) × (name_of faults.Failed ≡ codes "Failed") × (name_of faults.Zero ≡ codes "Zero")
 write_faults = (refl, refl, refl, refl)
 
 fault_marks : (mark_of faults.Failed ≡ marks.Failed) × (mark_of faults.Zero ≡ marks.Zero)
 fault_marks = (refl, refl)
 
--- two facts in a block: each behind a comma, and where each ends
+-- Two facts in a block: each after a comma, and where each ends.
 brief : Fact
 brief = record { id = codes "a"; value = None; decimals = None; dimensions = [] }
 
@@ -138,12 +140,12 @@ compact_document : text_after Compact (codes "{") (brief ∷ brief ∷ []) ++ ta
 unfolding members brief escaped_byte quoted value_text decimals_text member_text
 compact_document = refl
 
--- a line feed stands directly after the head, after each comma and before the closing braces
+-- A line feed is directly after the head, after each comma and before the closing braces.
 document_in_lines : text_after Lines (codes "{") (brief ∷ brief ∷ []) ++ tail_text Lines ≡ codes "{\n\"a\":{\"dimensions\":{},\"value\":null},\n\"a\":{\"dimensions\":{},\"value\":null}\n}}\n"
 unfolding members brief escaped_byte quoted value_text decimals_text member_text
 document_in_lines = refl
 
--- the closing braces stand on a line of their own, also where there are no members
+-- The closing braces are on a line of their own, even without members.
 no_members_in_lines : text_after Lines (codes "{") [] ++ tail_text Lines ≡ codes "{\n}}\n"
 unfolding members
 no_members_in_lines = refl
@@ -152,17 +154,17 @@ no_members_compact : text_after Compact (codes "{") [] ++ tail_text Compact ≡ 
 unfolding members
 no_members_compact = refl
 
--- a document that isn't finished ends with its last member
+-- An unfinished document ends with its last member.
 unfinished_in_lines : text_after Lines (codes "{") (brief ∷ []) ≡ codes "{\n\"a\":{\"dimensions\":{},\"value\":null}"
 unfolding members brief escaped_byte quoted value_text decimals_text member_text
 unfinished_in_lines = refl
 
--- members behind others
+-- Members after others.
 more_in_lines : more_members Lines true (brief ∷ []) ≡ codes ",\n\"a\":{\"dimensions\":{},\"value\":null}"
 unfolding brief escaped_byte quoted value_text decimals_text member_text
 more_in_lines = refl
 
--- the first of two has no comma where none stands before it, and the second has one
+-- The first of two has no comma if nothing precedes it, and the second has one.
 two_members : more_members Compact false (brief ∷ brief ∷ []) ≡ codes "\"a\":{\"dimensions\":{},\"value\":null},\"a\":{\"dimensions\":{},\"value\":null}"
 unfolding brief escaped_byte quoted value_text decimals_text member_text
 two_members = refl
@@ -170,14 +172,16 @@ two_members = refl
 has_members : (has_any false [] ≡ false) × (has_any true [] ≡ true) × (has_any false (brief ∷ []) ≡ true)
 has_members = (refl, refl, refl)
 
--- cut at its line feeds, it gives the head, each member with its comma, the closing braces, and nothing behind the last line feed
+-- Cut at its line feeds, it gives the head, each member with its comma, the closing braces, and
+-- nothing after the last line feed.
 lines_cut : cut_at_line_feeds (codes "{\n\"a\":1,\n\"b\":2\n}}\n") ≡ codes "{" ∷ codes "\"a\":1," ∷ codes "\"b\":2" ∷ codes "}}" ∷ [] ∷ []
 lines_cut = refl
 
 members_with_commas : with_commas (codes "\"a\":1" ∷ codes "\"b\":2" ∷ codes "\"c\":3" ∷ []) ≡ codes "\"a\":1," ∷ codes "\"b\":2," ∷ codes "\"c\":3" ∷ []
 members_with_commas = refl
 
--- ONE WRITE of three bytes to a sink that holds two: it took the bytes that it answered, and kept its mark
+-- ONE WRITE of three bytes to a sink that holds two: it took the bytes that it returned, and kept
+-- its mark.
 abbrev holding : List ℕ → SinkView
 holding bs = sink_at marks.Fine (Some bs)
 
@@ -205,7 +209,7 @@ more_than_all_taken new it = absurd (omega (arith, it.0))
 marked_though_taken : writes_some (Ok 2) (sink_at marks.Failed (Some (codes "abcd"))) → ⊥
 marked_though_taken it = absurd (cc (it.2 (omega arith)).0)
 
--- a write that answers 0 leaves its mark, and so does one that fails: neither took a byte
+-- A write that returns 0 leaves its mark, and so does one that fails. Neither took a byte.
 nothing_taken : writes_some (Ok 0) (sink_at marks.Zero (Some (codes "ab")))
 nothing_taken = (omega arith, (λ none. (refl, refl)), λ some. absurd (omega (arith, some)))
 
@@ -221,14 +225,14 @@ write_failed_unseen it = absurd (cc it.0)
 taken_and_failed : writes_some (Err 5) (sink_at marks.Failed (Some (codes "abc"))) → ⊥
 taken_and_failed it = differ (codes "abc") (codes "ab") refl refl it.1
 
--- a sink that told its bytes tells them on; of one that does not, only the mark is known
+-- A sink whose bytes were known keeps them known. If they were not, only the mark is known.
 tells_no_longer : writes_some (Ok 2) (sink_at marks.Fine None) → ⊥
 tells_no_longer it = (it.2 (omega arith)).1
 
 never_told : WritesSome {E = ℕ} (sink_at marks.Fine None) (sink_at marks.Fine None) (Ok 2) (codes "cde")
 never_told = (omega arith, (λ none. absurd (omega (arith, none))), λ some. (refl, tt))
 
--- A WHOLE TEXT: all of it, or a proper beginning and the mark of the fault
+-- A WHOLE TEXT: all of it, or a proper prefix and the mark of the fault.
 abbrev writes_all : Result (Unit {0}) WriteFault → SinkView → Type 0
 writes_all r new = WritesAll (holding (codes "ab")) new r (codes "cde")
 

@@ -12,7 +12,7 @@ joined-push [] y = refl
 joined-push (x ∷ []) y = refl
 joined-push (x ∷ z ∷ xs) y = ap (λ t. x ++ (44 ∷ t)) (joined-push (z ∷ xs) y) ∙ sym (append_assoc x (44 ∷ joined (z ∷ xs)) (44 ∷ y))
 
--- one turn of a loop that writes the items of xs
+-- One step of a loop that writes the items of xs.
 pub joined-more : {X : Type 0} (f : X → List ℕ) (xs : List X) (i : ℕ) (d : X) → i < length xs
     → joined (map f (take (i + 1) xs)) ≡ joined (map f (take i xs)) ++ (comma_before i ++ f (get_or xs i d))
 joined-more f xs i d h =
@@ -20,7 +20,7 @@ joined-more f xs i d h =
     ap (λ ys. joined (map f ys)) (take_more xs i d h) ∙ ap joined (map-append f (take i xs) (get_or xs i d ∷ []))
     ∙ joined-push (map f (take i xs)) (f (get_or xs i d)) ∙ ap (λ n. joined (map f (take i xs)) ++ (comma_before n ++ f (get_or xs i d))) (sym short)
 
--- the same, by the item at the place
+-- The same, by the item at the index.
 pub joined_got : {X : Type 0} (f : X → List ℕ) (xs : List X) (i : ℕ) (x : X) → slice_get xs i ≡ Some x
     → joined (map f (take (i + 1) xs)) ≡ joined (map f (take i xs)) ++ (comma_before i ++ f x)
 joined_got f xs i x got =

@@ -1,4 +1,4 @@
--- No line feed stands in the text of a fact or of a head, since each byte of a text is written escaped.
+-- The text of a fact or of a head has no line feed, because each byte of a text is written escaped.
 use Rattle.std.proofs.Common.{◌≡◌, ◌∙◌, refl, sym, ap, arith, append_assoc, append-nil, ℕ, zero, suc, ◌+◌, ◌/◌, ◌%◌, nat_lt, ℤ, pos, negsuc}
 use Rattle.std.proofs.Common.{List, [], ◌∷◌, ◌++◌, map, codes, Option, Some, None, Bool, true, false, not, ◌&&◌, ◌==◌}
 use Rattle.std.specs.Prelude.{if◌then◌else◌}
@@ -18,7 +18,7 @@ both : (s t : List ℕ) → Lacks 10 s → Lacks 10 t → Lacks 10 (s ++ t)
 both [] t h k = k
 both (c ∷ s) t h k = (h.0, both s t h.1 k)
 
--- a text that is written out
+-- A text that is written out.
 fixed : (s : List ℕ) → list_all (λ c. not (c == 10)) s ≡ true → Lacks 10 s
 fixed [] h = tt
 fixed (c ∷ s) h = by (c == 10) refl h (λ k. fixed s k)
@@ -27,7 +27,7 @@ fixed (c ∷ s) h = by (c == 10) refl h (λ k. fixed s k)
     by true e k r = absurd (cc)
     by false e k r = (e, r k)
 
--- a choice, where the second has that the first was not taken
+-- A choice, whose second branch may use that the first was not taken.
 chosen : (b : Bool) (s t : List ℕ) → Lacks 10 s → (b ≡ false → Lacks 10 t) → Lacks 10 (if b then s else t)
 chosen true s t h k = h
 chosen false s t h k = k refl
@@ -155,7 +155,7 @@ head_line r =
 
 -- A DOCUMENT IN LINES
 
--- lines, each behind a line feed
+-- Lines, each after a line feed.
 abbrev behind_feeds : List (List ℕ) → List ℕ
 behind_feeds [] = []
 behind_feeds (l ∷ ls) = 10 ∷ (l ++ behind_feeds ls)
@@ -172,7 +172,7 @@ cut_first : (s t : List ℕ) → Lacks 10 s → slice_split (λ b. b == 10) (s +
 cut_first [] t h = refl
 cut_first (x ∷ s) t h = rw (h.0, cut_first s t h.1)
 
--- a line and others are cut into what they are
+-- A line and others after it are cut into these lines.
 cut_all : (l : List ℕ) (ls : List (List ℕ)) → Lacks 10 l → AllByRecursion (Lacks 10) ls → cut_at_line_feeds (l ++ behind_feeds ls) ≡ l ∷ ls
 cut_all l [] h hs = ap cut_at_line_feeds (append-nil l) ∙ cut_last l h
 cut_all l (k ∷ ks) h hs = cut_first l (k ++ behind_feeds ks) h ∙ ap (λ t. l ∷ t) (cut_all k ks hs.0 hs.1)

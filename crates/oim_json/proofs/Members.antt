@@ -16,7 +16,7 @@ joined_more : (l : Layout) (f : Fact) (fs : List Fact) → joined (map (placed_m
 joined_more l f [] = sym (append-nil (placed_member l f))
 joined_more l f (g ∷ gs) = ap (λ t. placed_member l f ++ (44 ∷ t)) (joined_more l g gs)
 
--- the members of a document are those behind none
+-- The members of a document are those after none.
 pub members_are : (l : Layout) (fs : List Fact) → members l fs ≡ more_members l false fs
 unfolding members
 members_are l [] = refl
@@ -40,7 +40,7 @@ pub has_some : (any : Bool) (fs : List Fact) → 1 ≤ length fs → has_any any
 has_some any [] some = absurd (omega (arith, some))
 has_some any (f ∷ fs) some = refl
 
--- some members more
+-- Some more members.
 pub members_more : (l : Layout) (fs gs : List Fact) → members l (fs ++ gs) ≡ members l fs ++ more_members l (has_any false fs) gs
 members_more l fs gs = members_are l (fs ++ gs) ∙ more_append l false fs gs ∙ ap (λ t. t ++ more_members l (has_any false fs) gs) (sym (members_are l fs))
 
@@ -48,7 +48,7 @@ pub no_members : (l : Layout) → members l [] ≡ []
 unfolding members
 no_members l = refl
 
--- ONE FACT MORE
+-- ONE MORE FACT
 
 pub one_more : (l : Layout) (any : Bool) (fs : List Fact) (i : ℕ) (f : Fact) → slice_get fs i ≡ Some f
     → more_members l any (take (i + 1) fs) ≡ more_members l any (take i fs) ++ piece (has_any any (take i fs)) (placed_member l f)
@@ -63,7 +63,7 @@ pub has_one_more : (any : Bool) (fs : List Fact) (i : ℕ) → i < length fs →
 has_one_more any [] i h = absurd (omega (arith, h))
 has_one_more any (f ∷ fs) i h = let one : i + 1 ≡ suc i = omega arith in ap (λ n. has_any any (take n (f ∷ fs))) one
 
--- the members of the first facts, and then the others
+-- The members of the first facts, then the others.
 pub members_cut : (l : Layout) (any : Bool) (fs : List Fact) (n : ℕ) → more_members l any fs ≡ more_members l any (take n fs) ++ more_members l (has_any any (take n fs)) (drop n fs)
 members_cut l any fs n = ap (more_members l any) (sym (take-append-drop n fs)) ∙ more_append l any (take n fs) (drop n fs)
 

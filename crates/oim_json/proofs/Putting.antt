@@ -14,7 +14,7 @@ use Rattle.oim_json.proofs.Members.{members_cut, one_more}
 use Rattle.oim_json.proofs.Writes.{broke_before}
 
 module _ (any : Bool) (fs : List Fact) (i : ℕ) (has : Bool) (text : List ℕ) (so : has ≡ has_any any (take i fs)) (at : option_map member_text (slice_get fs i) ≡ Some text) where
-  -- the line of the fact at this place
+  -- The line of the fact at this index.
   abbrev line : List ℕ
   line = piece has (line_start Lines ++ text)
 

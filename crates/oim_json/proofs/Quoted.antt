@@ -1,4 +1,4 @@
--- A text in quotes is what serde_json writes for it, and a text without escapes is written as it is.
+-- A text in quotes is what serde_json writes for it. A text without escapes is written unchanged.
 use Rattle.std.proofs.Common.{not, ◌&&◌, codes, ◌≡◌, ℕ, ◌/◌, ◌%◌, List, [], ◌∷◌, ◌++◌, Bool, true, false, cond, ◌||◌, ◌==◌, nat_lt, refl, sym, ap, subst, ◌∙◌}
 use Rattle.std.specs.List.{flat_map, list_all}
 use Rattle.std.specs.Char.{digit_char}
@@ -21,7 +21,7 @@ kit_byte x =
 abbrev same : ℕ → Type 0
 same x = kit_byte x ≡ escaped_byte x
 
--- at n, or where the test for n is false
+-- At n, or if the test for n is false.
 at : (n x : ℕ) (b : Bool) → (x == n) ≡ b → same n → ((x == n) ≡ false → same x) → same x
 at n x true e here other = subst same (sym (eqb-true x n e)) here
 at n x false e here other = other e
@@ -46,7 +46,7 @@ three false false true h = absurd (cc)
 three false true slash h = absurd (cc)
 three true quote slash h = absurd (cc)
 
--- no byte from 32 on is one below
+-- A byte from 32 on is not below 32.
 is_not : (k b : ℕ) → nat_lt k 32 ≡ true → nat_lt b 32 ≡ false → (b == k) ≡ false
 is_not k b small large = eqb_of b k (λ e. let low : nat_lt k 32 ≡ false = subst (λ n. nat_lt n 32 ≡ false) e large in let bad : true ≡ false = sym small ∙ low in cc)
 

@@ -23,16 +23,16 @@ keeps_appends (Some a) None c xs p q = absurd p
 keeps_appends (Some a) (Some b) None xs p q = absurd q
 keeps_appends (Some a) (Some b) (Some c) xs p q = q ∙ p
 
--- the first n bytes, and then k more
+-- The first n bytes, then k more.
 pub appends_more : (a b c : Option (List ℕ)) (xs : List ℕ) (n k : ℕ) → Appends a b (take n xs) → Appends b c (take k (drop n xs)) → Appends a c (take (n + k) xs)
 appends_more a b c xs n k p q =
     subst (λ (l : List ℕ). Appends a c l) (sym (take-add n k xs)) (appends_twice a b c (take n xs) (take k (drop n xs)) p q)
 
--- the rest from i on, as the code slices it
+-- The rest from i on, as the code slices it.
 pub slice_rest : (i : ℕ) (xs : List ℕ) → take (length xs - i) (drop i xs) ≡ drop i xs
 slice_rest i xs = subst (λ (n : ℕ). take n (drop i xs) ≡ drop i xs) (length-drop i xs) (take-length (drop i xs))
 
--- a write of n bytes of the rest from i on
+-- A write of n bytes of the rest from i on.
 pub writes_more : (a b c : Option (List ℕ)) (xs : List ℕ) (i n : ℕ) → i ≤ length xs → n ≤ length (take (length xs - i) (drop i xs))
     → Appends a b (take i xs) → Appends b c (take n (take (length xs - i) (drop i xs)))
     → (i + n ≤ length xs) × Appends a c (take (i + n) xs)
@@ -41,7 +41,7 @@ writes_more a b c xs i n le at p q =
     let q' : Appends b c (take n (drop i xs)) = subst (λ (l : List ℕ). Appends b c (take n l)) (slice_rest i xs) q in
     (omega (arith, length-drop i xs), appends_more a b c xs i n p q')
 
--- a write that took nothing, once the first i bytes are out
+-- A write that took nothing, once the first i bytes are out.
 pub stops : (a b c : Option (List ℕ)) (xs : List ℕ) (i : ℕ) → i < length xs → Appends a b (take i xs) → Keeps b c → AppendsPrefix a c xs
 stops a b c xs i less p q = (take i xs, (drop i xs, take-append-drop i xs), keeps_appends a b c (take i xs) p q, let len = length-take-le i xs (omega (arith, less)) in omega (arith, less, len))
 

@@ -1,5 +1,6 @@
--- The text of a fact and of a report's head in xBRL-JSON 1.0: compact, the members of each object in byte order, but dimensions and prefixes in
--- the order of the fact and of the report.
+-- The text of a fact and of a report's head in xBRL-JSON 1.0. It is compact. The members of each
+-- object are in byte order, but dimensions and prefixes are in the order of the fact and of the
+-- report.
 use Rattle.std.specs.Prelude.{ℕ, ◌/◌, ◌%◌, ℤ, List, [], ◌∷◌, ◌++◌, map, flat_map, Option, Some, None, codes, ◌==◌, nat_lt, if◌then◌else◌}
 use Rattle.std.specs.Char.{digit_char}
 use Rattle.std.specs.List.{join_with_byte}
@@ -7,7 +8,7 @@ use Rattle.std.specs.Fmt.{signed_decimal}
 use Rattle.oim_report.specs.ReportValue.{ReportValue}
 use Rattle.oim_resolve.specs.FactParts.{FactParts as Fact}
 
--- what stands for the byte b in a text
+-- The escape of the byte `b` in a text.
 unfoldable pub escaped_byte : ℕ → List ℕ
 escaped_byte b =
     if b == 34 then codes "\\\""
@@ -20,16 +21,16 @@ escaped_byte b =
     else if nat_lt b 32 then codes "\\u00" ++ digit_char (b / 16) ∷ digit_char (b % 16) ∷ []
     else b ∷ []
 
--- a text in quotes
+-- A text in quotes.
 unfoldable pub quoted : List ℕ → List ℕ
 quoted s = codes "\"" ++ flat_map escaped_byte s ++ codes "\""
 
--- a text, or null
+-- A text in quotes, or null.
 unfoldable pub value_text : Option (List ℕ) → List ℕ
 value_text (Some v) = quoted v
 value_text None = codes "null"
 
--- a dimension's name and value
+-- A dimension's name and value.
 unfoldable pub dimension_text : List ℕ × Option (List ℕ) → List ℕ
 dimension_text d = quoted d.0 ++ codes ":" ++ value_text d.1
 
@@ -37,7 +38,7 @@ unfoldable pub decimals_text : Option ℤ → List ℕ
 decimals_text (Some n) = codes "\"decimals\":" ++ signed_decimal n ++ codes ","
 decimals_text None = []
 
--- texts with a comma between each two
+-- Texts joined by commas.
 abbrev pub joined : List (List ℕ) → List ℕ
 joined = join_with_byte 44
 
@@ -45,7 +46,7 @@ unfoldable pub member_text : Fact → List ℕ
 member_text f =
     quoted f.id ++ codes ":{" ++ decimals_text f.decimals ++ codes "\"dimensions\":{" ++ joined (map dimension_text f.dimensions) ++ codes "},\"value\":" ++ value_text f.value ++ codes "}"
 
--- a prefix and its URI
+-- A prefix and its URI.
 unfoldable pub namespace_text : List ℕ × List ℕ → List ℕ
 namespace_text n = quoted n.0 ++ codes ":" ++ quoted n.1
 

@@ -14,17 +14,18 @@ use oim_resolve::Fact;
 use std::alloc::{AllocError, Global};
 use std::marker::Model;
 
-/// The texts of 1 to 256 facts, joined by commas. A contract sees the list of facts; the block itself
-/// keeps only their texts and where each ends.
+/// The texts of 1 to 256 facts, joined by commas.
+///
+/// A contract sees the list of facts. The block itself keeps only their texts and where each ends.
 pub struct Block {
-    // each text behind a comma
+    // a comma before each text
     bytes: Vec<u8>,
     // where each text ends
     ends: Vec<usize>,
     facts: GhostValue<Items<Fact>>,
 }
 
-// By hand, so that who lets one go elsewhere makes one call.
+// Written by hand so that each place that drops one makes a single call.
 impl Drop for Block {
     fn drop(self) {
         let Self {
@@ -57,7 +58,7 @@ impl Denotes<Items<Fact>> for Lent<'_> {
     ghost denoted = { λ a. a.facts.now };
 }
 
-/// The block of 1 to 256 facts. Where memory runs out it fails.
+/// Makes the block of 1 to 256 facts.
 pub fn block_of(alloc: Global, facts: &[Fact]) -> Result<Block, AllocError>
     requires some { 1 ≤ length facts.now }
     requires most { length facts.now ≤ 256 }
@@ -78,8 +79,10 @@ pub fn block_of(alloc: Global, facts: &[Fact]) -> Result<Block, AllocError>
 }
 
 impl Block {
-    /// A block from the texts of 1 to 256 facts, each behind a comma, and from where each text ends.
-    /// `facts` tells contracts the facts. It takes no memory.
+    /// Makes a block from the texts of 1 to 256 facts, each after a comma, and the end of each
+    /// text.
+    ///
+    /// `facts` gives contracts the facts. It takes no memory.
     pub fn from_parts(bytes: Vec<u8>, ends: Vec<usize>, facts: GhostValue<Items<Fact>>) -> Block
         requires texts { bytes.items ≡ behind_commas facts.value }
         requires ends { ends.items ≡ ends_from 0 facts.value }
@@ -90,7 +93,7 @@ impl Block {
         Block { bytes, ends, facts }
     }
 
-    /// How many facts there are, 1 to 256.
+    /// Returns the number of facts, 1 to 256.
     pub fn count(&self) -> usize
         ensures count { result ≡ length self.now }
         ensures some { 1 ≤ result }
@@ -99,7 +102,7 @@ impl Block {
         self.ends.len()
     }
 
-    /// The texts of the facts, joined by commas, without a line feed.
+    /// Returns the texts of the facts, joined by commas, without a line feed.
     pub fn bytes(&self) -> &[u8]
         ensures text { result.now ≡ facts_text self.now }
         ensures one_line { IsOneLine result.now }
@@ -107,8 +110,8 @@ impl Block {
         without_first(self.bytes.as_slice())
     }
 
-    /// The members of the facts in a compact document, behind those that it has already, if it has
-    /// `any`.
+    /// Returns the members of the facts for a compact document, with a comma before the first if
+    /// the document has `any` members already.
     pub(crate) fn bytes_behind(&self, any: bool) -> &[u8]
         ensures { result.now ≡ more_members Compact any self.now }
     {
@@ -116,7 +119,7 @@ impl Block {
         if any { bytes } else { without_first(bytes) }
     }
 
-    /// The text of the fact at a place below `count`, counted from 0: its identifier and its object.
+    /// Returns the text of the fact at index `i`: its identifier and its object.
     pub fn text(&self, i: usize) -> &[u8]
         requires { i < length self.now }
         ensures { option_map member_text (slice_get self.now i) ≡ Some result.now }
@@ -124,7 +127,7 @@ impl Block {
         part(self.bytes.as_slice(), self.start_of(i), self.ends[i])
     }
 
-    // where the text of a fact begins
+    // Returns where the text of a fact begins.
     fn start_of(&self, i: usize) -> usize
         requires { i < length self.now }
         ensures { result ≡ length (behind_commas (take i self.now)) + 1 }
@@ -135,9 +138,9 @@ impl Block {
         self.ends[i - 1] + 1
     }
 
-    /// The vector of the texts, which it still holds, each behind a comma. It is for the texts of another
-    /// block.
-    pub fn into_room(self) -> Vec<u8>
+    /// Returns the vector of the texts as a spare vector for another block. It still holds each
+    /// text after a comma.
+    pub fn into_spare(self) -> Vec<u8>
         ensures { result.items ≡ behind_commas self }
     {
         let Self {

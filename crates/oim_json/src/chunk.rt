@@ -1,4 +1,6 @@
-//! Bytes that are put together before they are written.
+//! Bytes that are collected before they are written.
+//!
+//! Not proved: how many writes are made.
 
 ghost use Rattle.std.specs.Prelude.{◌≡◌, ◌≤◌, ◌+◌, ◌++◌, [], length};
 ghost use Rattle.oim_json.specs.state.Chunks.{Puts};
@@ -8,11 +10,12 @@ use crate::mark::WriteFault;
 use crate::sink::{Sink, write_all_of};
 use std::marker::Model;
 
-/// How many bytes a chunk holds.
+/// The capacity of a chunk in bytes.
 const CHUNK: usize = 8192;
 
-/// At most 8,192 bytes that wait to be written. They stand in the chunk itself, so it does not
-/// allocate. A contract sees the bytes that wait.
+/// At most 8,192 bytes that wait to be written. A contract sees them.
+///
+/// They are kept in the chunk itself, so it does not allocate.
 #[derive(Drop)]
 pub(crate) struct Chunk {
     bytes: [u8; CHUNK],
@@ -30,7 +33,7 @@ impl Model for Chunk {
 }
 
 impl Chunk {
-    /// Nothing waits.
+    /// Makes an empty chunk.
     pub(crate) fn new() -> Chunk
         ensures { result ≡ [] }
     {
@@ -40,7 +43,7 @@ impl Chunk {
         }
     }
 
-    /// How many more bytes can wait.
+    /// Returns how many more bytes fit.
     fn room(&self) -> usize
         ensures { length self.now + result ≡ 8192 }
     {
@@ -56,7 +59,7 @@ impl Chunk {
         self.filled = end;
     }
 
-    /// Writes what waits. Nothing waits then, also where the write failed.
+    /// Writes the waiting bytes. None waits afterwards, even if the write failed.
     pub(crate) fn flush<W: Sink>(&mut self, sink: &mut W) -> Result<(), WriteFault>
         ensures empty { self.new ≡ [] }
         ensures writes { WritesAll (W.seen sink.old) (W.seen sink.new) result self.old }
@@ -66,8 +69,10 @@ impl Chunk {
         answer
     }
 
-    /// Puts a text behind what waits: what is written, and then what still waits, is what waited and then the text.
-    /// When it is written stands in no clause: where there is no room, and a text longer than a chunk at once.
+    /// Adds a text to the waiting bytes.
+    ///
+    /// It writes the waiting bytes first if `text` does not fit, and `text` directly if it is
+    /// longer than a chunk.
     pub(crate) fn put<W: Sink>(&mut self, sink: &mut W, text: &[u8]) -> Result<(), WriteFault>
         ensures { Puts (W.seen sink.old) (W.seen sink.new) self.old self.new text.now result }
     {

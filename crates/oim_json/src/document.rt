@@ -1,4 +1,4 @@
-//! What stands before and after the members of a document.
+//! The text before and after the members of a document.
 
 ghost use Rattle.std.specs.Prelude.{◌≡◌, ◌++◌, IfOk, OnOk};
 ghost use Rattle.oim_json.specs.Document.{tail_text};
@@ -10,10 +10,10 @@ use oim_names::Text;
 use oim_report::Report;
 use std::alloc::{AllocError, Global};
 
-/// What stands after the members of a compact document: two closing braces and a line feed.
+/// The text after the members of a compact document: two closing braces and a line feed.
 pub const TAIL: &[u8] = b"}}\n";
 
-/// What stands after the members: `TAIL`, in lines behind a line feed.
+/// Returns the text after the members: `TAIL`, after a line feed if the layout is in lines.
 pub fn tail(layout: Layout) -> &'static [u8]
     ensures { result.now ≡ tail_text layout }
 {
@@ -23,8 +23,8 @@ pub fn tail(layout: Layout) -> &'static [u8]
     }
 }
 
-/// What stands before the members: the report's information (xBRL-JSON 1.0, documentInfo), on one line.
-/// Where memory runs out it fails.
+/// Returns the text before the members, on one line: the report's information (xBRL-JSON 1.0,
+/// documentInfo).
 pub fn head(alloc: Global, report: &Report) -> Result<Vec<u8>, AllocError>
     ensures { IfOk result (λ bytes. bytes.items ≡ head_text report.now) }
 {

@@ -1,4 +1,4 @@
-//! Laws over the definitions that the contracts cite.
+//! Laws about the definitions that the contracts use.
 
 ghost use Rattle.std.specs.Prelude.{◌≡◌};
 ghost use Rattle.oim_json.specs.Document.{tail_text};
@@ -7,23 +7,25 @@ ghost use Rattle.oim_json.specs.declared.layout.Layout.TheVariants.{Compact};
 
 use crate::document::TAIL;
 
-/// No text of a fact holds a line feed.
+/// Proves that no text of a fact contains a line feed.
 pub fn facts_are_one_line()
     ensures { FactsAreOneLine }
 {}
 
-/// No text of facts joined by commas holds a line feed.
+/// Proves that no text of facts joined by commas contains a line feed.
 pub fn fact_lists_are_one_line()
     ensures { FactListsAreOneLine }
 {}
 
-/// A document in lines, cut at its line feeds, gives its head, each fact's text in order, all but the
-/// last with a comma, and where it is finished the closing braces on the last line.
+/// Proves what a document in lines gives when it is cut at its line feeds.
+///
+/// It gives its head, then each fact's text in order, all but the last with a comma. A finished
+/// document gives the closing braces on the last line too.
 pub fn lines_are_members()
     ensures { LinesAreMembers }
 {}
 
-/// `TAIL` is the tail of a compact document.
+/// Proves that `TAIL` is the tail of a compact document.
 fn tail_is_compact()
     ensures { TAIL.now ≡ tail_text Compact }
 {}

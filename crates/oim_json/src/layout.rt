@@ -1,6 +1,6 @@
-//! How a document is laid out.
+//! The layout of a document.
 
-/// How a document is laid out. A fact's member stands on one line in both.
+/// The layout of a document. A fact's member is on one line in both.
 #[derive(Debug, Clone, Copy, PartialEq, Eq)]
 pub enum Layout {
     /// The whole document on one line.

@@ -1,23 +1,23 @@
 //! The xBRL-JSON text of facts and of a report, and sinks that take it.
 //!
-//! What the crate promises:
-//! - a `Member`'s bytes are the text of its fact, a `Block`'s bytes the texts of its facts joined by
-//!   commas, `head` and `tail` what stands before and after the members (xBRL-JSON 1.0, compact JSON
-//!   with texts escaped as `serde_json` does, or a member on each line);
-//! - a text of a fact holds no line feed, and a document in lines, cut at its line feeds, gives the
-//!   head, each fact's text with its comma, and the closing braces (`specs/Lines.antt`);
-//! - `write_members`, if it is Ok, has written the members of a block in the layout asked for;
-//! - `write_all_of`, if it is Ok, has written all of its bytes; else it has written a beginning of them,
-//!   not all, and the sink's mark is the fault that it answers;
-//! - a `Marked` holds what its writer holds, and gives the writer back with what the sink was told.
+//! What the contracts promise:
+//! - The bytes of a `Member` are the text of its fact, and the bytes of a `Block` the texts of its
+//!   facts joined by commas. `head` and `tail` are the text before and after the members (xBRL-JSON
+//!   1.0, compact JSON with texts escaped as `serde_json` does, or a member on each line).
+//! - A text of a fact contains no line feed. A document in lines, cut at its line feeds, gives the
+//!   head, each fact's text with its comma, and the closing braces (`specs/Lines.antt`).
+//! - `write_members`, if it returns Ok, has written the members of a block in the given layout.
+//! - `write_all_of`, if it returns Ok, has written all of its bytes. Otherwise it has written a
+//!   prefix of them, not all, and the sink's mark is the fault that it returns.
+//! - A `Marked` holds what its writer holds, and returns the writer with what was written.
 //!
-//! What only tests show: that a `Marked` asks its writer once and answers what it answered, and in how
-//! many writes members are written in lines.
+//! Not proved, only tested: that a `Marked` calls its writer once and returns the writer's result,
+//! and how many writes the members need in lines.
 //!
 //! A call:
 //!
 //! ```
-//! /// The text of facts, with commas between them.
+//! /// Returns the text of facts, with commas between them.
 //! fn text_of(alloc: Global, facts: &[Fact]) -> Result<Option<Block>, AllocError> {
 //!     if facts.is_empty() || facts.len() > 256 {
 //!         return Ok(None);

@@ -1,4 +1,4 @@
-//! What a sink remembers of its failures.
+//! A sink's record of its failures.
 
 ghost use Rattle.std.specs.Prelude.{◌≡◌};
 ghost use Rattle.oim_json.specs.FaultNames.{number_of, name_of};
@@ -10,9 +10,9 @@ use thiserror::Error;
 pub enum Mark {
     /// No write failed.
     Fine,
-    /// The last write that took nothing answered an error.
+    /// The last write that took nothing returned an error.
     Failed,
-    /// The last write that took nothing answered 0.
+    /// The last write that took nothing returned 0.
     Zero,
 }
 
@@ -20,14 +20,14 @@ pub enum Mark {
 #[derive(Debug, Clone, Copy, PartialEq, Eq, Error)]
 #[error("{}", self.name())]
 pub enum WriteFault {
-    /// A write answered an error.
+    /// A write returned an error.
     Failed,
-    /// A write answered 0.
+    /// A write returned 0.
     Zero,
 }
 
 impl WriteFault {
-    /// 63 for a write that answered an error, 64 for one that answered 0.
+    /// Returns the fault's number: 63 if a write returned an error, 64 if it returned 0.
     pub fn number(&self) -> u32
         ensures { result ≡ number_of self.now }
     {
@@ -37,7 +37,7 @@ impl WriteFault {
         }
     }
 
-    /// The fault's name.
+    /// Returns the fault's name.
     pub fn name(&self) -> &'static str
         ensures { result.now ≡ name_of self.now }
     {
@@ -47,7 +47,7 @@ impl WriteFault {
         }
     }
 
-    /// What is wrong, as a sentence for people without capital and full stop.
+    /// Returns an explanation for people, as a sentence without capital and full stop.
     pub fn explanation(&self) -> &'static str {
         match self {
             WriteFault::Failed => "a write failed",

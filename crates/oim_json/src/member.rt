@@ -10,7 +10,7 @@ use std::alloc::{AllocError, Global};
 use std::marker::Model;
 use std::snapshot::Snapshot;
 
-/// The text of a fact. A contract sees the fact; the member itself keeps only its text.
+/// The text of a fact. A contract sees the fact. The member itself keeps only its text.
 #[derive(Drop)]
 pub struct Member {
     bytes: Vec<u8>,
@@ -29,10 +29,10 @@ impl Model for Member {
     ghost invariant = { λ m. m.bytes.items ≡ member_text m.fact.value };
 }
 
-/// How many bytes a member is given room for, so that most need not move as they grow.
+/// The initial capacity of a member in bytes, so that most do not move as they grow.
 const MEMBER: usize = 512;
 
-/// The member of a fact (xBRL-JSON 1.0, the facts object). Where memory runs out it fails.
+/// Makes the member of a fact (xBRL-JSON 1.0, the facts object).
 pub fn member_of(alloc: Global, fact: &Fact) -> Result<Member, AllocError>
     ensures { IfOk result (λ m. m ≡ fact.now) }
 {
@@ -45,7 +45,7 @@ pub fn member_of(alloc: Global, fact: &Fact) -> Result<Member, AllocError>
 }
 
 impl Member {
-    /// The text of the fact: its identifier and its object, without a line feed.
+    /// Returns the text of the fact: its identifier and its object, without a line feed.
     pub fn bytes(&self) -> &[u8]
         ensures text { result.now ≡ member_text self.now }
         ensures one_line { IsOneLine result.now }

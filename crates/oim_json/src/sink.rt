@@ -1,4 +1,6 @@
 //! Sinks that take bytes.
+//!
+//! Not proved, only tested: that a `Marked` calls its writer once and returns the writer's result.
 
 ghost use Rattle.std.specs.Prelude.{◌≡◌, ◌<◌, length};
 ghost use Rattle.oim_json.specs.declared.mark.Mark.TheVariants.{Fine};
@@ -8,13 +10,15 @@ use crate::mark::{Mark, WriteFault};
 use std::io;
 use std::io::Write;
 
-/// What takes bytes, and remembers whether a write failed.
+/// A destination for bytes that remembers whether a write failed.
 pub trait Sink {
-    /// The mark that its last write left, and the bytes that it holds, where it tells them.
+    /// The mark that its last write left, and the bytes that it holds, if its contract gives them.
     ghost seen: { Self → SinkView };
 
-    /// Writes some of the bytes, of which there is one at least, and answers how many: at most all of them, and 0
-    /// where it takes none. An error took none. The mark is Zero or Failed then, and else stays.
+    /// Writes some of the bytes, at least one of which must exist, and returns how many it took.
+    ///
+    /// It returns 0 if it took none, and took none if it returns an error. The mark is then Zero or
+    /// Failed, and otherwise unchanged.
     fn write_some(&mut self, bytes: &[u8]) -> io::Result<usize>
         requires { 0 < length bytes.now }
         ensures { WritesSome (seen self.old) (seen self.new) result bytes.now };
@@ -28,7 +32,7 @@ pub struct Marked<W> {
 }
 
 impl<W: Write> Marked<W> {
-    /// A sink that holds what the writer holds, and is marked Fine.
+    /// Makes a sink that holds what the writer holds, with the mark Fine.
     pub fn new(writer: W) -> Marked<W>
         ensures told { (⟦<Marked<W> as Sink>⟧.seen result).told ≡ W.contents writer }
         ensures fine { (⟦<Marked<W> as Sink>⟧.seen result).mark ≡ Fine }
@@ -39,7 +43,7 @@ impl<W: Write> Marked<W> {
         }
     }
 
-    /// The writer, which holds what the sink holds. It writes and flushes nothing.
+    /// Returns the writer, which holds what the sink holds. It writes and flushes nothing.
     pub fn into_writer(self) -> W
         ensures { W.contents result ≡ (⟦<Marked<W> as Sink>⟧.seen self).told }
     {
@@ -50,9 +54,8 @@ impl<W: Write> Marked<W> {
 impl<W: Write> Sink for Marked<W> {
     ghost seen = { λ s. sink_at s.mark (W.contents s.writer) };
 
-    /// Asks the writer once, offers it all the bytes and answers what it answered, also where a write has
-    /// failed before. The clause says what is known of one write of these bytes, and the mark. That the
-    /// writer is asked once and that the answer is its own stands in no clause: a test shows it.
+    /// Calls the writer once with all the bytes, and returns its result, even if a write has failed
+    /// before.
     fn write_some(&mut self, bytes: &[u8]) -> io::Result<usize> {
         let answer = self.writer.write(bytes);
         match &answer {
@@ -64,9 +67,11 @@ impl<W: Write> Sink for Marked<W> {
     }
 }
 
-/// Writes all the bytes. If a write answers an error (`Failed`) or takes nothing (`Zero`), a beginning
-/// of them is written, not all, and the mark is that fault. No bytes are Ok without a write, also where a
-/// write has failed before.
+/// Writes all the bytes. Without bytes it returns Ok and writes nothing, even if a write has failed
+/// before.
+///
+/// If a write returns an error (`Failed`) or takes nothing (`Zero`), a prefix of the bytes is
+/// written, not all, and the mark is that fault.
 pub fn write_all_of<W: Sink>(sink: &mut W, bytes: &[u8]) -> Result<(), WriteFault>
     ensures { WritesAll (W.seen sink.old) (W.seen sink.new) result bytes.now }
 {

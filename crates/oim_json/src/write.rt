@@ -19,21 +19,21 @@ pub(crate) trait JsonText {
         ensures { OnOk result (out.new.items ≡ out.old.items ++ text self.now) };
 }
 
-/// Whether a byte stands for itself in a text.
+/// Returns whether a byte needs no escape in a JSON string.
 fn stands_for_itself(byte: u8) -> bool
     ensures { result ≡ is_unescaped byte }
 {
     byte >= 32 && byte != b'"' && byte != b'\\'
 }
 
-/// Whether each byte of a text stands for itself.
+/// Returns whether no byte of a text needs an escape.
 fn needs_no_escape(text: &str) -> bool
     ensures { result ≡ list_all is_unescaped text.now }
 {
     text.as_bytes().iter().all(|byte| stands_for_itself(*byte))
 }
 
-/// Appends a text in quotes. One that needs no escape is copied as it is.
+/// Appends a text in quotes. A text that needs no escape is copied unchanged.
 pub(crate) fn push_text(alloc: Global, out: &mut Vec<u8>, text: &str) -> Result<(), AllocError>
     ensures { OnOk result (out.new.items ≡ out.old.items ++ quoted text.now) }
 {
@@ -98,7 +98,7 @@ pub(crate) fn push_joined<T: JsonText>(
     Ok(())
 }
 
-/// The comma before the item at place `i`.
+/// Appends the comma before the item at index `i`.
 pub(crate) fn push_comma_before(out: &mut Vec<u8>, i: usize) -> Result<(), AllocError>
     ensures { OnOk result (out.new.items ≡ out.old.items ++ comma_before i) }
 {

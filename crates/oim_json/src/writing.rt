@@ -1,4 +1,7 @@
 //! The members of a block's facts, written in a layout.
+//!
+//! Not proved, only tested: how many writes are made. A compact block is one text. In lines, up to
+//! 8,192 bytes are collected for each write.
 
 ghost use Rattle.std.specs.Prelude.{◌≡◌, ◌++◌};
 ghost use Rattle.oim_json.specs.state.Chunks.{Puts};
@@ -12,11 +15,11 @@ use crate::layout::Layout;
 use crate::mark::WriteFault;
 use crate::sink::{Sink, write_all_of};
 
-/// Writes the members of a block's facts, behind those that the document has already, if it has
-/// `any`. If a write answers an error (`Failed`) or takes nothing (`Zero`), a beginning of these members
-/// is written, not all, and the mark is that fault. It takes no memory apart from what the sink takes. In how
-/// many writes stands in no clause: a compact block is one text; in lines up to 8,192 bytes are put together
-/// for each write, as a test shows.
+/// Writes the members of a block's facts, with a comma before the first if the document has `any`
+/// members already.
+///
+/// If a write returns an error (`Failed`) or takes nothing (`Zero`), a prefix of these members is
+/// written, not all, and the mark is that fault. Only the sink may take memory.
 pub fn write_members<W: Sink>(
     sink: &mut W,
     layout: Layout,
@@ -46,7 +49,7 @@ fn write_lines<W: Sink>(sink: &mut W, any: bool, block: &Block) -> Result<(), Wr
     chunk.flush(sink)
 }
 
-// Puts the text of a fact on a line of its own, behind a comma where a member stands before it.
+// Writes the text of a fact on a line of its own, with a comma before it if a member precedes it.
 fn put_line<W: Sink>(
     chunk: &mut Chunk,
     sink: &mut W,
@@ -61,7 +64,7 @@ fn put_line<W: Sink>(
     }
 }
 
-// What ends a line.
+// Returns the text that ends a line.
 fn line_break(any: bool) -> &'static [u8]
     ensures { result.now ≡ piece any (line_start Lines) }
 {

@@ -1,4 +1,4 @@
--- A list of drains of which the first ones were taken to their endings.
+-- Lists of drains whose first ones were taken to their endings.
 use Rattle.std.specs.Prelude.{◌≡◌, ℕ, ◌<◌, ◌≤◌, ◌+◌, zero, suc, List, [], ◌∷◌, ◌++◌, length, slice_set}
 use Rattle.std.proofs.Common.{arith, refl, ap, sym, ◌∙◌, ◌≢◌, append_assoc, append-nil, get_or, get_or-set_other, get_or-set_same, below_more}
 use Rattle.std.proofs.Math.ListN.{length-set}
@@ -20,7 +20,7 @@ fresh_all (x ∷ xs) fresh =
     let rest : FreshFrom xs zero = λ k d le lt. fresh (suc k) d (omega arith) (omega arith) in
     ap (λ l. l ++ all_of (taken_of xs)) first ∙ fresh_all xs rest
 
--- a drain taken to its ending adds its items
+-- A drain taken to its ending adds its items.
 pub all_set : (ds : List DrainView) (i : ℕ) (d : DrainView) → i < length ds → FreshFrom ds i → all_of (taken_of (slice_set ds i d)) ≡ all_of (taken_of ds) ++ d.taken
 all_set [] i d lt fresh = absurd (omega arith)
 all_set (x ∷ xs) zero d lt fresh =

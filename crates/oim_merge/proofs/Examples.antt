@@ -1,4 +1,4 @@
--- The document of histories, executed on worked cases.
+-- The documents of histories, executed on worked cases (xBRL-JSON 1.0).
 use Rattle.std.proofs.Common.{◌≡◌, ℕ, ◌∷◌, [], List, None, ap, codes, refl}
 use Rattle.oim_json.specs.Document.{members}
 use Rattle.oim_json.specs.JsonText.{decimals_text, dimension_text, escaped_byte, member_text, quoted, value_text}
@@ -28,7 +28,7 @@ first_fault = record { table = 0; row = 2; column = 1; kind = kind.Cell BadNumbe
 abbrev second_fault : TableFault
 second_fault = record { table = 1; row = 0; column = 1; kind = kind.UnknownHeader }
 
--- tables of one block each, and one without facts
+-- Tables of one block each, and one without facts.
 abbrev whole_a : List Item
 whole_a = Block (a ∷ []) ∷ Ending Closed ∷ []
 
@@ -52,7 +52,7 @@ an_empty_table : document Compact (codes "{") (empty ∷ []) ≡ codes "{}}\n"
 unfolding members
 an_empty_table = refl
 
--- no comma before the first fact
+-- No comma precedes the first fact.
 an_empty_table_first : document Compact (codes "{") (empty ∷ whole_a ∷ []) ≡ codes "{\"a\":{\"dimensions\":{},\"value\":null}}}\n"
 unfolding members member_text decimals_text dimension_text value_text quoted escaped_byte
 an_empty_table_first = refl
@@ -61,12 +61,12 @@ two_tables : document Compact (codes "{") (whole_a ∷ whole_b ∷ []) ≡ codes
 unfolding members member_text decimals_text dimension_text value_text quoted escaped_byte
 two_tables = refl
 
--- the facts before the refusal are there, and no tail
+-- The facts before the refusal are written, and no tail.
 second_refused : document Compact (codes "{") (whole_a ∷ refused_b ∷ []) ≡ codes "{\"a\":{\"dimensions\":{},\"value\":null},\"b\":{\"dimensions\":{},\"value\":null}"
 unfolding members member_text decimals_text dimension_text value_text quoted escaped_byte
 second_refused = refl
 
--- nothing of a later table is there, even though it is whole
+-- Nothing of a later table is written, even if that table is whole.
 first_refused : document Compact (codes "{") (refused_a ∷ whole_b ∷ []) ≡ codes "{\"a\":{\"dimensions\":{},\"value\":null}"
 unfolding members member_text decimals_text dimension_text value_text quoted escaped_byte
 first_refused = refl
@@ -81,11 +81,11 @@ no_refusal = refl
 refusal_of_the_second : refusals (all_of (whole_a ∷ refused_b ∷ [])) ≡ second_fault ∷ []
 refusal_of_the_second = refl
 
--- the faults of both refused tables, in order, even though a whole table stands between them
+-- The faults of both refused tables, in order, also if a whole table is between them.
 refusals_of_both : refusals (all_of (refused_a ∷ whole_b ∷ refused_b ∷ [])) ≡ first_fault ∷ second_fault ∷ []
 refusals_of_both = refl
 
--- the document of two refused tables ends with the first
+-- The document of two refused tables ends with the first.
 both_refused : document Compact (codes "{") (refused_a ∷ refused_b ∷ []) ≡ codes "{\"a\":{\"dimensions\":{},\"value\":null}"
 unfolding members member_text decimals_text dimension_text value_text quoted escaped_byte
 both_refused = refl
@@ -93,28 +93,28 @@ both_refused = refl
 facts_up_to_the_refusal : facts_before (all_of (whole_b ∷ refused_a ∷ whole_b ∷ [])) ≡ b ∷ a ∷ []
 facts_up_to_the_refusal = refl
 
--- DOCUMENTS IN LINES
+-- Documents in lines.
 
 two_tables_in_lines : document Lines (codes "{") (whole_a ∷ whole_b ∷ []) ≡ codes "{\n\"a\":{\"dimensions\":{},\"value\":null},\n\"b\":{\"dimensions\":{},\"value\":null}\n}}\n"
 unfolding members member_text decimals_text dimension_text value_text quoted escaped_byte
 two_tables_in_lines = refl
 
--- the head, and the closing braces on a line of their own
+-- The head, and the closing braces on their own line.
 no_tables_in_lines : document Lines (codes "{") [] ≡ codes "{\n}}\n"
 unfolding members
 no_tables_in_lines = refl
 
--- the head, a member, its comma, and a member that no line feed ends
+-- The head, a member, its comma, and a member without a line feed after it.
 second_refused_in_lines : document Lines (codes "{") (whole_a ∷ refused_b ∷ []) ≡ codes "{\n\"a\":{\"dimensions\":{},\"value\":null},\n\"b\":{\"dimensions\":{},\"value\":null}"
 unfolding members member_text decimals_text dimension_text value_text quoted escaped_byte
 second_refused_in_lines = refl
 
--- only the head
+-- Only the head is written.
 refused_at_once_in_lines : document Lines (codes "{") ((Ending (Refused first_fault) ∷ []) ∷ whole_b ∷ []) ≡ codes "{"
 unfolding members
 refused_at_once_in_lines = refl
 
--- what a merge never answers
+-- Answers that a merge never gives.
 module _ (layout : Layout) (old new : SinkView) (head : List ℕ) where
   not_the_first_alone : Merges layout old new head (refused_a ∷ refused_b ∷ []) (first_fault ∷ []) end.Refused → ⊥
   not_the_first_alone m = let e = m.0 in cc

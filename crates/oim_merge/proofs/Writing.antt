@@ -1,4 +1,4 @@
--- The facts that each step of writing a document rests on.
+-- The facts for each step of writing a document.
 use Rattle.std.specs.Prelude.{◌≡◌, ◌≤◌, ℕ, List, [], ◌∷◌, ◌++◌, Bool, true, false, length}
 use Rattle.std.proofs.Common.{refl, sym, ap, ◌∙◌, subst, append_assoc, append-nil}
 use Rattle.oim_json.proofs.Members.{has_any_append, has_some, members_more, no_members}
@@ -23,7 +23,7 @@ use Rattle.oim_ring.specs.declared.item.Item.{Item}
 use Rattle.oim_ring.specs.declared.item.Item.TheVariants as items
 use Rattle.oim_rows.specs.declared.fault.TableFault.{TableFault}
 
--- while nothing is refused
+-- Refusals while nothing is refused.
 pub open_refusals : (before more : List Item) → refusals before ≡ [] → refusals (before ++ more) ≡ refusals more
 open_refusals [] more e = refl
 open_refusals (items.Block fs ∷ rest) more e = open_refusals rest more e
@@ -36,7 +36,7 @@ open_facts (items.Block fs ∷ rest) more e = ap (λ l. fs ++ l) (open_facts res
 open_facts (items.Ending Closed ∷ rest) more e = open_facts rest more e
 open_facts (items.Ending (Refused fault) ∷ rest) more e = absurd (cc)
 
--- the faults of items, and of more items after them
+-- The faults of items, and of more items after them.
 pub all_refusals : (before more : List Item) → refusals (before ++ more) ≡ refusals before ++ refusals more
 all_refusals [] more = refl
 all_refusals (items.Block fs ∷ rest) more = all_refusals rest more
@@ -46,7 +46,7 @@ all_refusals (items.Ending (Refused fault) ∷ rest) more = ap (λ l. fault ∷ 
 none_refused : (fault : TableFault) (xs : List TableFault) → fault ∷ xs ≡ [] → ⊥
 none_refused fault xs e = cc
 
--- once something is refused
+-- Refusals after the first one.
 pub still_refused : (before more : List Item) → ¬ (refusals before ≡ []) → ¬ (refusals (before ++ more) ≡ [])
 still_refused [] more some = absurd (some refl)
 still_refused (items.Block fs ∷ rest) more some = still_refused rest more some
@@ -59,7 +59,7 @@ refused_facts (items.Block fs ∷ rest) more some = ap (λ l. fs ++ l) (refused_
 refused_facts (items.Ending Closed ∷ rest) more some = refused_facts rest more some
 refused_facts (items.Ending (Refused fault) ∷ rest) more some = refl
 
--- blocks have no faults
+-- Blocks have no faults.
 pub blocks_refusals : (before more : List Item) → blocks_only before ≡ true → refusals (before ++ more) ≡ refusals more
 blocks_refusals [] more only = refl
 blocks_refusals (items.Block fs ∷ rest) more only = blocks_refusals rest more only
@@ -71,14 +71,14 @@ facts_extend (items.Block fs ∷ rest) more = let r = facts_extend rest more in 
 facts_extend (items.Ending Closed ∷ rest) more = facts_extend rest more
 facts_extend (items.Ending (Refused g) ∷ rest) more = ([], refl)
 
--- the unfinished text begins the longer one
+-- The unfinished text is a prefix of the longer one.
 pub unfinished_extends : (l : Layout) (head : List ℕ) (before more : List Item) → (rest : List ℕ) × (unfinished l head (before ++ more) ≡ unfinished l head before ++ rest)
 unfinished_extends l head before more =
     let f = facts_extend before more in
     let rest = more_members l (has_any false (facts_before before)) f.0 in
     (rest, ap (λ fs. head ++ members l fs) f.1 ∙ (ap (λ t. head ++ t) (members_more l (facts_before before) f.0) ∙ sym (append_assoc head (members l (facts_before before)) rest)))
 
--- only the head
+-- Only the head is written.
 module _ (l : Layout) (head : List ℕ) (old new : SinkView) where
   alone : head ≡ unfinished l head []
   alone = sym (ap (λ t. head ++ t) (no_members l) ∙ append-nil head)
@@ -90,7 +90,7 @@ module _ (l : Layout) (head : List ℕ) (old new : SinkView) where
   head_broken fault broke = subst (λ (t : List ℕ). Broke old new t fault) alone broke
 
 module _ (w : WriterView) (any : Bool) where
-  -- nothing more is written
+  -- Nothing more is written.
   refused_stays : (more : List Item) → StandsAt w any standings.Refused → StandsAt (given w more w.sink) any standings.Refused
   refused_stays more s =
       (still_refused w.items more s.0, subst (λ (fs : List Fact). Wrote w.before w.sink (w.head ++ members w.layout fs)) (sym (refused_facts w.items more s.0)) s.1)
@@ -100,7 +100,7 @@ module _ (w : WriterView) (any : Bool) where
       let u = unfinished_extends w.layout w.head w.items more in
       subst (λ t. Broke w.before w.sink t fault) (sym u.1) (broke_before w.before w.sink (text_so_far w) u.0 fault s)
 
-  -- the facts where a table has ended
+  -- The facts after the end of a table.
   module _ (e : Endings.Ending) (begun : StandsAt w any standings.Open) where
     same_facts : facts_before (w.items ++ items.Ending e ∷ []) ≡ facts_before w.items
     same_facts = open_facts w.items (items.Ending e ∷ []) begun.0 ∙ (ap (λ fs. facts_before w.items ++ fs) (no_facts e) ∙ append-nil (facts_before w.items))
@@ -112,7 +112,7 @@ module _ (w : WriterView) (any : Bool) where
     same_text : Wrote w.before w.sink (text_so_far (given w (items.Ending e ∷ []) w.sink))
     same_text = subst (λ (fs : List Fact). Wrote w.before w.sink (w.head ++ members w.layout fs)) (sym same_facts) begun.2
 
-  -- a table has ended
+  -- The end of a table.
   closed_stays : StandsAt w any standings.Open → StandsAt (given w (items.Ending Closed ∷ []) w.sink) any standings.Open
   closed_stays s = (open_refusals w.items (items.Ending Closed ∷ []) s.0, s.1 ∙ ap (has_any false) (sym (same_facts Closed s)), same_text Closed s)
 
@@ -121,11 +121,11 @@ module _ (w : WriterView) (any : Bool) where
       ((λ none. none_refused fault [] (sym (open_refusals w.items (items.Ending (Refused fault) ∷ []) s.0) ∙ none)), same_text (Refused fault) s)
 
   module _ (fs : List Fact) (later : SinkView) (s : StandsAt w any standings.Open) where
-    -- the facts with one more block
+    -- The facts with one more block.
     with_block : facts_before (w.items ++ items.Block fs ∷ []) ≡ facts_before w.items ++ fs
     with_block = open_facts w.items (items.Block fs ∷ []) s.0 ∙ ap (λ l. facts_before w.items ++ l) (append-nil fs)
 
-    -- the text with one more block
+    -- The text with one more block.
     block_text : text_so_far (given w (items.Block fs ∷ []) later) ≡ text_so_far w ++ more_members w.layout any fs
     block_text =
         ap (λ gs. w.head ++ members w.layout gs) with_block
@@ -144,7 +144,7 @@ module _ (w : WriterView) (any : Bool) where
     block_broken fault broke =
         subst (λ t. Broke w.before later t fault) (sym block_text) (broke_later w.before w.sink later (text_so_far w) (more_members w.layout any fs) fault s.2 broke)
 
--- the standing once a table has ended
+-- The standing after a table's end.
 abbrev pub next : Standing → Endings.Ending → Standing
 next standings.Open Closed = standings.Open
 next standings.Open (Refused fault) = standings.Refused
@@ -166,7 +166,7 @@ ended w any s e z is st = subst (λ (y : Standing). StandsAt (given w (items.End
     as_next standings.Refused e st = refused_stays w any (items.Ending e ∷ []) st
     as_next (standings.Broken fault) e st = broken_stays w any (items.Ending e ∷ []) fault st
 
--- the document is no longer being written
+-- The document is no longer being written.
 abbrev pub IsOver : Standing → Type 0
 IsOver standings.Open = ⊥
 IsOver standings.Refused = Unit {0}
@@ -180,14 +180,14 @@ over_stays w any (standings.Broken fault) more over st = broken_stays w any more
 pub stands_as : (w : WriterView) (any : Bool) (s z : Standing) → s ≡ z → StandsAt w any s → StandsAt w any z
 stands_as w any s z is st = subst (λ (y : Standing). StandsAt w any y) is st
 
--- the document, with the sink under another name
+-- The document, with the sink under another name.
 pub left_as : (w : WriterView) (more : List Item) (any : Bool) (s : Standing) (now : SinkView) → w.sink ≡ now
     → StandsAt (given w more w.sink) any s → StandsAt (given w more now) any s
 left_as w more any s now is st = subst (λ (n : SinkView). StandsAt (given w more n) any s) is st
 
--- THE END
+-- The end.
 
--- no tail follows a refusal
+-- No tail follows a refusal.
 no_tail : (l : Layout) (faults : List TableFault) → ¬ (faults ≡ []) → tail_for l faults ≡ []
 no_tail l [] some = absurd (some refl)
 no_tail l (f ∷ fs) some = refl
@@ -214,7 +214,7 @@ module _ (w : WriterView) (any : Bool) where
   pub was_broken : (fault : WriteFault) → StandsAt w any (standings.Broken fault) → EndsWith w.before w.sink (whole_text w) (refusals w.items) (end.Write fault)
   was_broken fault s = broke_before w.before w.sink (text_so_far w) (tail_for w.layout (refusals w.items)) fault s
 
--- THE ITEMS SO FAR
+-- The items so far.
 
 pub given_nothing : (w : WriterView) (none : List Item) (s : SinkView) → none ≡ [] → w.sink ≡ s → w ≡ given w none s
 given_nothing w none s nil is =

@@ -13,26 +13,26 @@ use Rattle.oim_rows.specs.declared.fault.TableFault.{TableFault}
 abbrev pub rings_of : List DrainView → List Ring
 rings_of drains = map (λ d. d.ring) drains
 
--- the histories of the drains
+-- The histories of the drains.
 abbrev pub taken_of : List DrainView → List (List Item)
 taken_of drains = map (λ d. d.taken) drains
 
--- nothing was taken from any drain
+-- Nothing was taken from any drain.
 abbrev pub IsFresh : List DrainView → Type 0
 IsFresh drains = All (λ d. d.taken ≡ []) drains
 
--- each history has exactly one ending, which is its last item
+-- Each history has exactly one ending, which is its last item.
 abbrev pub EndEach : List (List Item) → Type 0
 EndEach hs = All EndsOnce hs
 
--- how writing a text ends, where the tables have these faults: the text is written and there is no fault, it is written and there is one,
--- or a write failed before it was whole
+-- How writing a text ends for tables with these faults: the text is written without a fault, the
+-- text is written with faults, or a write failed before it was whole.
 abbrev pub EndsWith : SinkView → SinkView → List ℕ → List TableFault → MergeEnd → Type 0
 EndsWith old new text faults Complete = (faults ≡ []) × Wrote old new text
 EndsWith old new text faults Refused = (¬ (faults ≡ [])) × Wrote old new text
 EndsWith old new text faults (Write fault) = Broke old new text fault
 
--- the histories are merged after the head: the faults are those of all refusals, in order, and the text written is the document in the
--- given layout
+-- The merge of the histories after the head: the faults are those of all refusals, in order, and
+-- the text is the document in the given layout.
 abbrev pub Merges : Layout → SinkView → SinkView → List ℕ → List (List Item) → List TableFault → MergeEnd → Type 0
 Merges layout old new head hs faults end = (faults ≡ refusals (all_of hs)) × EndsWith old new (document layout head hs) faults end

@@ -1,28 +1,29 @@
-//! The writer of documents, and the merge of the rings of all tables in table order.
+//! The writer of documents, and the merge of all tables' rings in table order.
 //!
-//! What is proved of a `DocumentWriter`, with which each document is begun, cut and ended:
+//! What is proved of `DocumentWriter`, which begins, writes and ends each document:
 //!
-//! - its sink took the text of the items that it was given (`specs/Histories.antt`) in the given layout:
-//!   the head and the facts of the blocks before the first refusal; or after a failed write, which
-//!   `fault` tells, a beginning of it;
-//! - `finish` writes the tail if no table is refused and no write fails, and nothing if a table is refused.
+//! - its sink took the text of the items that it was given (`specs/Histories.antt`) in the given
+//!   layout: the head and the facts of the blocks before the first refusal. After a failed write,
+//!   which `fault` returns, the sink took a prefix of that text;
+//! - `finish` writes the tail if no table is refused and no write fails, and nothing if a table is
+//!   refused.
 //!
 //! What is proved of `merge`:
 //!
 //! - it takes each drain to its ending and no further;
-//! - it writes the text of the items taken in the given layout: the head, the facts of the blocks before
-//!   the first refusal, and the tail exactly if no table is refused;
-//! - it gives the fault of each ending that is `Refused`, in table order, however the merge ends;
-//! - it answers `Complete` only if there is no such ending, and `Refused` only if there is one;
-//! - when it answers `Write`, it wrote a beginning of the text and not all of it, and the fault is the sink's
-//!   mark; when it answers another, it wrote the whole text, and the mark is as it was.
+//! - it writes the text of the items taken in the given layout: the head, the facts of the blocks
+//!   before the first refusal, and the tail exactly if no table is refused;
+//! - it returns the fault of each ending that is `Refused`, in table order, however the merge ends;
+//! - it returns `Complete` only if no ending is `Refused`, and `Refused` only if one is;
+//! - if it returns `Write`, it wrote a proper prefix of the text, and the fault is the sink's mark.
+//!   At any other end it wrote the whole text, and the mark is unchanged.
 //!
-//! It waits, and it is not proved that it returns.
+//! Not proved: that `merge` returns, because it waits.
 //!
 //! A call:
 //!
 //! ```
-//! /// The document of one table, which a ring holds.
+//! /// Merges the ring of one table into a document.
 //! fn merges(rt: &(impl AllocGlobal + Wait), block: Block) -> Result<bool, AllocError> {
 //!     let mut drains = [filled(rt.alloc(), block)?];
 //!     let mut faults = Vec::with_capacity(rt.alloc(), 1)?;

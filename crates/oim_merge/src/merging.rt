@@ -1,4 +1,6 @@
 //! Merging the rings.
+//!
+//! Not proved, only tested: that `merge` asks the sink for nothing more after a failed write.
 
 ghost use Rattle.std.specs.Prelude.{◌≡◌, ◌≤◌, ◌<◌, ◌+◌, ◌++◌, [], length, vec_len, vec_capacity};
 ghost use Rattle.oim_merge.specs.Histories.{refusals};
@@ -13,18 +15,18 @@ use oim_ring::{Drain, Item};
 use oim_rows::TableFault;
 use std::sync::Wait;
 
-/// Writes the document that begins with `head` and has the facts of all drains, in order, in the given
-/// layout (xBRL-JSON 1.0). It takes each drain to its ending and no further. It writes until a refusal
-/// or a write fault, and after that it only empties the drains; that it asks the sink for nothing more
-/// after a write fault is tested, and no clause says it. Nothing may have been taken from any
-/// drain before, and `faults` must be empty and have room for one fault for each drain. It waits for
-/// items, and allocates only what the sink allocates.
+/// Writes the document that begins with `head` and has the facts of all drains, in order, in the
+/// given layout (xBRL-JSON 1.0). It takes each drain to its ending and no further. After a refusal
+/// or a failed write it only empties the drains. It waits for items, and allocates only what the
+/// sink allocates.
 ///
-/// However it ends, `faults` then holds the fault of each drain that ended refused, in their order. The
-/// answer is `Complete` if every drain ended closed and the document is whole; `Refused` if a drain
-/// ended refused, and then the facts before the first such ending are written, without a tail; and
-/// `Write` if a write failed (`Failed`) or took nothing (`Zero`), and then a beginning of the document
-/// is written.
+/// Nothing may have been taken from any drain before. `faults` must be empty and have room for one
+/// fault for each drain. At the end it holds the fault of each refused drain, in their order.
+///
+/// Returns `Complete` if every drain ended closed: the document is whole. Returns `Refused` if a
+/// drain ended refused: the facts before the first such ending are written, without a tail. Returns
+/// `Write` if a write failed (`Failed`) or took nothing (`Zero`): a prefix of the document is
+/// written.
 pub fn merge<R: Wait, W: Sink>(
     rt: &R,
     drains: &mut [Drain],

@@ -9,7 +9,7 @@ pub enum MergeEnd {
     Complete,
     /// A table was refused. The facts before the first refusal are written.
     Refused,
-    /// A write failed or took nothing before all was written. A beginning of the document is.
+    /// A write failed or took nothing before all was written. A prefix of the document is written.
     Write(WriteFault),
 }
 
@@ -21,9 +21,9 @@ pub(crate) enum Standing {
     Broken(WriteFault),
 }
 
-/// How far the document is written.
+/// The progress of a document.
 #[derive(Clone, Copy)]
-pub(crate) struct Progress {
+pub(crate) struct DocumentProgress {
     pub(crate) standing: Standing,
     /// Whether a fact was written.
     pub(crate) any: bool,

@@ -1,4 +1,4 @@
-//! What a writer remembers for contracts alone.
+//! Ghost values that a writer keeps only for contracts.
 
 ghost use Rattle.std.specs.Prelude.{◌++◌, ◌∷◌, []};
 ghost use Rattle.oim_json.specs.Sinks.{sink_at};
@@ -10,7 +10,7 @@ use oim_names::Items;
 use oim_ring::{Ending, Item};
 use std::marker::Model;
 
-/// A sink as contracts see it: its mark, and the bytes that it tells. No value of this type is made.
+/// A sink as contracts see it: its mark and the bytes that it took. No value of this type is made.
 #[derive(Drop)]
 pub(crate) struct SinkState {
     mark: Mark,
@@ -25,7 +25,7 @@ impl Model for SinkState {
     ghost view = { λ s. sink_at s.mark s.bytes };
 }
 
-/// A sink as it is now.
+/// The sink's present state.
 #[derive(Drop)]
 pub(crate) struct Now<'a, W> {
     pub(crate) sink: &'a W,
@@ -35,7 +35,7 @@ impl<W: Sink> Denotes<SinkState> for Now<'_, W> {
     ghost denoted = { λ n. W.seen n.sink.now };
 }
 
-/// Bytes.
+/// Some bytes.
 #[derive(Drop)]
 pub(crate) struct Bytes<'a> {
     pub(crate) bytes: &'a [u8],
@@ -52,7 +52,7 @@ impl Denotes<Items<Item>> for NoItems {
     ghost denoted = { λ _. [] };
 }
 
-/// Items, and then a block.
+/// Items, followed by a block.
 #[derive(Drop)]
 pub(crate) struct WithBlock<'a> {
     pub(crate) before: &'a GhostValue<Items<Item>>,
@@ -63,7 +63,7 @@ impl Denotes<Items<Item>> for WithBlock<'_> {
     ghost denoted = { λ n. n.before.now.value ++ items.Block n.block.now ∷ [] };
 }
 
-/// Items, and then an ending.
+/// Items, followed by an ending.
 #[derive(Drop)]
 pub(crate) struct WithEnding<'a> {
     pub(crate) before: &'a GhostValue<Items<Item>>,

@@ -1,4 +1,7 @@
 //! The writer of a document.
+//!
+//! Not proved, only tested: that nothing more is written after a failed write. The clauses give
+//! only that a prefix of the text was written.
 
 ghost use Rattle.std.specs.Prelude.{◌≡◌, ◌≤◌, ◌<◌, ◌+◌, ◌++◌, [], ◌∷◌, IfSome, IfNone, vec_len, vec_capacity};
 ghost use Rattle.oim_json.specs.Sinks.{SinkView};
@@ -9,7 +12,7 @@ ghost use Rattle.oim_merge.specs.state.Steps.{Advances, Begins};
 ghost use Rattle.oim_merge.specs.Writers.{IsBroken, IsWritten, given, whole_text, writing};
 ghost use Rattle.oim_ring.specs.declared.item.Item.TheVariants as items;
 
-use crate::progress::{MergeEnd, Progress, Standing};
+use crate::progress::{DocumentProgress, MergeEnd, Standing};
 use crate::remember::{Bytes, NoItems, Now, SinkState, WithBlock, WithEnding};
 use ghost_value::GhostValue;
 use oim_json::{Block, Layout, Sink, WriteFault, tail, write_all_of, write_members};
@@ -18,17 +21,16 @@ use oim_ring::{Ending, Item};
 use oim_rows::TableFault;
 use std::marker::Model;
 
-/// Writes a document (xBRL-JSON 1.0) to a sink: its head, the facts of blocks up to the first table that
-/// is refused, and the tail if none is. After a failed write it writes nothing more: a test shows it, and the
-/// clauses say that a beginning of the text was written. Each call is given the sink, which nothing else may
-/// write to meanwhile.
+/// Writes a document (xBRL-JSON 1.0) to a sink: its head, the facts of blocks up to the first
+/// refused table, and the tail if no table is refused. After a failed write it writes nothing more.
+/// Each call is given the sink, to which nothing else may write meanwhile.
 ///
-/// Contracts see the layout, the head, the items so far, and the sink: as it was before the head, and as
-/// the writer left it. That the sink took the text of these items, the type keeps.
+/// Contracts see the layout, the head, the items so far, and the sink before the head and after the
+/// last call. The type's invariant holds that the sink took the text of these items.
 #[derive(Drop)]
 pub struct DocumentWriter {
     layout: Layout,
-    progress: Progress,
+    progress: DocumentProgress,
     head: GhostValue<Items<u8>>,
     items: GhostValue<Items<Item>>,
     before: GhostValue<SinkState>,
@@ -77,8 +79,8 @@ impl DocumentWriter {
         self.sink = GhostValue::of(&Now { sink: &*sink });
     }
 
-    /// Takes the ending of a table. If the table is refused, its fault is appended to `faults`, which must
-    /// have room for it, and nothing more is written.
+    /// Ends a table. If it is refused, appends its fault to `faults`, which must have room for it,
+    /// and writes nothing more.
     pub fn end_table(&mut self, ending: Ending, faults: &mut Vec<TableFault>)
         requires { vec_len faults.old < vec_capacity faults.old }
         ensures items { self.new ≡ given self.old (items.Ending ending ∷ []) self.old.sink }
@@ -93,8 +95,8 @@ impl DocumentWriter {
         });
     }
 
-    /// The fault of the write that failed, if one did. Without it, the text of the items so far is written;
-    /// with it, a beginning of that is.
+    /// Returns the fault of the failed write, if one failed. At `None` the text of the items so far
+    /// is written, otherwise a prefix of it.
     pub fn fault(&self) -> Option<WriteFault>
         ensures written { IfNone result (IsWritten self.now) }
         ensures broken { IfSome result (λ fault. IsBroken self.now fault) }
@@ -123,21 +125,26 @@ impl DocumentWriter {
 }
 
 /// Writes the head.
-fn write_head<W: Sink>(head: &[u8], sink: &mut W) -> Progress
+fn write_head<W: Sink>(head: &[u8], sink: &mut W) -> DocumentProgress
     ensures { Begins head.now (W.seen sink.old) (W.seen sink.new) result }
 {
     let standing = match write_all_of(sink, head) {
         Ok(()) => Standing::Open,
         Err(fault) => Standing::Broken(fault),
     };
-    Progress {
+    DocumentProgress {
         standing,
         any: false,
     }
 }
 
 /// Writes a block if the document is still being written. A block has at least one fact.
-fn write_block<W: Sink>(block: &Block, progress: &mut Progress, layout: Layout, sink: &mut W)
+fn write_block<W: Sink>(
+    block: &Block,
+    progress: &mut DocumentProgress,
+    layout: Layout,
+    sink: &mut W,
+)
     ensures { Advances progress.old progress.new layout (W.seen sink.old) (W.seen sink.new) (items.Block block.now ∷ []) }
 {
     let any = block.count() > 0;
@@ -151,8 +158,9 @@ fn write_block<W: Sink>(block: &Block, progress: &mut Progress, layout: Layout, 
     }
 }
 
-/// Notes how a table ends: if it is refused, its fault, and that the document is not written further.
-fn note_ending(ending: Ending, progress: &mut Progress, faults: &mut Vec<TableFault>)
+/// Records how a table ends. If it is refused, appends its fault, and the document is not written
+/// further.
+fn note_ending(ending: Ending, progress: &mut DocumentProgress, faults: &mut Vec<TableFault>)
     requires { vec_len faults.old < vec_capacity faults.old }
     ensures faults { faults.new.items ≡ faults.old.items ++ refusals (items.Ending ending ∷ []) }
     ensures count { vec_len faults.new ≤ vec_len faults.old + 1 }

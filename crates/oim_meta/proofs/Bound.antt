@@ -22,7 +22,7 @@ have_names (member k d ms) h = (
   have_names ms (right (is_bad_prefix k d) (any_member is_bad_prefix ms) h),
 )
 
--- of members in order, without a bad prefix
+-- Members in order, without a bad prefix.
 pub namespaces_are : (ms : Members) → IsRising (names_of ms) → has_bad_prefix ms ≡ false → IsNamespaces (bindings_of ms)
 namespaces_are ms rising h =
     (in_order ms rising, own_uris ms rising (right (any_member is_bad_prefix ms) _ h), have_names ms (left (any_member is_bad_prefix ms) _ h))

@@ -1,4 +1,5 @@
--- A `Map` has as many members as entries, a list with an item has some item, and an object with more than no members has some.
+-- A `Map` has as many members as entries, a list with an item has some item, and an object whose
+-- count is above 0 has some member.
 use Rattle.std.proofs.Common.{◌≡◌, ◌≤◌, suc, List, [], ◌∷◌, String, Global, true, length, refl, ap, arith}
 use Rattle.std.specs.Prelude.{nat_lt}
 use Rattle.serde_json.specs.Data.{Members, no_members, member}
@@ -16,7 +17,7 @@ pub some_item : (vs : List Value) → 1 ≤ length vs → true ≡ any_item (λ 
 some_item [] h = absurd (omega arith)
 some_item (v ∷ vs) h = refl
 
--- an object has some member exactly where it has more than none
+-- An object has some member exactly if its count is above 0.
 pub any_is_counted : (ms : Members) → any_member is_anything ms ≡ nat_lt 0 (count_of ms)
 any_is_counted no_members = refl
 any_is_counted (member k d ms) = grind arith

@@ -1,4 +1,4 @@
--- What a walk finds of each fault in the document as a whole: exactly what the test for the fault says.
+-- A walk finds each fault of the whole document exactly if the test for the fault passes.
 use Rattle.std.proofs.Common.{◌≡◌, ◌∙◌, Option, Some, None, Bool, false, ◌||◌, ◌&&◌, refl, codes}
 use Rattle.std.specs.Prelude.{option_and_then, unwrap_or}
 use Rattle.serde_json.specs.Data.{Data, null, boolean, number, string, array, object, Members, no_members}
@@ -18,7 +18,7 @@ extends_another i = if_there is_no_empty_list (get (codes "extends") i)
 abbrev has_links : Data → Bool
 has_links d = if_there is_no_empty_object (get (codes "links") d)
 
--- what a walk finds of a fault, as one test
+-- The findings of one fault, as one test.
 module _ (e : MetaFault) where
   abbrev namespaces : Data → Bool
   namespaces i =
@@ -59,7 +59,7 @@ module _ (e : MetaFault) where
   find_document d =
       two e _ _ _ _ (two e _ _ _ _ (here e NotReport _ (has_no_report d)) (find_info_in (get (codes "documentInfo") d))) (here e Unsupported _ (has_links d))
 
-  -- a fault that documents do not have
+  -- A fault that documents do not have.
   no_namespaces : w e BadNamespaces ≡ false → (i : Data) → namespaces i ≡ false
   no_namespaces n i = nor _ _ (nor _ _ (off _ _ n) (none _ (λ k v. off _ _ n) (section (codes "namespaces") i))) (off _ _ n)
 
@@ -73,7 +73,7 @@ module _ (e : MetaFault) where
   pub no_document : w e NotReport ≡ false → w e BadNamespaces ≡ false → w e BadTaxonomy ≡ false → w e Unsupported ≡ false → (d : Data) → document d ≡ false
   no_document r n t u d = nor _ _ (nor _ _ (off _ _ r) (no_info_in n t u (get (codes "documentInfo") d))) (off _ _ u)
 
--- a value at a key that is no object, or some prefix of which is bad, or that repeats a URI
+-- A value at a key that is not an object, or has a bad prefix, or repeats a URI.
 prefixes_or : (o : Option Data)
     → (let ms : Members = unwrap_or (option_and_then as_object o) no_members in if_there is_no_object o || any_member is_bad_prefix ms || repeats_text ms)
     ≡ if_there (no_object_or has_bad_prefix) o
@@ -85,7 +85,7 @@ prefixes_or (Some (string s)) = refl
 prefixes_or (Some (array ds)) = refl
 prefixes_or (Some (object ms)) = refl
 
--- each fault of the document
+-- Each fault of the document.
 pub not_report : (d : Data) → document NotReport d ≡ has_no_report d
 not_report d = first _ _ refl ∙ first _ _ (no_info_in NotReport refl refl refl (get (codes "documentInfo") d))
 

@@ -1,4 +1,4 @@
--- Small metadata and the parts of a report that they spell out. The answers come from xBRL-CSV 1.0.
+-- Small metadata and the parts of their reports. The results are from xBRL-CSV 1.0.
 use Rattle.std.proofs.Common.{◌≡◌, ℕ, List, [], ◌∷◌, Some, None, true, false, refl, codes, pos, negsuc, map}
 use Rattle.serde_json.specs.Data.{Data, boolean, number, unsigned, negative, string, array, object, no_items, item, Members, no_members, member}
 use Rattle.oim_cells.specs.Cells.{meaning_of, accuracy_of}
@@ -26,7 +26,7 @@ one k d = object (member k d no_members)
 abbrev two : List ℕ → Data → List ℕ → Data → Data
 two k d l e = object (member k d (member l e no_members))
 
--- DIMENSIONS AS WRITTEN: literals
+-- DIMENSIONS AS WRITTEN: literals.
 literals :
     map (written_of (codes "entity")) ([] ∷ codes "#none" ∷ codes "#nil" ∷ codes "#empty" ∷ codes "##x" ∷ codes "x$" ∷ codes "$$x" ∷ codes "$$" ∷ codes "$$$" ∷ [])
     ≡ written.Absent ∷ written.Absent ∷ written.Nil ∷ written.Empty ∷ written.Text (codes "#x") ∷ written.Text (codes "x$") ∷ written.Text (codes "$x")
@@ -34,7 +34,7 @@ literals :
 unfolding strip_front strip_back name_and_side meaning_of
 literals = refl
 
--- the name and the side of a reference; a name may be empty here, which is a fault
+-- The name and the side of a reference. A name may be empty here, which is a fault.
 names_and_sides :
     (map (name_and_side (codes "period")) (codes "a" ∷ codes "a@start" ∷ codes "a@end" ∷ codes "a@start@end" ∷ codes "@start" ∷ [])
     ≡ (codes "a", Whole) ∷ (codes "a", Start) ∷ (codes "a", End) ∷ (codes "a@start", End) ∷ ([], Start) ∷ [])
@@ -42,7 +42,7 @@ names_and_sides :
 unfolding name_and_side strip_back
 names_and_sides = (refl, refl)
 
--- references: only at the key period do they have a side
+-- References: only those at the key period have a side.
 references :
     map (written_of (codes "unit")) (codes "$a" ∷ codes "$rowNumber" ∷ codes "$year@start" ∷ codes "$rowNumber@end" ∷ [])
     ≡ written.Named (codes "a") Whole ∷ written.RowNumber Whole ∷ written.Named (codes "year@start") Whole ∷ written.Named (codes "rowNumber@end") Whole ∷ []
@@ -68,7 +68,7 @@ texts_of_decimals :
 unfolding text_decimals strip_front accuracy_of
 texts_of_decimals = refl
 
--- KINDS: a column with dimensions, even empty, is a fact column
+-- KINDS: a column with dimensions, even empty, is a fact column.
 kinds :
     map kind_of
     (nothing ∷ one (codes "dimensions") nothing ∷ one (codes "propertyGroups") nothing ∷ one (codes "comment") (boolean true) ∷ one (codes "comment") (boolean false)
@@ -86,7 +86,7 @@ level_of_nothing : level_of nothing ≡ no_level
 unfolding level_of
 level_of_nothing = refl
 
--- COLUMNS: the first takes groups from the two others, and names one of them twice
+-- COLUMNS: the first takes groups from the two others, and names one of them twice.
 groups : Data
 groups = two (codes "decimals") (number (unsigned 7)) (codes "propertyGroups") (one (codes "usd") (one (codes "decimals") (number (unsigned 0))))
 
@@ -105,7 +105,7 @@ facts : column_of columns (codes "f") takes
 unfolding column_of level_of columns takes groups
 facts = refl
 
--- decimals and propertiesFrom of a column that is not a fact column are not read
+-- The decimals and propertiesFrom of a column that is not a fact column are ignored.
 property_groups : column_of columns (codes "g") groups
     ≡ record { id = codes "g"; kind = Groups; level = no_level; groups = (codes "usd", record { dimensions = []; decimals = Some (decimals.Fixed (Places (pos 0))) }) ∷ []; from = [] }
 unfolding column_of level_of columns takes groups
@@ -136,7 +136,7 @@ template :
 unfolding template_of column_of level_of
 template = refl
 
--- the columns of a template take groups from its own columns
+-- The columns of a template take groups from its own columns.
 groups_taken :
     map (λ (c : Column). c.from) (template_of (codes "p") (one (codes "columns") (object columns))).columns ≡ (2 ∷ 1 ∷ []) ∷ [] ∷ [] ∷ []
 unfolding template_of column_of columns takes groups
@@ -146,7 +146,8 @@ empty_template : template_of (codes "p") (one (codes "columns") nothing) ≡ rec
 unfolding template_of level_of
 empty_template = refl
 
--- three tables: one has the template of its own name, one names another, and one is optional and has parameters
+-- Three tables: one has the template of its own name, one names another, and one is optional and
+-- has parameters.
 report : Data
 report =
     object
@@ -178,7 +179,7 @@ tables :
 unfolding table_of report
 tables = refl
 
--- THE REPORT, with `o` given by the parameters file
+-- THE REPORT: the parameters file gives `o`.
 value : ReportValue
 unfolding report_of
 value = report_of ((codes "o", codes "4") ∷ []) [] report
@@ -199,7 +200,7 @@ other_parts : (value.level ≡ no_level) × (value.types ≡ []) × (value.table
 unfolding value report_of report level_of
 other_parts = (refl, refl, refl, refl)
 
--- READERS: a table's parameter hides the report's, and each table has its own template
+-- READERS: a table's parameter hides the report's, and each table has its own template.
 parameters_read :
     (map (parameter_of value 2) (codes "n" ∷ codes "m" ∷ codes "o" ∷ codes "p" ∷ []) ≡ Some (codes "3") ∷ Some (codes "1") ∷ Some (codes "4") ∷ None ∷ [])
     × (parameter_of value 0 (codes "n") ≡ Some (codes "2"))

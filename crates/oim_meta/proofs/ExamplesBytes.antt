@@ -1,4 +1,5 @@
--- The bytes of a metadata, and the name of its parameters file, on worked cases. The answers come from xBRL-CSV 1.0.
+-- The bytes of a metadata, and the name of its parameters file, on worked cases. The results are
+-- from xBRL-CSV 1.0.
 use Rattle.std.proofs.Common.{◌≡◌, [], ◌∷◌, Some, None, refl, codes, map}
 use Rattle.serde_json.specs.Data.{Data, null, string, object, Members, no_members, member}
 use Rattle.oim_meta.specs.Reading.{after_mark, first_url_fault}
@@ -8,7 +9,7 @@ use Rattle.oim_names.specs.PlainPath.{is_plain_path}
 use Rattle.oim_entries.specs.declared.fault.MetaFault.TheVariants.{NotReport}
 use Rattle.oim_entries.specs.declared.fault.MetaFault.TheVariants.{BadParameter}
 
--- THE BYTES: one byte-order mark is skipped
+-- THE BYTES: one byte-order mark is skipped.
 marks : map after_mark ((239 ∷ 187 ∷ 191 ∷ 123 ∷ []) ∷ (239 ∷ 187 ∷ 191 ∷ 239 ∷ 187 ∷ 191 ∷ []) ∷ (239 ∷ 187 ∷ 123 ∷ []) ∷ (123 ∷ []) ∷ [])
     ≡ (123 ∷ []) ∷ (239 ∷ 187 ∷ 191 ∷ []) ∷ (239 ∷ 187 ∷ 123 ∷ []) ∷ (123 ∷ []) ∷ []
 marks = refl

@@ -1,4 +1,5 @@
--- Each fault of a metadata on worked cases, at its limits. The answers come from xBRL-CSV 1.0 and from this project's limits.
+-- Each fault of a metadata on worked cases, at its limits. The results are from xBRL-CSV 1.0 and
+-- from this project's limits.
 use Rattle.std.proofs.Common.{◌≡◌, ℕ, ◌∷◌, List, [], Bool, true, false, Option, Some, None, refl, map, negsuc}
 use Rattle.std.specs.Prelude.{codes, nat_le, if◌then◌else◌}
 use Rattle.std.specs.List.{list_all, list_any}
@@ -34,7 +35,7 @@ plain_paths : list_all is_plain_path (codes "t1.csv" ∷ codes "a/t1.csv" ∷ co
 unfolding is_plain_path
 plain_paths = refl
 
--- nothing; one barred character in each; a segment that is empty, `.` or `..`
+-- The empty path, one barred character in each, and a segment that is empty, `.` or `..`.
 no_plain_paths :
     list_any is_plain_path
     ([] ∷ codes "a\\b" ∷ codes "a:b" ∷ codes "a?b" ∷ codes "a#b" ∷ codes "a%b" ∷ (97 ∷ 0 ∷ []) ∷ (97 ∷ 31 ∷ []) ∷ codes "/a" ∷ codes "a/" ∷ codes "a//b" ∷ codes "." ∷ codes "./a" ∷ codes ".."
@@ -120,7 +121,7 @@ bad_taxonomies :
 unfolding has_bad_taxonomy
 bad_taxonomies = refl
 
--- WHAT IS NOT SUPPORTED
+-- UNSUPPORTED FEATURES
 supported : list_any is_unsupported (nothing ∷ info nothing ∷ info (one (codes "extends") (array no_items)) ∷ one (codes "links") nothing ∷ one (codes "extends") null ∷ []) ≡ false
 unfolding is_unsupported
 supported = refl
@@ -133,7 +134,7 @@ unsupported :
 unfolding is_unsupported
 unsupported = refl
 
--- IDENTIFIERS: a part of the wrong shape has no keys
+-- IDENTIFIERS: a part of the wrong shape has no keys.
 keys : list_any has_bad_identifier (nothing ∷ column nothing ∷ table null ∷ templates null ∷ tables (list null) ∷ columns null ∷ []) ≡ false
 unfolding has_bad_identifier is_identifier is_plain_char is_name_char is_name_start chars is_utf8 encode
 keys = refl
@@ -197,14 +198,15 @@ unknown_templates : list_all has_unknown_template (table nothing ∷ with_templa
 unfolding has_unknown_template
 unknown_templates = refl
 
--- COLUMNS THAT A TEMPLATE NAMES: `c` is the column at hand, `g` one of property groups
+-- COLUMNS THAT A TEMPLATE NAMES: `c` is the column under test, `g` a property group column.
 abbrev beside_groups : Data → Data
 beside_groups c = columns (two (codes "c") c (codes "g") (one (codes "propertyGroups") nothing))
 
 abbrev takes_from : List ℕ → Data
 takes_from name = two (codes "dimensions") nothing (codes "propertiesFrom") (list (text name))
 
--- a column of another kind, which `c` takes property groups from or which has propertiesFrom itself
+-- A column of another kind, which `c` takes property groups from or which has propertiesFrom
+-- itself.
 abbrev from_other : Data → Data
 from_other d = columns (two (codes "c") (takes_from (codes "d")) (codes "d") d)
 
@@ -229,7 +231,7 @@ unknown_columns :
 unfolding has_unknown_column
 unknown_columns = refl
 
--- DIMENSIONS, with one prefix and names of several kinds
+-- DIMENSIONS, with one prefix and names of several kinds.
 abbrev prefixes : Bindings
 prefixes = (codes "p", codes "u") ∷ []
 
@@ -239,7 +241,7 @@ typed local k = record { uri = codes "u"; local = local; kind = k }
 abbrev types : TypesValue
 types = typed (codes "E") Explicit ∷ typed (codes "N") (Number Integer) ∷ typed (codes "O") Other ∷ typed (codes "T") Typed ∷ typed (codes "X") Text ∷ []
 
--- only the name of an explicit or typed dimension names a dimension (XBRL Dimensions 1.0)
+-- Only the name of an explicit or typed dimension names a dimension (XBRL Dimensions 1.0).
 abbrev no_dimension_kinds : List (Option Kind)
 no_dimension_kinds = None ∷ Some (Number Integer) ∷ Some Text ∷ Some Boolean ∷ Some Date ∷ Some Name ∷ Some Other ∷ []
 
@@ -278,7 +280,7 @@ bad_periods : list_all (is_bad_at (codes "period")) (codes "$@start" ∷ codes "
 unfolding is_bad_at is_bad_dimension name_and_side strip_front strip_back meaning_of qname_of is_identifier is_plain_char is_ncname is_name_char is_name_start chars is_utf8 encode
 bad_periods = refl
 
--- only typed dimensions can be nil or the empty text
+-- Only typed dimensions can be nil or the empty text.
 typed_values : list_any (is_bad_at (codes "p:T")) (codes "#nil" ∷ codes "#empty" ∷ []) ≡ false
 unfolding is_bad_at is_bad_dimension name_and_side strip_front strip_back meaning_of qname_of is_identifier is_plain_char is_ncname is_name_char is_name_start chars is_utf8 encode
 typed_values = refl
@@ -291,7 +293,7 @@ no_text : is_bad_dimension types prefixes (codes "entity") null ≡ true
 unfolding is_bad_dimension qname_of is_ncname is_name_char is_name_start chars is_utf8 encode
 no_text = refl
 
--- LEVELS: bad dimensions and bad decimals of report, template, column and property group
+-- LEVELS: bad dimensions and bad decimals of report, template, column and property group.
 abbrev bad_dimension : Data
 bad_dimension = one (codes "dimensions") (one (codes "entity") null)
 
@@ -299,7 +301,7 @@ bad_dimensions : list_all (has_bad_dimensions []) (bad_dimension ∷ template ba
 unfolding has_bad_dimensions is_bad_dimension qname_of is_ncname is_name_char is_name_start chars is_utf8 encode
 bad_dimensions = refl
 
--- the prefixes are those of the metadata
+-- The prefixes are those of the metadata.
 own_prefixes :
     has_bad_dimensions types (two (codes "dimensions") (one (codes "p:T") (text (codes "#nil"))) (codes "documentInfo") (one (codes "namespaces") (one (codes "p") (text (codes "u"))))) ≡ false
 unfolding has_bad_dimensions is_bad_dimension strip_front meaning_of qname_of is_ncname is_name_char is_name_start chars is_utf8 encode
@@ -313,13 +315,13 @@ bad_decimals :
 unfolding has_bad_decimals is_decimals
 bad_decimals = refl
 
--- decimals of a column that is not a fact column are not read
+-- The decimals of a column that is not a fact column are ignored.
 decimals_not_read : list_any has_bad_decimals (nothing ∷ one (codes "decimals") (number (unsigned 2)) ∷ column bad_number
     ∷ column (two (codes "decimals") null (codes "propertyGroups") nothing) ∷ []) ≡ false
 unfolding has_bad_decimals is_decimals
 decimals_not_read = refl
 
--- DECIMALS, at the limits of 32 bits
+-- DECIMALS, at the limits of 32 bits.
 whole_numbers : list_all is_decimals (number (unsigned 0) ∷ number (unsigned 2_147_483_647) ∷ number (negative (negsuc 2_147_483_647)) ∷ []) ≡ true
 unfolding is_decimals
 whole_numbers = refl
@@ -337,7 +339,7 @@ no_decimals :
 unfolding is_decimals accuracy_of strip_front is_identifier is_plain_char is_name_char is_name_start chars is_utf8 encode
 no_decimals = refl
 
--- PARAMETERS, with `f` given by the parameters file
+-- PARAMETERS: the parameters file gives `f`.
 unfoldable is_bad_with_file : Data → Bool
 is_bad_with_file d = has_bad_parameter ((codes "f", []) ∷ []) d
 
@@ -359,7 +361,7 @@ bad_parameters :
 unfolding is_bad_with_file has_bad_parameter has_bad_parameter_url is_plain_path is_identifier is_plain_char is_name_char is_name_start chars is_utf8 encode
 bad_parameters = refl
 
--- COUNTS: as many as the limit are accepted, one more is not
+-- COUNTS: a count at the limit is accepted, one above it is not.
 abbrev two_columns : Data
 two_columns = columns (two (codes "a") null (codes "b") null)
 
@@ -375,7 +377,7 @@ more_than_the_limit : (has_too_many (record { rows = 9; tables = 1; columns = 9;
 unfolding has_too_many
 more_than_the_limit = (refl, refl)
 
--- THE ORDER: a metadata with all these faults, of which the first n are mended
+-- THE ORDER: a metadata with all these faults, after the first n of them are corrected.
 unless : {A : Type 0} → ℕ → ℕ → A → A → A
 unless n m mended faulty = if nat_le m n then mended else faulty
 
@@ -417,11 +419,11 @@ unfolding first_after late_after unless has_no_report has_bad_namespaces has_bad
     accuracy_of strip_front qname_of is_identifier is_plain_char is_ncname is_name_char is_name_start chars is_utf8 encode
 in_order = (refl, refl, refl, refl)
 
--- these are not faults of a metadata: its bytes are JSON, or a file beside it has the fault
+-- These are not faults of a metadata: its bytes are JSON, or another file has the fault.
 no_faults_of_metadata : list_any (has_fault (record { rows = 0; tables = 0; columns = 0; metadata = 0 }) [] [] nothing) (Syntax ∷ BadTypes ∷ Memory ∷ Read ∷ []) ≡ false
 no_faults_of_metadata = refl
 
--- with the name of the parameters file only two faults are looked for, though this metadata has others
+-- With the name of the parameters file only two faults are tested, though this metadata has others.
 no_faults_of_the_name :
     list_any (has_url_fault (with_faults_after 1))
     (Syntax ∷ BadNamespaces ∷ BadTaxonomy ∷ Unsupported ∷ BadIdentifier ∷ BadTemplate ∷ ColumnKinds ∷ UnknownTemplate ∷ UnknownColumn ∷ BadDimension ∷ BadDecimals

@@ -1,4 +1,5 @@
--- Parts of a metadata that are as they should be, and parts that are not, on worked cases. The answers come from xBRL-CSV 1.0.
+-- Parts of a metadata that have their shape, and parts that do not, on worked cases. The results
+-- are from xBRL-CSV 1.0.
 use Rattle.std.proofs.Common.{◌≡◌, ◌∙◌, ℕ, List, refl, sym, ap, codes, true, false, bytes_eq}
 use Rattle.std.specs.Str.{chars, is_utf8}
 use lib.Utf8.{encode}
@@ -43,7 +44,7 @@ uri_that_is_no_text h = let good : false ≡ true = h.0.0.1 in absurd cc
 namespaces_that_are_no_object : HasNamespaces (one (codes "namespaces") null) → ⊥
 namespaces_that_are_no_object h = h
 
--- IDENTIFIERS of templates, columns and tables
+-- IDENTIFIERS of templates, columns and tables.
 abbrev named : List ℕ → List ℕ → List ℕ → Data
 named template column table = two (codes "tableTemplates") (one template (one (codes "columns") (one column nothing))) (codes "tables") (one table nothing)
 
@@ -63,7 +64,7 @@ column_with_a_dot : HasIdentifiers (named (codes "p") (codes "c.d") (codes "t"))
 unfolding is_identifier is_plain_char is_ncname is_name_char is_name_start chars is_utf8 encode
 column_with_a_dot h = let good : false ≡ true = h.2.0.0 in absurd cc
 
--- KINDS OF COLUMNS: a comment that is false is none
+-- KINDS OF COLUMNS: a column whose comment is false is not a comment column.
 fact_column : IsOfOneKind (codes "c") (two (codes "comment") (boolean false) (codes "dimensions") nothing)
 fact_column = (Fact, λ e. refl, λ e. absurd cc, λ e. absurd cc)
 
@@ -88,7 +89,7 @@ groups_and_comment k = let groups = k.2 refl in let comment = k.3 refl in absurd
 column_kinds : HasColumnKinds (named (codes "p") (codes "c") (codes "t"))
 column_kinds = ((plain_column, tt), tt)
 
--- TEMPLATES: a table that names none has that of its own name
+-- TEMPLATES: a table that names no template has the template of its own name.
 abbrev with_template : List ℕ → List ℕ → Data → Data
 with_template template table t = two (codes "tableTemplates") (one template nothing) (codes "tables") (one table t)
 

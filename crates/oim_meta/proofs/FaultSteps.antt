@@ -1,4 +1,5 @@
--- Tests of what a walk finds, as Booleans: of lists one after the other, of members, and of what cannot be.
+-- Tests of a walk's findings, as Booleans: of joined lists, of members, and of faults that a part
+-- cannot have.
 use Rattle.std.proofs.Common.{◌≡◌, ◌∙◌, ◌++◌, ℕ, List, Option, Some, None, Bool, true, false, ◌||◌, ◌&&◌, refl, sym, nat_eq}
 use Rattle.std.specs.Prelude.{option_map, option_and_then, unwrap_or}
 use Rattle.std.proofs.Math.Bool.{and-false}
@@ -15,7 +16,7 @@ use Rattle.oim_meta.specs.FindingPlaces.{has, is_of}
 use Rattle.oim_meta.specs.Paths.{Path}
 use Rattle.oim_meta.specs.Walk.{in_members}
 
--- whether e is this fault
+-- e is this fault.
 abbrev pub w : MetaFault → MetaFault → Bool
 w e f = nat_eq (fault_number f) (fault_number e)
 
@@ -49,7 +50,7 @@ nor a b p q = rw (p, q) refl
 pub off : (a b : Bool) → a ≡ false → (a && b) ≡ false
 off a b p = rw p refl
 
--- a value at a key that is no object, or some member of which passes the test
+-- A value at a key that is not an object, or has a member that passes the test.
 pub object_or : (p : List ℕ → Data → Bool) (o : Option Data)
     → (if_there is_no_object o || any_member p (unwrap_or (option_and_then as_object o) no_members)) ≡ if_there (no_object_or (any_member p)) o
 object_or p None = refl
@@ -60,7 +61,7 @@ object_or p (Some (string s)) = refl
 object_or p (Some (array ds)) = refl
 object_or p (Some (object ms)) = refl
 
--- the same of a value that must be there
+-- The same for a value that must exist.
 pub needed_or : (p : List ℕ → Data → Bool) (o : Option Data)
     → (unwrap_or (option_map is_no_object o) true || any_member p (unwrap_or (option_and_then as_object o) no_members)) ≡ unwrap_or (option_map (no_object_or (any_member p)) o) true
 needed_or p None = refl
@@ -71,7 +72,7 @@ needed_or p (Some (string s)) = refl
 needed_or p (Some (array ds)) = refl
 needed_or p (Some (object ms)) = refl
 
--- only the first, or only the last, can be
+-- Only the first, or only the last, can be true.
 pub first : (a b : Bool) → b ≡ false → (a || b) ≡ a
 first true b h = refl
 first false b h = h

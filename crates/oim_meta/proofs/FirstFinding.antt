@@ -1,4 +1,4 @@
--- The first finding is of the fault with the least number that has a place, at the first of its places.
+-- The first finding has the least fault number that has a place, at the first of its places.
 use Rattle.std.proofs.Common.{◌≡◌, ◌∙◌, ◌<◌, ◌≤◌, ℕ, List, [], ◌∷◌, Option, Some, Bool, true, false, refl, sym, arith, nat_eq, if◌then◌else◌}
 use Rattle.std.specs.Prelude.{nat_lt, fold}
 use Rattle.oim_entries.specs.declared.fault.MetaFault.{MetaFault}
@@ -8,7 +8,7 @@ use Rattle.oim_meta.specs.Findings.{sooner, first_of}
 use Rattle.oim_meta.specs.FindingPlaces.{IsFirst, is_of, places_of}
 use Rattle.oim_meta.specs.Paths.{Path}
 
--- the numbers are the same, or not
+-- The numbers are the same, or not.
 same : (m n : ℕ) → m ≡ n → nat_eq m n ≡ true
 same m n e = grind arith
 
@@ -27,25 +27,25 @@ lt_of m n e = grind arith
 le_of : (m n : ℕ) → nat_lt m n ≡ false → n ≤ m
 le_of m n e = grind arith
 
--- a finding of a greater number has no place of the fault e
+-- A finding of a greater number has no place of the fault e.
 skip : (e : MetaFault) (x : Finding) (xs : List Finding) → fault_number e < fault_number x.fault → places_of e (x ∷ xs) ≡ places_of e xs
 skip e x xs lt = rw (differs_up (fault_number x.fault) (fault_number e) lt) refl
 
--- what the rest of a walk does to the best finding so far
+-- The effect of the rest of a walk on the best finding so far.
 abbrev IsBest : Finding → List Finding → Option Finding → Type 0
 IsBest best xs r = (y : Finding) × (r ≡ Some y) × (fault_number y.fault ≤ fault_number best.fault) × IsFirst (best ∷ xs) (Some y)
 
 one : (best : Finding) → IsFirst (best ∷ []) (Some best)
 one best = (([], rw (same (fault_number best.fault) (fault_number best.fault) refl) refl), λ e lt. skip e best [] lt)
 
--- a finding before those that holds a greater number changes nothing
+-- A finding with a greater number before the others changes nothing.
 before : (best y : Finding) (xs : List Finding) → fault_number y.fault < fault_number best.fault → IsFirst xs (Some y) → IsFirst (best ∷ xs) (Some y)
 before best y xs lt first = (
   (first.0.0, skip y.fault best xs lt ∙ first.0.1),
   λ e less. let far : fault_number e < fault_number best.fault = omega (arith, lt, less) in skip e best xs far ∙ first.1 e less,
 )
 
--- a later finding that is not sooner
+-- A later finding that is not better.
 after : (best y z : Finding) (xs : List Finding) → fault_number best.fault ≤ fault_number z.fault → fault_number y.fault ≤ fault_number best.fault
     → IsFirst (best ∷ xs) (Some y) → IsFirst (best ∷ z ∷ xs) (Some y)
 after best y z xs le up first = (at (is_of y.fault best) refl, none)

@@ -1,4 +1,4 @@
--- The first finding of a walk over a metadata is of the metadata's first fault.
+-- The first finding of a walk over a metadata has the metadata's first fault.
 use Rattle.std.proofs.Common.{◌≡◌, ◌∙◌, ◌<◌, ◌≤◌, ℕ, List, [], ◌∷◌, Option, Some, None, Bool, true, false, ◌||◌, refl, sym, ap, arith, nat_eq, if◌then◌else◌}
 use Rattle.std.specs.Prelude.{nat_lt, fold, option_map}
 use Rattle.std.proofs.lemmas.List.Sums.{fold-append}
@@ -22,7 +22,7 @@ use Rattle.oim_meta.proofs.FirstFinding.{is_first}
 use Rattle.oim_meta.proofs.LeastFault.{is_least}
 use Rattle.oim_meta.proofs.ReportFaults.{all_found, parts_are_later}
 
--- a fault by its number
+-- A fault by its number.
 fault_at : ℕ → MetaFault
 fault_at n =
     if nat_eq n 1 then Syntax else if nat_eq n 2 then NotReport else if nat_eq n 3 then BadNamespaces else if nat_eq n 4 then BadTaxonomy
@@ -53,7 +53,7 @@ numbered Read = refl
 same_fault : (e f : MetaFault) → fault_number e ≡ fault_number f → e ≡ f
 same_fault e f h = sym (numbered e) ∙ ap fault_at h ∙ numbered f
 
--- a fault has a place exactly where a walk has it
+-- A fault has a place exactly if a walk finds it.
 none_there : (e : MetaFault) (xs : List Finding) → places_of e xs ≡ [] → has e xs ≡ false
 none_there e [] h = refl
 none_there e (x ∷ xs) h = at (is_of e x) refl h (none_there e xs)
@@ -70,7 +70,7 @@ some_there e p ps (x ∷ xs) h = at (is_of e x) h (some_there e p ps xs)
     at true k rest = refl
     at false k rest = rest k
 
--- what the first finding says of all
+-- Facts about all findings from the first one.
 pub none_is_first : (xs : List Finding) → first_of xs ≡ None → (e : MetaFault) → has e xs ≡ false
 none_is_first xs h e = let first : IsFirst xs None = rw h at (is_first xs) in none_there e xs (first e)
 
@@ -80,7 +80,7 @@ has_first xs x h = let first : IsFirst xs (Some x) = rw h at (is_first xs) in so
 pub none_is_lower : (xs : List Finding) (x : Finding) → first_of xs ≡ Some x → (e : MetaFault) → fault_number e < fault_number x.fault → has e xs ≡ false
 none_is_lower xs x h e less = let first : IsFirst xs (Some x) = rw h at (is_first xs) in none_there e xs (first.1 e less)
 
--- a walk that goes on with no lower fault has the same first finding
+-- A walk that continues without a lower fault has the same first finding.
 kept : (x : Finding) (ys : List Finding) → ((e : MetaFault) → fault_number e < fault_number x.fault → has e ys ≡ false) → fold sooner (Some x) ys ≡ Some x
 kept x [] h = refl
 kept x (y ∷ ys) h = at (nat_lt (fault_number y.fault) (fault_number x.fault)) refl (kept x ys (λ e less. later (is_of e y) (has e ys) (h e less)))
@@ -105,7 +105,7 @@ kept x (y ∷ ys) h = at (nat_lt (fault_number y.fault) (fault_number x.fault)) 
     at false is rest = rest
 
 module _ (limits : Limits) (given : ParametersValue) (types : TypesValue) (d : Data) where
-  -- the first finding of the document is that of the metadata
+  -- The first finding of the document is that of the metadata.
   pub document_is_first : (x : Finding) → first_of (in_document d) ≡ Some x → first_of (in_metadata limits given types d) ≡ Some x
   unfolding in_metadata
   document_is_first x h =
@@ -113,7 +113,7 @@ module _ (limits : Limits) (given : ParametersValue) (types : TypesValue) (d : D
       ∙ ap (λ o. fold sooner o (in_parts (known_of limits given types d) d)) h
       ∙ kept x (in_parts (known_of limits given types d) d) (λ e less. parts_are_later limits given types d x.fault e (has_first (in_document d) x h) less)
 
-  -- the first finding is of the first fault
+  -- The first finding has the first fault.
   pub first_found : (o : Option Finding) → first_of (in_metadata limits given types d) ≡ o → first_fault limits given types d ≡ option_map (λ (x : Finding). x.fault) o
   first_found o h = by o (first_fault limits given types d) h refl (is_least limits given types d)
     where

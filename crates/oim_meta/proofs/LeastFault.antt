@@ -26,7 +26,7 @@ above x e [] all h = absurd h
 above x e (y ∷ ys) all (inl same) = rw same all.0
 above x e (y ∷ ys) all (inr more) = above x e ys all.1 more
 
--- what a search through faults with rising numbers finds
+-- The result of a search through faults with rising numbers.
 least : (p : MetaFault → Bool) (xs : List MetaFault) (f e : MetaFault) → Rise xs → find p xs ≡ Some f → IsIn e xs → p e ≡ true → fault_number f ≤ fault_number e
 least p [] f e rise found h has = absurd h
 least p (x ∷ xs) f e rise found h has = at (p x) refl h found (λ k more. least p xs f e rise.1 k more has)
@@ -57,7 +57,7 @@ none_has p (x ∷ xs) e found h = at (p x) refl h found (λ k more. none_has p x
 in_order : Rise faults_in_order
 in_order = search rules
 
--- every fault is looked for, except those that no metadata has
+-- Each fault is tested, except those that no metadata has.
 looked_for : (limits : Limits) (given : ParametersValue) (types : TypesValue) (d : Data) (e : MetaFault) → IsIn e faults_in_order ⊎ (has_fault limits given types d e ≡ false)
 looked_for limits given types d Syntax = inr refl
 looked_for limits given types d NotReport = inl (inl refl)

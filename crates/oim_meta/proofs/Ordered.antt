@@ -1,4 +1,4 @@
--- A metadata in order says a report in order, and one without a bad key a report with identifiers.
+-- A metadata in order gives a report in order, and one without a bad key a report with identifiers.
 use Rattle.std.proofs.Common.{◌≡◌, ℕ, List, Bool, true, false, not, ◌||◌, Option, Some, None, Ordering, Less, Equal, Greater, map, refl, nat_cmp}
 use Rattle.std.specs.Prelude.{IfSome, codes, unwrap_or, option_and_then}
 use Rattle.std.specs.List.{AllByRecursion}
@@ -58,7 +58,7 @@ unfolding IsStrictlySortedBy
 rising no_members h = tt
 rising (member k d ms) h = (h.0, rising ms h.2)
 
--- what a member makes has the name of the member
+-- The value made from a member has the name of the member.
 names_kept : {X : Type 0} (name : X → List ℕ) (of : List ℕ → Data → X) → ((k : List ℕ) (d : Data) → name (of k d) ≡ k) → (ms : Members) → map name (map_members of ms) ≡ names_of ms
 names_kept name of h no_members = refl
 names_kept name of h (member k d ms) = rw (h k d, names_kept name of h ms) refl
@@ -66,7 +66,7 @@ names_kept name of h (member k d ms) = rw (h k d, names_kept name of h ms) refl
 made_rise : {X : Type 0} (name : X → List ℕ) (of : List ℕ → Data → X) → ((k : List ℕ) (d : Data) → name (of k d) ≡ k) → (ms : Members) → AreInOrder ms → IsRising (map name (map_members of ms))
 made_rise name of h ms ordered = rw (names_kept name of h ms) (rising ms ordered)
 
--- what each member makes has a property if the member's value is in order
+-- Each value made has a property if it holds for a member whose value is in order.
 each_made : {X : Type 0} (P : X → Type 0) (of : List ℕ → Data → X) → ((k : List ℕ) (d : Data) → IsInOrder d → P (of k d)) → (ms : Members) → AreInOrder ms → AllByRecursion P (map_members of ms)
 each_made P of h no_members ordered = tt
 each_made P of h (member k d ms) ordered = (h k d ordered.1, each_made P of h ms ordered.2)

@@ -1,4 +1,5 @@
--- One text under two names: a search through the texts seen before finds it exactly where some name has the text of another.
+-- One text under two names: a search through the earlier texts finds it exactly if some name has
+-- the text of another.
 use Rattle.std.proofs.Common.{◌≡◌, ◌∙◌, ◌++◌, ℕ, List, [], ◌∷◌, Bool, true, false, not, ◌||◌, ◌&&◌, Less, refl, sym, ap, bytes_eq, nat_cmp, if◌then◌else◌}
 use Rattle.std.specs.Prelude.{⊤, is_some, Some, None}
 use Rattle.std.specs.Bool.{Decides}
@@ -15,7 +16,7 @@ use Rattle.oim_meta.specs.Order.{names_of, has_other, repeats_text}
 use Rattle.oim_meta.specs.state.Order.{repeats_seen}
 use Rattle.oim_report.specs.Rising.{IsRising}
 
--- ---- texts that are the same
+-- EQUAL TEXTS
 
 back : (t u : List ℕ) → bytes_eq t u ≡ bytes_eq u t
 back t u = at (bytes_eq t u) (bytes_eq u t) (bytes_eq-Decides t u) (bytes_eq-Decides u t)
@@ -29,7 +30,7 @@ back t u = at (bytes_eq t u) (bytes_eq u t) (bytes_eq-Decides t u) (bytes_eq-Dec
 itself : (t : List ℕ) → bytes_eq t t ≡ true
 itself t = (bytes_eq-Decides t t).1 refl
 
--- ---- tests of members
+-- TESTS OF MEMBERS
 
 same_test : (p q : List ℕ → Data → Bool) → ((k : List ℕ) (d : Data) → p k d ≡ q k d) → (ms : Members) → any_member p ms ≡ any_member q ms
 same_test p q h no_members = refl
@@ -38,7 +39,7 @@ same_test p q h (member k d ms) = let one = h k d in let rest = same_test p q h 
     or-same : (a b c d : Bool) → a ≡ c → b ≡ d → (a || b) ≡ (c || d)
     or-same a b c d e f = rw (e, f) refl
 
--- (a || b) || (c || d) in another order
+-- (a || b) || (c || d) in another order.
 mixed : (a b c d : Bool) → ((a || b) || (c || d)) ≡ ((a || c) || (b || d))
 mixed true b c d = refl
 mixed false true true d = refl
@@ -55,7 +56,7 @@ no_test : (ms : Members) → any_member (λ _ _. false) ms ≡ false
 no_test no_members = refl
 no_test (member k d ms) = no_test ms
 
--- ---- pairs of members with one text
+-- PAIRS OF MEMBERS WITH ONE TEXT
 
 abbrev pairs : Members → Bool
 pairs no_members = false
@@ -92,7 +93,7 @@ seen_is seen (member k d ms) =
     ap (λ b. is_some (value_at t seen) || b) (seen_is more ms ∙ ap (λ b. b || pairs ms) split)
     ∙ regroup (is_some (value_at t seen)) (any_member (λ _ e. is_some (value_at (text_of e) seen)) ms) (any_member (λ _ e. bytes_eq t (text_of e)) ms) (pairs ms)
 
--- ---- names that rise
+-- NAMES IN ORDER
 
 below-differs : (k l : List ℕ) → slice_cmp nat_cmp k l ≡ Less → bytes_eq k l ≡ false
 below-differs k l h = sym (is_eq-slice_cmp k l) ∙ ap is_eq h
@@ -100,12 +101,12 @@ below-differs k l h = sym (is_eq-slice_cmp k l) ∙ ap is_eq h
 abbrev IsUnder : List ℕ → Members → Type 0
 IsUnder k ms = AllByRecursion (λ l. slice_cmp nat_cmp k l ≡ Less) (names_of ms)
 
--- no other name after a name below them all is the same
+-- A name below the others differs from each of them.
 after : (k t : List ℕ) (ms : Members) → IsUnder k ms → has_other k t ms ≡ any_member (λ _ e. bytes_eq t (text_of e)) ms
 after k t no_members h = refl
 after k t (member l e ms) h = rw (below-differs k l h.0, after k t ms h.1) refl
 
--- each of the names after it has it as another
+-- Each of the names after a name has it as another name.
 before : (k t : List ℕ) (rest : Members) (ms : Members) → IsUnder k ms
     → any_member (λ n e. (not (bytes_eq n k) && bytes_eq (text_of e) t) || has_other n (text_of e) rest) ms
     ≡ any_member (λ n e. bytes_eq t (text_of e) || has_other n (text_of e) rest) ms

@@ -1,4 +1,5 @@
--- If no text has two names, the namespaces that an object gives are in order, and each has a URI of its own.
+-- If no text has two names, the namespaces that an object gives are in order, and each has its own
+-- URI.
 use Rattle.std.proofs.Common.{◌≡◌, ℕ, List, ◌∷◌, false, not, ◌&&◌, Less, refl, ap, bytes_eq, nat_cmp}
 use Rattle.std.specs.List.{AllByRecursion, IsDistinct}
 use Rattle.std.specs.List.Sorted.{IsStrictlySortedBy}
@@ -12,7 +13,7 @@ use Rattle.oim_meta.specs.Value.{named_text}
 use Rattle.oim_meta.proofs.Unrepeated.{left, right, fewer, unlike}
 use Rattle.oim_report.proofs.Searches.{below-differs}
 
--- the text of a name below all others is not one of theirs
+-- The text of a name below all others is not one of theirs.
 no_text : (k t : List ℕ) (ms : Members) → AllByRecursion (λ l. slice_cmp nat_cmp k l ≡ Less) (names_of ms) → has_other k t ms ≡ false
     → AllByRecursion (λ u. bytes_eq t u ≡ false) (values_of (map_members named_text ms))
 no_text k t no_members above h = tt

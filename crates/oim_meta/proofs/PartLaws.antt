@@ -1,4 +1,5 @@
--- The tests for namespaces, identifiers, kinds of columns and templates pass exactly where a part is not as it should be.
+-- The tests for namespaces, identifiers, kinds of columns and templates pass exactly if a part does
+-- not have its shape.
 use Rattle.std.proofs.Common.{◌≡◌, ℕ, List, refl, codes, Some, None, Option, Bool, true, false, not, ◌&&◌, ◌||◌}
 use Rattle.std.specs.Prelude.{◌↔◌, IsSomeAnd, unwrap_or, option_and_then, bytes_eq}
 use Rattle.std.specs.Bool.{Decides}
@@ -20,7 +21,7 @@ use Rattle.oim_meta.proofs.ShapeLaws.{absent, either, isnt, members, needed, opt
 prefix : (name : List ℕ) (uri : Data) → Refutes (is_bad_prefix name uri) (IsPrefix name uri)
 prefix name uri = either (not (is_ncname name)) (not (is_text uri)) (isnt (is_ncname name)) (text uri)
 
--- two names that are the same if their texts are
+-- Two names that are the same if their texts are.
 same_name : (p q t u : List ℕ) → Refutes (not (bytes_eq p q) && bytes_eq t u) (t ≡ u → p ≡ q)
 same_name p q t u = by (bytes_eq p q) (bytes_eq t u) (bytes_eq-Decides p q) (bytes_eq-Decides t u)
   where

@@ -1,4 +1,4 @@
--- If no table's template and no template's column is unknown, each place is in range.
+-- If all templates of tables and all columns of templates are known, each place is in range.
 use Rattle.std.proofs.Common.{◌≡◌, ℕ, suc, ◌<◌, List, [], ◌∷◌, ◌++◌, Bool, true, false, cond, not, ◌||◌, ◌&&◌}
 use Rattle.std.proofs.Common.{length, All, Option, Some, None, Ordering, Less, Equal, Greater, refl, arith, bytes_eq, fold, nat_eq}
 use Rattle.std.specs.Prelude.{is_none, option_map, option_and_then, unwrap_or, codes, IfSome}
@@ -38,13 +38,13 @@ at Equal false x y n p e h rest = absurd cc
 at Greater true x y n p e h rest = absurd cc
 at Greater false x y n p e h rest = let below = rest h in omega arith
 
--- the place of a name that is there
+-- The place of a name that exists.
 below : {X : Type 0} (f : List ℕ → Data → X) (name : List ℕ) (ts : Members) → is_none (get_member name ts) ≡ false → place_of name ts < length (map_members f ts)
 below f name no_members h = absurd cc
 below f name (member k d ms) h =
     at (slice_cmp nat_cmp name k) (bytes_eq name k) (get_member name ms) (Some d) (length (map_members f ms)) (place_of name ms) (is_eq-slice_cmp name k) h (below f name ms)
 
--- the members of what may be an object
+-- The members of a value that may be an object.
 abbrev members_of : Option Data → Members
 members_of o = unwrap_or (option_and_then as_object o) no_members
 
@@ -57,7 +57,7 @@ found name (Some (string s)) h = absurd cc
 found name (Some (array ds)) h = absurd cc
 found name (Some (object ms)) h = h
 
--- ---- the places of templates
+-- THE PLACES OF TEMPLATES
 
 abbrev IsPlaced : ℕ → Table → Type 0
 IsPlaced n t = t.template < n
@@ -76,7 +76,7 @@ tables_placed : (d : Data) → has_unknown_template d ≡ false → All (IsPlace
 unfolding has_unknown_template
 tables_placed d h = All-from_recursion (IsPlaced (length (templates_of d))) _ (each_table (get (codes "tableTemplates") d) (section (codes "tables") d) h)
 
--- ---- the places of columns
+-- THE PLACES OF COLUMNS
 
 abbrev IsBelow : ℕ → ℕ → Type 0
 IsBelow n i = i < n
@@ -89,7 +89,7 @@ unless_there : (n : ℕ) (b : Bool) (seen : List ℕ) (x : ℕ) → AllByRecursi
 unless_there n true seen x all h = all
 unless_there n false seen x all h = one_more n seen x all h
 
--- the name of a property group column is the name of a column
+-- The name of a property group column is the name of a column.
 named : (o : Option Data) → not (if_there (λ c. is_groups (kind_of c)) o) ≡ false → is_none o ≡ false
 named None h = absurd cc
 named (Some c) h = refl

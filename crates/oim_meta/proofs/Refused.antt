@@ -1,4 +1,4 @@
--- What a refusal with a place says of the fault that is first.
+-- A refusal with a place has the first fault.
 use Rattle.std.proofs.Common.{◌≡◌, ◌∙◌, ◌≤◌, ◌⊎◌, inl, inr, ℕ, List, Bool, Some, None, true, false, length, refl, sym}
 use Rattle.std.specs.Prelude.{codes}
 use Rattle.serde_json.specs.Data.{Data}
@@ -28,23 +28,23 @@ use Rattle.oim_meta.proofs.FirstFound.{document_is_first, first_found, none_is_f
 use Rattle.oim_meta.proofs.ReportFaults.{all_found}
 use Rattle.oim_meta.proofs.DocumentFaults.{bad_namespaces, find_document}
 
--- bytes that are within the limit and no JSON text are not read
+-- Bytes that are within the limit and not JSON text are not read.
 pub unread : (limits : Limits) (bytes : List ℕ) (f : MetaFault) → length bytes ≤ limits.metadata → IsNoJson bytes f → IsUnread limits bytes f
 unread limits bytes fault.Syntax fits h = (fits, h)
 unread limits bytes fault.Memory fits h = tt
 unread limits bytes f fits h = absurd h
 
--- the document's first finding is that of the metadata
+-- The document's first finding is that of the metadata.
 pub of_document : (limits : Limits) (given : ParametersValue) (types : TypesValue) (d : Data) (r : Refusal) → IsFirstOf (in_document d) r → IsFirstOf (in_metadata limits given types d) r
 of_document limits given types d (Found x) h = document_is_first limits given types d x h
 of_document limits given types d Memory h = tt
 
--- a document without a finding has good namespaces
+-- A document without a finding has good namespaces.
 pub good_namespaces : (d : Data) → first_of (in_document d) ≡ None → if_there has_bad_namespaces (get (codes "documentInfo") d) ≡ false
 good_namespaces d h =
     sym (bad_namespaces d) ∙ sym (find_document fault.BadNamespaces d) ∙ none_is_first (in_document d) h fault.BadNamespaces
 
--- why no JSON is read is why there is no name of a parameters file
+-- The fault of unread bytes is also the fault of the parameters file's name.
 pub url_of_unread : (limits : Limits) (bytes : List ℕ) (f : MetaFault) → IsUnread limits bytes f → IsUrlFault limits bytes f
 url_of_unread limits bytes fault.TooLarge h = h
 url_of_unread limits bytes fault.Syntax h = h
@@ -59,7 +59,7 @@ two_faults d f h = by (has_no_report d) (has_bad_parameter_url d) refl refl
     by false true no_report bad = let first : Some fault.BadParameter ≡ Some f = rw (no_report, bad) at h in inr cc
     by false false no_report bad = let first : None ≡ Some f = rw (no_report, bad) at h in absurd cc
 
--- the fault of a value is one of the bytes
+-- The fault of a value is a fault of its bytes.
 pub url_of_value : (limits : Limits) (bytes : List ℕ) (d : Data) (f : MetaFault) → Reads limits bytes d → IsUrlFaultOf d f → IsUrlFault limits bytes f
 url_of_value limits bytes d fault.TooLarge reads h = elim (two_faults d fault.TooLarge h) [
   | inl e ↦ absurd cc
@@ -73,7 +73,7 @@ url_of_value limits bytes d fault.Memory reads h = tt
 url_of_value limits bytes d f reads h = (reads.0, (d, reads.1, h))
 
 module _ (limits : Limits) (given : ParametersValue) (types : TypesValue) (d : Data) where
-  -- a metadata without a finding has no fault
+  -- A metadata without a finding has no fault.
   pub no_fault : first_of (in_metadata limits given types d) ≡ None → first_fault limits given types d ≡ None
   no_fault h = first_found limits given types d None h
 
@@ -90,12 +90,12 @@ module _ (limits : Limits) (given : ParametersValue) (types : TypesValue) (d : D
   has_identifiers h = lacks h fault.BadIdentifier
 
 module _ (limits : Limits) (given : ParametersValue) (types : TypesValue) (bytes : List ℕ) where
-  -- the value's first finding is that of the bytes
+  -- The value's first finding is that of the bytes.
   pub of_value : (d : Data) (r : Refusal) → length bytes ≤ limits.metadata → IsJson bytes d → IsFirstOf (in_metadata limits given types d) r → IsRefusal limits given types bytes r
   of_value d (Found x) fits json h = inr (fits, inr (d, json, h))
   of_value d Memory fits json h = tt
 
-  -- why no JSON is read is why the bytes are refused
+  -- The fault of unread bytes is their refusal.
   pub of_unread : (f : MetaFault) → IsUnread limits bytes f → IsRefusal limits given types bytes (refusal_of f)
   of_unread fault.TooLarge h = inl (h, refl)
   of_unread fault.Syntax h = inr (h.0, inl (h.1, refl))
@@ -118,7 +118,7 @@ module _ (limits : Limits) (given : ParametersValue) (types : TypesValue) (bytes
     | inr found ↦ of_first x.fault (h.0, (found.0, found.1, first_found limits given types found.0 (Some x) found.2))
   ]
 
-  -- the fault of a refusal is the first
+  -- The fault of a refusal is the first fault.
   pub of_refusal : (r : Refusal) → IsRefusal limits given types bytes r → IsFault limits given types bytes (fault_in r)
   of_refusal (Found x) h = of_finding x h
   of_refusal Memory h = tt

@@ -1,4 +1,4 @@
--- A walk finds a fault in a metadata exactly where the test for the fault passes.
+-- A walk finds a fault in a metadata exactly if the test for the fault passes.
 use Rattle.std.proofs.Common.{◌≡◌, ◌∙◌, ◌≤◌, ◌<◌, [], Bool, true, false, ◌||◌, refl, sym, ap, arith, codes}
 use Rattle.std.specs.Prelude.{nat_lt}
 use Rattle.serde_json.specs.Data.{Data}
@@ -29,19 +29,19 @@ use Rattle.oim_meta.proofs.DocumentFaults.{document, find_document, no_document,
 wrong : (b : Bool) → b ≡ true → b ≡ false → ⊥
 wrong b h k = let same : true ≡ false = sym h ∙ k in absurd cc
 
--- the last two of three, exchanged
+-- The last two of three, exchanged.
 swap-last : (a b c : Bool) → (a || b || c) ≡ (a || c || b)
 swap-last true b c = refl
 swap-last false b c = or-swap b c
 
--- bad parameters of tables come before those that are given twice
+-- Bad parameters of tables are before those that are given twice.
 parameter_order : (t b g u : Bool) → (t || (b || g || u)) ≡ (b || t || g || u)
 parameter_order true true g u = refl
 parameter_order true false g u = refl
 parameter_order false b g u = ap (λ x. x || g || u) (sym (first b false refl))
 
 module _ (known : Known) (e : MetaFault) where
-  -- what a walk finds of a fault in the parts, as one test
+  -- The findings of a fault in the parts, as one test.
   abbrev parts : Data → Bool
   parts d = level known e d || templates known e d || tables e known.limits d || own e known.given d
 
@@ -138,7 +138,7 @@ module _ (limits : Limits) (given : ParametersValue) (types : TypesValue) (d : D
       ∙ or-same _ _ _ _ (last _ _ (no_level known e refl refl refl d) ∙ too_many_columns known d) (too_many_tables limits d)
       ∙ or-swap (any_member (has_too_many_columns limits.columns) (section (codes "tableTemplates") d)) (nat_lt limits.tables (count_of (section (codes "tables") d)))
 
-  -- a fault that no part has
+  -- A fault that no part has.
   never : (e : MetaFault) → w e BadIdentifier ≡ false → w e BadTemplate ≡ false → w e ColumnKinds ≡ false → w e UnknownTemplate ≡ false → w e UnknownColumn ≡ false
       → w e BadDimension ≡ false → w e BadDecimals ≡ false → w e BadParameter ≡ false → w e TooLarge ≡ false → these e ≡ false
   never e i s k t u m c p l = no_parts (known_of limits given types d) e i s k t u m c p l d
@@ -162,12 +162,12 @@ module _ (limits : Limits) (given : ParametersValue) (types : TypesValue) (d : D
   by_fault Memory = nor _ _ (no_document Memory refl refl refl refl d) (never Memory refl refl refl refl refl refl refl refl refl)
   by_fault Read = nor _ _ (no_document Read refl refl refl refl d) (never Read refl refl refl refl refl refl refl refl refl)
 
-  -- a walk finds a fault exactly where the test for it passes
+  -- A walk finds a fault exactly if the test for it passes.
   pub all_found : (e : MetaFault) → has e (in_metadata limits given types d) ≡ has_fault limits given types d e
   unfolding in_metadata
   all_found e = two e _ _ _ _ (find_document e d) (find_parts (known_of limits given types d) e d) ∙ by_fault e
 
-  -- the faults of the document have numbers up to 5, and those of the parts greater ones
+  -- The faults of the document have numbers up to 5, and those of the parts have greater ones.
   low : (e : MetaFault) → document e d ≡ true → fault_number e ≤ 5
   low Syntax h = omega arith
   low NotReport h = omega arith
@@ -206,7 +206,7 @@ module _ (limits : Limits) (given : ParametersValue) (types : TypesValue) (d : D
   high Memory h = absurd (omega (arith, h))
   high Read h = absurd (omega (arith, h))
 
-  -- the parts have no fault with a lower number than one of the document
+  -- The parts have no fault with a lower number than one of the document.
   pub parts_are_later : (f e : MetaFault) → has f (in_document d) ≡ true → fault_number e < fault_number f → has e (in_parts (known_of limits given types d) d) ≡ false
   parts_are_later f e found less =
       let up = low f (sym (find_document f d) ∙ found) in

@@ -1,4 +1,5 @@
--- The keys of a `Map` rise, and so do the names of its members, which are as many.
+-- The keys of a `Map` are in strict byte order, and so are the names of its members. Both have the
+-- same count.
 use Rattle.std.proofs.Common.{◌≡◌, List, length, refl, ap, suc, [], ◌∷◌, String, Global, Less, string_bytes, string_cmp, nat_cmp}
 use Rattle.std.specs.List.{AllByRecursion}
 use Rattle.std.specs.List.Sorted.{IsStrictlySortedBy}

@@ -1,4 +1,4 @@
--- The place of a name among members whose names rise.
+-- The place of a name among members whose names are in strict byte order.
 use Rattle.std.proofs.Common.{◌≡◌, ℕ, suc, ◌+◌, ◌<◌, List, [], ◌∷◌, length, map, Bool, Ok, Err, false, true, cond, refl, sym, ap, ◌∙◌, arith}
 use Rattle.std.specs.Prelude.{not, if◌then◌else◌}
 use Rattle.std.specs.List.{position_or_len}
@@ -12,12 +12,12 @@ use Rattle.oim_report.specs.Rising.{IsRising}
 use Rattle.oim_meta.specs.Order.{names_of}
 use Rattle.oim_meta.specs.Value.{place_of}
 
--- a place among things is that among their names
+-- A place among things is that among their names.
 position_of_names : {X : Type 0} (name : X → List ℕ) (xs : List X) (n : List ℕ) → position_or_len (λ x. bytes_eq (name x) n) xs ≡ position_or_len (λ k. bytes_eq k n) (map name xs)
 position_of_names name [] n = refl
 position_of_names name (x ∷ xs) n = rw (position_of_names name xs n) refl
 
--- the place of a name among members is that among their names
+-- The place of a name among members is that among their names.
 place_among_names : (n : List ℕ) (ms : Members) → place_of n ms ≡ position_or_len (λ k. bytes_eq k n) (names_of ms)
 place_among_names n no_members = refl
 place_among_names n (member k d ms) = rw (nat_list_eq_equiv.symm n k) (by (bytes_eq k n) (place_among_names n ms))
@@ -27,7 +27,8 @@ place_among_names n (member k d ms) = rw (nat_list_eq_equiv.symm n k) (by (bytes
     by true more = refl
     by false more = omega (arith, more)
 
--- a binary search among the names of members answers the place of the name, or that it stands nowhere
+-- A binary search among the names of members returns the place of the name, or that it is at no
+-- place.
 pub member_found : {X : Type 0} (name : X → List ℕ) (xs : List X) (n : List ℕ) (ms : Members) (i : ℕ) (d : X) → map name xs ≡ names_of ms → IsRising (names_of ms)
     → i < length xs → IsBinarySearchResult (λ x. slice_cmp nat_cmp (name x) n) xs (Ok i) → i ≡ place_of n ms
 member_found name xs n ms i d same rise within equal =

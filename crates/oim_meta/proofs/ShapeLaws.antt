@@ -1,4 +1,4 @@
--- The tests for the shapes of a metadata pass exactly where a part does not have its shape.
+-- The tests for the shapes of a metadata pass exactly if a part does not have its shape.
 use Rattle.std.proofs.Common.{◌≡◌, ℕ, List, [], refl, codes, Some, None, Option, Bool, true, false, not, ◌&&◌, ◌||◌}
 use Rattle.std.specs.Prelude.{◌≢◌, ◌↔◌, IfSome, IsSome, IsSomeAnd, is_some, is_none, unwrap_or, option_map, bytes_eq}
 use Rattle.std.proofs.lemmas.Slice.Eq.{bytes_eq-Decides}
@@ -33,7 +33,7 @@ five a b c d e p q r s t = (
   λ x. rw (p.1 x.0, q.1 x.1, r.1 x.2, s.1 x.3, t.1 x.4) refl,
 )
 
--- of a part that may be there, and of one that must be there
+-- A part that may exist, and a part that must exist.
 pub optional : {A : Type 0} (p : A → Bool) (P : A → Type 0) → ((x : A) → Refutes (p x) (P x)) → (o : Option A) → Refutes (unwrap_or (option_map p o) false) (IfSome o P)
 optional p P r None = (λ h. tt, λ h. refl)
 optional p P r (Some x) = r x
@@ -58,7 +58,7 @@ object_of p P r d = needed (any_member p) (AllMembers P) (members p P r) (as_obj
 list_of : (p : Data → Bool) (P : Data → Type 0) → ((d : Data) → Refutes (p d) (P d)) → (d : Data) → Refutes (unwrap_or (option_map (any_item p) (as_array d)) true) (IsListOf P d)
 list_of p P r d = needed (any_item p) (AllItems P) (items p P r) (as_array d)
 
--- the kinds of values
+-- The kinds of values.
 pub isnt : (b : Bool) → Refutes (not b) (b ≡ true)
 isnt true = (λ h. refl, λ h. refl)
 isnt false = (λ h. absurd cc, λ h. absurd cc)
@@ -79,7 +79,7 @@ flag d = absent (as_bool d)
 texts : (d : Data) → Refutes (is_no_texts d) (IsListOf IsText d)
 texts = list_of is_no_text IsText text
 
--- documentInfo
+-- DOCUMENTINFO
 same_text : (t u : List ℕ) → (bytes_eq t u ≡ true) ↔ (t ≡ u)
 same_text t u = let d = bytes_eq-Decides t u in (λ h. d.0 h, λ e. d.1 e)
 
@@ -113,7 +113,7 @@ alone_law d =
     either _ _ (optional is_no_empty_list (IsListOf (λ _. ⊥)) (list_of (λ _. true) (λ _. ⊥) (λ _. anything)) (info_at (codes "extends") d))
     (optional is_no_empty_object (IsObjectOf (λ _ _. ⊥)) (object_of (λ _ _. true) (λ _ _. ⊥) (λ _ _. anything)) (get (codes "links") d))
 
--- templates and tables
+-- TEMPLATES AND TABLES
 dimensions : (d : Data) → Refutes (has_bad_section d) (MayHaveDimensions d)
 dimensions d = optional is_no_object IsObject an_object (get (codes "dimensions") d)
 

@@ -1,4 +1,4 @@
--- `strip_prefix` and `strip_suffix` at a text, as functions.
+-- `strip_prefix` and `strip_suffix` of a text, as functions.
 use Rattle.std.proofs.Common.{◌≡◌, ℕ, List, true, false, Option, Some, None, length, take, drop, Bor, refl, sym, ap, ◌∙◌, ◌-◌, ◌≤◌, subst, arith}
 use Rattle.std.specs.Prelude.{option_map, IsCharBoundary}
 use Rattle.std.specs.Option.{MatchOption}

@@ -1,4 +1,4 @@
--- What a walk finds of each fault in tables and parameters: exactly what the test for the fault says.
+-- A walk finds each fault of tables and parameters exactly if the test for the fault passes.
 use Rattle.std.proofs.Common.{◌≡◌, ◌∙◌, ℕ, List, [], Option, Bool, false, not, ◌||◌, ◌&&◌, refl, codes}
 use Rattle.std.specs.Prelude.{nat_lt}
 use Rattle.serde_json.specs.Data.{Data}
@@ -17,7 +17,7 @@ use Rattle.oim_meta.specs.Paths.{Path, table_path}
 use Rattle.oim_meta.specs.WalkTables.{in_parameter, in_parameters, in_given, in_own_parameters, in_table_itself, in_table, in_tables}
 use Rattle.oim_meta.proofs.FaultSteps.{w, two, here, each, alike, none, nor, off, first, or-same, object_or}
 
--- what a walk finds of a fault, as one test
+-- The findings of one fault, as one test.
 module _ (e : MetaFault) where
   abbrev parameters : Data → Bool
   parameters d =
@@ -74,7 +74,7 @@ module _ (e : MetaFault) where
       (here e TooLarge _ (nat_lt limits.tables (count_of (section (codes "tables") d)))))
       (each e (in_table (get (codes "tableTemplates") d)) (table (get (codes "tableTemplates") d)) (find_table (get (codes "tableTemplates") d)) (section (codes "tables") d))
 
-  -- a fault that parameters, or tables, do not have
+  -- A fault that parameters, or tables, do not have.
   no_parameters : w e BadParameter ≡ false → (d : Data) → parameters d ≡ false
   no_parameters p d = nor _ _ (off _ _ p) (none _ (λ k v. off _ _ p) (section (codes "parameters") d))
 
@@ -88,7 +88,7 @@ module _ (e : MetaFault) where
       (none (table (get (codes "tableTemplates") d))
       (λ n t. nor _ _ (nor _ _ (nor _ _ (nor _ _ (nor _ _ (off _ _ i) (off _ _ s)) (off _ _ s)) (off _ _ s)) (off _ _ u)) (no_parameters p t)) (section (codes "tables") d))
 
--- each fault of tables and parameters
+-- Each fault of tables and parameters.
 pub table_identifiers : (limits : Limits) (d : Data) → tables BadIdentifier limits d ≡ any_member is_bad_key (section (codes "tables") d)
 table_identifiers limits d =
     let e = BadIdentifier in

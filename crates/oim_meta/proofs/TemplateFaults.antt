@@ -1,4 +1,4 @@
--- What a walk finds of each fault in templates: exactly what the test for the fault says.
+-- A walk finds each fault of templates exactly if the test for the fault passes.
 use Rattle.std.proofs.Common.{◌≡◌, ◌∙◌, ℕ, List, [], Bool, true, false, not, ◌||◌, ◌&&◌, refl, sym, ap, codes, bytes_eq}
 use Rattle.serde_json.specs.Data.{Data, Members, no_members, member}
 use Rattle.serde_json.specs.Find.{get}
@@ -19,7 +19,7 @@ use Rattle.oim_meta.specs.Walk.{in_dimension, in_dimensions, in_level, in_group,
 use Rattle.oim_meta.specs.Walk.{in_columns, in_template_itself, in_template, in_templates}
 use Rattle.oim_meta.proofs.FaultSteps.{w, two, here, each, alike, none, nor, off, first, last, or-same, object_or, needed_or}
 
--- what a walk finds of a fault, as one test
+-- The findings of one fault, as one test.
 module _ (known : Known) (e : MetaFault) where
   abbrev dims : Data → Bool
   dims d = (w e BadTemplate && has_bad_section d) || any_member (λ k v. w e BadDimension && is_bad_dimension known.types known.names k v) (section (codes "dimensions") d)
@@ -125,7 +125,7 @@ module _ (known : Known) (e : MetaFault) where
       two e _ _ _ _ (here e BadTemplate _ (if_there is_no_object (get (codes "tableTemplates") d)))
       (each e (in_template known) template find_template (section (codes "tableTemplates") d))
 
-  -- a fault that levels do not have
+  -- A fault that levels do not have.
   no_dims : w e BadTemplate ≡ false → w e BadDimension ≡ false → (d : Data) → dims d ≡ false
   no_dims a b d = nor _ _ (off _ _ a) (none _ (λ k v. off _ _ b) (section (codes "dimensions") d))
 
@@ -154,7 +154,7 @@ module _ (known : Known) (e : MetaFault) where
       → w e BadDecimals ≡ false → w e TooLarge ≡ false → (d : Data) → templates d ≡ false
   no_templates i s k u m d l r = nor _ _ (off _ _ s) (none template (no_template i s k u m d l) (section (codes "tableTemplates") r))
 
--- each fault of a template
+-- Each fault of a template.
 module _ (known : Known) where
   identifier : (name : List ℕ) (t : Data) → template known BadIdentifier name t ≡ (is_bad_key name t || any_member is_bad_key (section (codes "columns") t))
   identifier name t =
@@ -181,7 +181,7 @@ module _ (known : Known) where
       (alike (column known e t) (λ _ c. has_unknown_source t c)
       (λ n c. first _ _ (no_groups known e refl refl refl c) ∙ first _ _ (no_column_level known e refl refl refl c)) (section (codes "columns") t))
 
-  -- a level has the faults of its dimensions, or of its decimals
+  -- A level has the faults of its dimensions, or of its decimals.
   pub dimension_level : (d : Data) → level known BadDimension d ≡ has_bad_dimension known.types known.names d
   dimension_level d = first _ _ refl
 
@@ -214,7 +214,7 @@ module _ (known : Known) where
       (none (column known e t)
       (λ n c. first _ _ (no_groups known e refl refl refl c) ∙ first _ _ (no_column_level known e refl refl refl c)) (section (codes "columns") t))
 
--- the parts of a test in another order
+-- The parts of a test in another order.
 or-left : (a b c : Bool) → (a || (b || c)) ≡ (a || b || c)
 or-left true b c = refl
 or-left false b c = refl
@@ -225,24 +225,24 @@ or-swap true false = refl
 or-swap false true = refl
 or-swap false false = refl
 
--- object, comment, sources, dimensions and groups of a column
+-- The object, comment, sources, dimensions and groups of a column.
 column_order : (o c s d g : Bool) → (o || c || s || d || g) ≡ (o || d || g || c || s)
 column_order true c s d g = refl
 column_order false c s d g = sym (or-left (c || s) d g) ∙ or-swap (c || s) (d || g) ∙ or-left (d || g) c s
 
--- columns, row identifiers, dimensions and the columns' own of a template
+-- The columns, row identifier column, dimensions and column faults of a template.
 template_order : (l r d c : Bool) → (l || r || d || c) ≡ (l || c || d || r)
 template_order true r d c = refl
 template_order false r d c = or-swap (r || d) c ∙ ap (λ b. c || b) (or-swap r d) ∙ or-left c d r
 
--- two tests of one more member and of the others
+-- Two tests of one more member and of the others.
 shuffle : (a b c d : Bool) → (a || b || (c || d)) ≡ (a || c || (b || d))
 shuffle true b c d = refl
 shuffle false true true d = refl
 shuffle false true false d = refl
 shuffle false false c d = refl
 
--- the shape of a template
+-- The shape of a template.
 module _ (known : Known) where
   shape_dims : (d : Data) → dims known BadTemplate d ≡ has_bad_section d
   shape_dims d = first _ _ (none _ (λ k v. refl) (section (codes "dimensions") d))
@@ -274,9 +274,9 @@ module _ (known : Known) where
       ∙ template_order (lacks_columns t) (if_there is_no_text (get (codes "rowIdColumn") t)) (has_bad_section t) (any_member is_bad_column (section (codes "columns") t))
       ∙ ap (λ b. b || has_bad_section t || if_there is_no_text (get (codes "rowIdColumn") t)) (needed_or is_bad_column (get (codes "columns") t))
 
--- each fault of the templates
+-- Each fault of the templates.
 module _ (known : Known) where
-  -- two tests of members are one
+  -- Two tests of members are one.
   both : (p q : List ℕ → Data → Bool) → (ms : Members) → any_member (λ k d. p k d || q k d) ms ≡ (any_member p ms || any_member q ms)
   both p q no_members = refl
   both p q (member k d ms) = rw (both p q ms) (shuffle (p k d) (q k d) (any_member p ms) (any_member q ms))

@@ -1,4 +1,4 @@
--- What a text of the metadata writes, by the relation and by the functions.
+-- The values that a text of the metadata writes, by the relation and by the functions.
 use Rattle.std.proofs.Common.{◌≡◌, ℕ, ◌-◌, ◌<◌, List, [], ◌∷◌, ◌++◌, take, drop, length-append, refl, sym, ap, subst, ◌∙◌, arith, length, codes}
 use Rattle.std.proofs.Common.{Some, None, Option, Bool, true, false, not, ◌==◌, ◌&&◌}
 use Rattle.std.specs.Prelude.{◌↔◌, nat_eq, bytes_eq, if◌then◌else◌}
@@ -25,7 +25,7 @@ use Rattle.oim_meta.specs.BadDimensions.{is_bad_meaning, is_bad_reference, is_ba
 use Rattle.oim_meta.specs.Writes.{IsLiteral, absent, nil, empty, text, Writes, literal, doubled, reference, at_start, at_end}
 use Rattle.oim_meta.specs.Written.{strip_front, strip_back, named, or_whole, name_and_side, reference_of, literal_by, unless_dollar, by_dollar, written_of}
 
--- a text without a mark, and with it
+-- A text without a mark, and with it.
 lacks_not : (m : ℕ) (a b : List ℕ) → Lacks m (a ++ m ∷ b) → ⊥
 lacks_not m [] b h = let e = eq-eqb m m refl in absurd cc
 lacks_not m (c ∷ a) b h = lacks_not m a b h.1
@@ -34,7 +34,7 @@ lacks_joined : (m : ℕ) (s t : List ℕ) → Lacks m s → Lacks m t → Lacks 
 lacks_joined m [] t h k = k
 lacks_joined m (c ∷ s) t h k = (h.0, lacks_joined m s t h.1 k)
 
--- an identifier is a name without a colon, so it lacks the marks that names lack
+-- An identifier is a name without a colon, so it lacks the marks that names lack.
 plain_stand : (cs : List ℕ) → list_all is_plain_char cs ≡ true → list_all is_name_char cs ≡ true
 unfolding is_plain_char
 plain_stand [] h = refl
@@ -63,7 +63,7 @@ lacks_at : (s : List ℕ) → is_identifier s ≡ true → Lacks 64 s
 unfolding is_name_char is_name_start
 lacks_at s h = identifier_lacks 64 s (omega arith) refl h
 
--- what `strip_front` and `strip_back` find
+-- The results of `strip_front` and `strip_back`.
 front_some : (p rest : List ℕ) → strip_front p (p ++ rest) ≡ Some rest
 unfolding strip_front
 front_some p rest = rw ((starts_is Decides-eqb (p ++ rest) p (starts_with nat_eq (p ++ rest) p) refl).1 rest refl) (ap Some (drop-append_seam p rest))
@@ -121,7 +121,7 @@ back_lacks m p s h = by (strip_back (m ∷ p) s) refl
     by None e = refl
     by (Some front) e = absurd (lacks_not m front p (subst (Lacks m) (back_is (m ∷ p) s front e) h))
 
--- the last character
+-- The last character.
 last_of : List ℕ → ℕ
 last_of [] = 0
 last_of (c ∷ []) = c
@@ -144,7 +144,7 @@ end_not_start name = by (strip_back (codes "@start") (name ++ codes "@end")) ref
         sym (last_behind name (codes "end") 64) ∙ ap last_of (back_is (codes "@start") (name ++ codes "@end") front e) ∙ last_behind front (codes "start") 64 in
         absurd (omega (arith, same))
 
--- a reference by its name
+-- A reference by its name.
 name_whole : (key name : List ℕ) → is_identifier name ≡ true → name_and_side key name ≡ (name, Whole)
 unfolding name_and_side
 name_whole key name h = by (bytes_eq key (codes "period")) (back_lacks 64 (codes "start") name (lacks_at name h)) (back_lacks 64 (codes "end") name (lacks_at name h))
@@ -162,7 +162,7 @@ name_at_end : (name : List ℕ) → name_and_side (codes "period") (name ++ code
 unfolding name_and_side
 name_at_end name = rw (end_not_start name, back_some (codes "@end") name) refl
 
--- a reference that is a name, perhaps with a side, is not bad
+-- A reference that is a name, perhaps with a side, is not bad.
 IsGood : Option Kind → List ℕ → List ℕ → Written → Type 0
 IsGood kind key t value = (is_bad_text kind key t ≡ false) × (written_of key t ≡ value)
 
@@ -203,7 +203,7 @@ writes_good (at_end kind name h) =
     let l = lacks_joined 36 name (codes "@end") (lacks_dollar name h) (refl, (refl, (refl, (refl, tt)))) in
     by_name kind (codes "period") (name ++ codes "@end") name End l (name_at_end name) h
 
--- a text that is not bad writes what the functions say
+-- A text that is not bad writes the value of the functions.
 literal_from : (k : Option Kind) (m : Meaning) → is_bad_meaning k m ≡ false → IsLiteral k m (literal_by m)
 literal_from k meaning.Absent h = absent k
 literal_from (Some kind.Typed) meaning.Nil h = nil
@@ -219,7 +219,7 @@ sides_from k rest None (Some front) p q h =
     subst (λ t. Writes k (codes "period") (codes "$" ++ t) (named front End)) (sym (back_is (codes "@end") rest front q)) (at_end k front h)
 sides_from k rest None None p q h = reference k (codes "period") rest h
 
--- the name and the side, by whether there may be one
+-- The name and the side, by whether a side is allowed.
 abbrev parts : List ℕ → Bool → List ℕ × Side
 parts rest b = if b then or_whole rest (strip_back (codes "@start") rest) (strip_back (codes "@end") rest) else (rest, Whole)
 

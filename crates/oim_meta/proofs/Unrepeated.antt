@@ -13,7 +13,7 @@ pub right : (a b : Bool) → (a || b) ≡ false → b ≡ false
 right true b h = absurd cc
 right false b h = h
 
--- a test that fails wherever another does
+-- A test that fails if another does.
 pub fewer : (p q : List ℕ → Data → Bool) → ((k : List ℕ) (d : Data) → p k d ≡ false → q k d ≡ false) → (ms : Members) → any_member p ms ≡ false → any_member q ms ≡ false
 fewer p q h no_members e = refl
 fewer p q h (member k d ms) e = rw (h k d (left (p k d) _ e), fewer p q h ms (right (p k d) _ e)) refl

@@ -18,14 +18,14 @@ fits_i32 (negsuc n) = nat_lt n (2 ^ 31)
 abbrev pub in_range : ℤ → Option ℤ
 in_range z = if fits_i32 z then Some z else None
 
--- a whole number in the range of 32 bits
+-- A whole number in the range of 32 bits.
 abbrev pub whole_of : Data → Option ℤ
 whole_of d = option_and_then in_range (option_and_then as_i64 (as_number d))
 
 abbrev pub named_decimals : List ℕ → WrittenDecimals
 named_decimals name = if bytes_eq name (codes "rowNumber") then RowNumber else Named name
 
--- an accuracy, or none; a text without a meaning is a fault
+-- An accuracy, or absent. A text without a meaning is a fault.
 abbrev pub fixed_by : Option Accuracy → WrittenDecimals
 fixed_by (Some accuracy) = Fixed accuracy
 fixed_by None = Absent
@@ -34,7 +34,7 @@ abbrev pub decimals_by_dollar : List ℕ → Option (List ℕ) → WrittenDecima
 decimals_by_dollar s (Some name) = named_decimals name
 decimals_by_dollar s None = fixed_by (accuracy_of s)
 
--- what a text says as decimals; a dollar sign begins a reference
+-- The decimals that a text writes. A dollar sign begins a reference.
 unfoldable pub text_decimals : List ℕ → WrittenDecimals
 text_decimals s = if bytes_eq s (codes "#none") then Absent else decimals_by_dollar s (strip_front (codes "$") s)
 

@@ -1,4 +1,5 @@
--- The faults of a metadata, by the limits, the parameters file and the types, and the first of them.
+-- The faults of a metadata, given the limits, the parameters file and the types, and the first of
+-- them.
 use Rattle.std.specs.Prelude.{Bool, false, Option, List, [], ◌∷◌, ◌++◌, codes, find}
 use Rattle.serde_json.specs.Data.{Data}
 use Rattle.serde_json.specs.Find.{get}
@@ -16,7 +17,7 @@ use Rattle.oim_meta.specs.BadDecimals.{has_bad_decimals}
 use Rattle.oim_meta.specs.BadParameters.{has_bad_parameter}
 use Rattle.oim_meta.specs.Counts.{has_too_many}
 
--- whether a metadata has this fault
+-- The metadata has this fault.
 abbrev pub has_fault : Limits → ParametersValue → TypesValue → Data → MetaFault → Bool
 has_fault limits given types d Syntax = false
 has_fault limits given types d NotReport = has_no_report d
@@ -36,17 +37,18 @@ has_fault limits given types d TooLarge = has_too_many limits d
 has_fault limits given types d Memory = false
 has_fault limits given types d Read = false
 
--- the faults up to 10, which the metadata alone shows, and the later ones, which may rest on the types, the parameters file or the limits
+-- The faults up to 10, which depend only on the metadata, and the later ones, which may depend on
+-- the types, the parameters file or the limits.
 abbrev pub early_faults : List MetaFault
 early_faults = NotReport ∷ BadNamespaces ∷ BadTaxonomy ∷ Unsupported ∷ BadIdentifier ∷ BadTemplate ∷ ColumnKinds ∷ UnknownTemplate ∷ UnknownColumn ∷ []
 
 abbrev pub late_faults : List MetaFault
 late_faults = BadDimension ∷ BadDecimals ∷ BadParameter ∷ TooLarge ∷ []
 
--- the faults in the order of their numbers
+-- The faults in the order of their numbers.
 abbrev pub faults_in_order : List MetaFault
 faults_in_order = early_faults ++ late_faults
 
--- the first fault that a metadata has
+-- The first fault that a metadata has.
 abbrev pub first_fault : Limits → ParametersValue → TypesValue → Data → Option MetaFault
 first_fault limits given types d = find (has_fault limits given types d) faults_in_order

@@ -10,19 +10,20 @@ use Rattle.oim_meta.specs.Members.{text_of, any_member, map_members}
 abbrev pub names_of : Members → List (List ℕ)
 names_of = map_members (λ k _. k)
 
--- another name has this text
+-- Another name has this text.
 abbrev pub has_other : List ℕ → List ℕ → Members → Bool
 has_other name text = any_member (λ other d. not (bytes_eq name other) && bytes_eq text (text_of d))
 
--- one text under two names
+-- One text under two names.
 abbrev pub repeats_text : Members → Bool
 repeats_text ms = any_member (λ name d. has_other name (text_of d) ms) ms
 
--- a name is below each of these members' names
+-- A name is below each of these members' names.
 abbrev pub IsAbove : List ℕ → Members → Type 0
 IsAbove name ms = AllByRecursion (λ other. slice_cmp nat_cmp name other ≡ Less) (names_of ms)
 
--- the names of an object rise, and so do those of each object among its values; of what a list holds nothing is said
+-- The names of an object are in strict byte order, and so are those of each object among its
+-- values. This definition requires nothing of a list's items.
 abbrev mutual
   pub IsInOrder : Data → Type 0
   IsInOrder null = ⊤

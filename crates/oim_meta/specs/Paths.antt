@@ -1,7 +1,7 @@
 -- The parts of a metadata, and the keys that lead to them from the document.
 use Rattle.std.specs.Prelude.{ℕ, List, [], ◌∷◌, ◌++◌, codes}
 
--- keys, the outermost first
+-- Keys, the outermost first.
 abbrev pub Path : Type 0
 Path = List (List ℕ)
 

@@ -5,14 +5,14 @@ use Rattle.serde_json.specs.Find.{get}
 use Rattle.oim_names.specs.Bindings.{Bindings}
 use Rattle.oim_meta.specs.Members.{text_of, section, map_members}
 
--- the name of each member with its text
+-- The name of each member with its text.
 abbrev pub bindings_of : Members → Bindings
 bindings_of = map_members (λ prefix uri. (prefix, text_of uri))
 
--- the document information, or nothing
+-- The document information, or null.
 abbrev pub document_info : Data → Data
 document_info d = unwrap_or (get (codes "documentInfo") d) null
 
--- the prefixes that it gives
+-- The prefixes of the metadata.
 abbrev pub prefixes_of : Data → Bindings
 prefixes_of d = bindings_of (section (codes "namespaces") (document_info d))

@@ -13,27 +13,28 @@ use Rattle.oim_meta.specs.Findings.{finding, first_of}
 use Rattle.oim_meta.specs.Reading.{HasNoJson, IsJson}
 use Rattle.oim_meta.specs.WalkReport.{in_metadata}
 
--- the fault, whatever its place
+-- The fault, without its place.
 abbrev pub fault_in : Refusal → MetaFault
 fault_in (Found x) = x.fault
 fault_in Memory = fault.Memory
 
--- the first finding; running out of memory says nothing about the metadata
+-- The first finding. Memory may run out for any metadata.
 abbrev pub IsFirstOf : List Finding → Refusal → Type 0
 IsFirstOf xs (Found x) = first_of xs ≡ Some x
 IsFirstOf xs Memory = Unit {0}
 
--- the first finding of the value whose JSON text the bytes are
+-- The first finding of the value whose JSON text the bytes are.
 abbrev pub FindsFirst : Limits → ParametersValue → TypesValue → List ℕ → Finding → Type 0
 FindsFirst limits given types bytes x = (d : Data) × IsJson bytes d × (first_of (in_metadata limits given types d) ≡ Some x)
 
--- the first finding of the bytes: there are too many of them, or they are not JSON text, both at no key; or it is that of their value
+-- The first finding of the bytes. If there are too many of them, or they are not JSON text, it has
+-- no keys; else it is that of their value.
 abbrev pub IsFinding : Limits → ParametersValue → TypesValue → List ℕ → Finding → Type 0
 IsFinding limits given types bytes x =
     ((limits.metadata < length bytes) × (x ≡ finding fault.TooLarge []))
     ⊎ ((length bytes ≤ limits.metadata) × ((HasNoJson bytes × (x ≡ finding fault.Syntax [])) ⊎ FindsFirst limits given types bytes x))
 
--- why the bytes are refused; running out of memory says nothing about them
+-- Why the bytes are refused. Memory may run out for any bytes.
 abbrev pub IsRefusal : Limits → ParametersValue → TypesValue → List ℕ → Refusal → Type 0
 IsRefusal limits given types bytes (Found x) = IsFinding limits given types bytes x
 IsRefusal limits given types bytes Memory = Unit {0}

@@ -1,5 +1,5 @@
--- The report that a metadata without faults spells out (xBRL-CSV 1.0: metadata, table templates,
--- columns and tables). The members of a JSON object are in byte order of name.
+-- The report of a metadata without faults (xBRL-CSV 1.0: metadata, table templates, columns and
+-- tables). The members of a JSON object are in byte order of name.
 use Rattle.std.specs.Prelude.{ℕ, suc, List, [], ◌∷◌, ◌++◌, bytes_eq, nat_eq, fold, Option, Some, None, option_map, unwrap_or, codes, if◌then◌else◌}
 use Rattle.std.specs.List.{list_any}
 use Rattle.serde_json.specs.Data.{Data, Items, Members, no_members, member}
@@ -22,26 +22,26 @@ use Rattle.oim_meta.specs.Prefixes.{document_info, prefixes_of}
 use Rattle.oim_meta.specs.Written.{written_of}
 use Rattle.oim_meta.specs.Decimals.{decimals_of}
 
--- a name with its text
+-- A name with its text.
 abbrev pub named_text : List ℕ → Data → List ℕ × List ℕ
 named_text name d = (name, text_of d)
 
 abbrev pub named_dimension : List ℕ → Data → List ℕ × Written
 named_dimension key d = (key, written_of key (text_of d))
 
--- what one level writes
+-- The properties of one level.
 unfoldable pub level_of : Data → Level
 level_of d = record { dimensions = map_members named_dimension (section (codes "dimensions") d); decimals = option_map decimals_of (get (codes "decimals") d) }
 
 abbrev pub named_level : List ℕ → Data → List ℕ × Level
 named_level name d = (name, level_of d)
 
--- the place of a name among members, counted from 0
+-- The place of a name among members, from 0.
 abbrev pub place_of : List ℕ → Members → ℕ
 place_of name no_members = 0
 place_of name (member k d ms) = if bytes_eq name k then 0 else suc (place_of name ms)
 
--- x is added at the end, unless it is there
+-- X is added at the end, unless the list has it.
 abbrev pub add_new : List ℕ → ℕ → List ℕ
 add_new seen x = if list_any (λ y. nat_eq y x) seen then seen else seen ++ x ∷ []
 
@@ -49,11 +49,13 @@ abbrev pub add_place : Members → List ℕ → Option (List ℕ) → List ℕ
 add_place columns seen None = seen
 add_place columns seen (Some name) = add_new seen (place_of name columns)
 
--- the places of names among columns, each once, in the order of first mention; a value that is not a text names nothing
+-- The places of names among columns, each once, in the order of first mention. A value that is not
+-- a text names nothing.
 abbrev pub places_of : Members → Items → List ℕ
 places_of columns names = fold (add_place columns) [] (map_items as_str names)
 
--- a column with dimensions, even empty, is a fact column; else one with propertyGroups is a property group column
+-- A column with dimensions, even empty, is a fact column; else one with propertyGroups is a
+-- property group column.
 abbrev pub kind_of : Data → ColumnKind
 kind_of c =
     if is_fact c then Fact
@@ -61,7 +63,7 @@ kind_of c =
     else if is_comment c then Comment
     else Plain
 
--- what a column writes; only that of a fact column is read
+-- The level of a column. Only a fact column's level is used.
 abbrev pub column_level : ColumnKind → Data → Level
 column_level Fact c = level_of c
 column_level Groups c = no_level
@@ -74,14 +76,14 @@ groups_of Groups c = map_members named_level (section (codes "propertyGroups") c
 groups_of Comment c = []
 groups_of Plain c = []
 
--- the columns that a fact column takes property groups from
+-- The columns that a fact column takes property groups from.
 abbrev pub sources_of : Members → ColumnKind → Data → List ℕ
 sources_of columns Fact c = places_of columns (items_at (codes "propertiesFrom") c)
 sources_of columns Groups c = []
 sources_of columns Comment c = []
 sources_of columns Plain c = []
 
--- a column among the columns of its template
+-- A column among the columns of its template.
 unfoldable pub column_of : Members → List ℕ → Data → Column
 column_of columns id c =
     record { id = id; kind = kind_of c; level = column_level (kind_of c) c; groups = groups_of (kind_of c) c; from = sources_of columns (kind_of c) c }
@@ -95,7 +97,7 @@ row_id_of t = option_map (λ name. place_of name (section (codes "columns") t)) 
 unfoldable pub template_of : List ℕ → Data → Template
 template_of id t = record { id = id; columns = columns_of t; row_id_column = row_id_of t; level = level_of t }
 
--- a table, by the templates of its report
+-- A table, with the templates of its report.
 unfoldable pub table_of : Members → List ℕ → Data → Table
 table_of templates id t =
     record {
@@ -115,7 +117,8 @@ templates_of d = map_members template_of (section (codes "tableTemplates") d)
 abbrev pub info_of : Data → Info
 info_of i = record { base_url = text_at (codes "baseURL") i; taxonomy = map_items text_of (items_at (codes "taxonomy") i) }
 
--- the report of a metadata, with a parameters file and the types; its own parameters come first
+-- The report of a metadata, with a parameters file and the types. The metadata's own parameters are
+-- before those of the file.
 unfoldable pub report_of : ParametersValue → TypesValue → Data → ReportValue
 report_of parameters types d =
     record {

@@ -1,4 +1,5 @@
--- What is wrong with the parameters and the tables of a metadata, and where, in the order of the walk (xBRL-CSV 1.0: parameters, tables).
+-- The faults of the parameters and the tables of a metadata with their places, in the order of the
+-- walk (xBRL-CSV 1.0: parameters, tables).
 use Rattle.std.specs.Prelude.{ℕ, List, [], ◌∷◌, ◌++◌, not, nat_lt, Option, codes}
 use Rattle.serde_json.specs.Data.{Data}
 use Rattle.serde_json.specs.Find.{get}
@@ -15,27 +16,27 @@ use Rattle.oim_meta.specs.Findings.{found}
 use Rattle.oim_meta.specs.Paths.{Path, table_path}
 use Rattle.oim_meta.specs.Walk.{in_members}
 
--- a parameter of the part at a path
+-- A parameter of the part at a path.
 abbrev pub in_parameter : Path → List ℕ → Data → List Finding
 in_parameter here name d = found BadParameter (here ++ codes "parameters" ∷ name ∷ []) (is_bad_parameter name d)
 
--- the parameters of a report or a table
+-- The parameters of a report or a table.
 unfoldable pub in_parameters : Path → Data → List Finding
 in_parameters here d =
     found BadParameter (here ++ codes "parameters" ∷ []) (if_there is_no_object (get (codes "parameters") d))
     ++ in_members (in_parameter here) (section (codes "parameters") d)
 
--- a parameter of the report that is also in the parameters file
+-- A parameter of the report that is also in the parameters file.
 abbrev pub in_given : ParametersValue → List ℕ → Data → List Finding
 in_given given name d = found BadParameter (codes "parameters" ∷ name ∷ []) (is_given given name d)
 
--- the parameters of the report, and the name of the parameters file
+-- The parameters of the report, and the name of the parameters file.
 unfoldable pub in_own_parameters : ParametersValue → Data → List Finding
 in_own_parameters given d =
     in_parameters [] d ++ in_members (in_given given) (section (codes "parameters") d)
     ++ found BadParameter (codes "parameterURL" ∷ []) (has_bad_parameter_url d)
 
--- the shape of a table
+-- The shape of a table.
 unfoldable pub in_table_itself : List ℕ → Data → List Finding
 in_table_itself name t =
     found BadIdentifier (table_path name) (not (is_identifier name))
@@ -43,16 +44,16 @@ in_table_itself name t =
     ++ found BadTemplate (table_path name ++ codes "template" ∷ []) (if_there is_no_text (get (codes "template") t))
     ++ found BadTemplate (table_path name ++ codes "optional" ∷ []) (if_there is_no_flag (get (codes "optional") t))
 
--- the template that a table names, by the templates of its report
+-- The template that a table names, with the templates of its report.
 abbrev pub in_named_template : Option Data → List ℕ → Data → List Finding
 in_named_template templates name t = found UnknownTemplate (table_path name ++ codes "template" ∷ []) (lacks_template_of templates name t)
 
--- a table, by the templates of its report
+-- A table, with the templates of its report.
 unfoldable pub in_table : Option Data → List ℕ → Data → List Finding
 in_table templates name t =
     in_table_itself name t ++ in_named_template templates name t ++ in_parameters (table_path name) t
 
--- the tables of a metadata, and how many there are
+-- The tables of a metadata, and their count.
 unfoldable pub in_tables : Limits → Data → List Finding
 in_tables limits d =
     found BadTemplate (codes "tables" ∷ []) (if_there is_no_object (get (codes "tables") d))

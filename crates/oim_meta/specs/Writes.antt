@@ -1,5 +1,6 @@
--- What a text of the metadata writes as the value of a dimension (xBRL-CSV 1.0: literals, parameter references and row numbers; its
--- special values), as a relation. A text that writes no value is a fault.
+-- The value that a text of the metadata writes for a dimension, as a relation (xBRL-CSV 1.0:
+-- literals, parameter references and row numbers; its special values). A text that writes no value
+-- is a fault.
 use Rattle.std.specs.Prelude.{◌≡◌, ℕ, List, ◌++◌, codes, nat_eq, true, false, Option, Some}
 use Rattle.std.specs.List.{starts_with}
 use Rattle.oim_names.specs.Names.{is_identifier}
@@ -12,15 +13,17 @@ use Rattle.oim_report.specs.declared.data.Written.{Written}
 use Rattle.oim_report.specs.declared.data.Written.TheVariants.{Absent, Nil, Empty, Text}
 use Rattle.oim_meta.specs.Written.{named}
 
--- a literal by its meaning, for a dimension of this kind; nil and empty are values of typed dimensions only
+-- A literal by its meaning, for a dimension of this kind. Nil and empty are values of typed
+-- dimensions only.
 pub data IsLiteral : Option Kind → Meaning → Written → Type 0 where
   absent : (kind : Option Kind) → IsLiteral kind meaning.Absent Absent
   nil : IsLiteral (Some Typed) meaning.Nil Nil
   empty : IsLiteral (Some Typed) meaning.Empty Empty
   text : (kind : Option Kind) (t : List ℕ) → IsLiteral kind (meaning.Text t) (Text t)
 
--- the text writes the value at this key: a literal, a literal that begins with a dollar sign, which is doubled, or a reference, which has
--- a side at the key period only. A reference names the number of the row, a column or a parameter
+-- The text writes the value at this key: a literal, a literal that begins with a dollar sign, which
+-- is doubled, or a reference. Only a reference at the key period may have a side. A reference names
+-- the number of the row, a column or a parameter.
 pub data Writes : Option Kind → List ℕ → List ℕ → Written → Type 0 where
   literal : (kind : Option Kind) (key t : List ℕ) (value : Written) → starts_with nat_eq t (codes "$") ≡ false → IsLiteral kind (meaning_of t) value
       → Writes kind key t value

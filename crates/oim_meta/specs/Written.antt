@@ -9,15 +9,15 @@ use Rattle.oim_report.specs.declared.data.Side.TheVariants.{Whole, Start, End}
 use Rattle.oim_report.specs.declared.data.Written.{Written}
 use Rattle.oim_report.specs.declared.data.Written.TheVariants.{Absent, Nil, Empty, Text, RowNumber, Named}
 
--- the text after the prefix p
+-- The text after the prefix p.
 unfoldable pub strip_front : List ℕ → List ℕ → Option (List ℕ)
 strip_front p s = if starts_with nat_eq s p then Some (drop (length p) s) else None
 
--- the text before the suffix p
+-- The text before the suffix p.
 unfoldable pub strip_back : List ℕ → List ℕ → Option (List ℕ)
 strip_back p s = if ends_with nat_eq s p then Some (take (length s - length p) s) else None
 
--- the number of the row, or what a name gives
+-- The number of the row, or the value of a name.
 abbrev pub named : List ℕ → Side → Written
 named name side = if bytes_eq name (codes "rowNumber") then RowNumber side else Named name side
 
@@ -26,16 +26,16 @@ or_whole text (Some front) end = (front, Start)
 or_whole text None (Some front) = (front, End)
 or_whole text None None = (text, Whole)
 
--- a reference without its dollar sign: a name and a side; only at the key period can it have one
+-- A reference without its dollar sign: a name and a side. Only the key period can have a side.
 unfoldable pub name_and_side : List ℕ → List ℕ → List ℕ × Side
 name_and_side key text =
     if bytes_eq key (codes "period") then or_whole text (strip_back (codes "@start") text) (strip_back (codes "@end") text) else (text, Whole)
 
--- what such a reference writes
+-- The value that such a reference writes.
 abbrev pub reference_of : List ℕ → List ℕ → Written
 reference_of key text = named (name_and_side key text).0 (name_and_side key text).1
 
--- a literal by its meaning; an unknown one is a fault
+-- A literal by its meaning. An unknown one is a fault.
 abbrev pub literal_by : Meaning → Written
 literal_by meaning.Absent = Absent
 literal_by meaning.Nil = Nil
@@ -51,6 +51,7 @@ abbrev pub by_dollar : List ℕ → List ℕ → Option (List ℕ) → Written
 by_dollar key s (Some rest) = unless_dollar key rest (strip_front (codes "$") rest)
 by_dollar key s None = literal_by (meaning_of s)
 
--- what a text says at a dimension's key: two dollar signs begin a literal text and one a reference; other texts are literals
+-- The value that a text writes at a dimension's key. Two dollar signs begin a literal text, one
+-- begins a reference, and other texts are literals.
 abbrev pub written_of : List ℕ → List ℕ → Written
 written_of key s = by_dollar key s (strip_front (codes "$") s)

@@ -17,13 +17,13 @@ pub(crate) mod places;
 
 use crate::build::made::{copied, take_texts};
 use crate::lookup::text_at;
-use crate::walk::report::Parts;
+use crate::walk::report::ReportParts;
 use oim_names::{Items, Namespaces};
 use oim_report::{Info, Parameters, Report, Types};
 use serde_json::Value;
 use std::alloc::{AllocError, Global};
 
-/// What the document says of itself; the texts of its taxonomy are taken out of it.
+/// Makes the document's own information. The texts of its taxonomy are moved out of `document`.
 fn info(alloc: Global, document: &mut Value) -> Result<Info, AllocError>
     ensures { IfOk result (λ made. made ≡ info_of (view document.old)) }
 {
@@ -32,7 +32,7 @@ fn info(alloc: Global, document: &mut Value) -> Result<Info, AllocError>
     Ok(Info { base_url, taxonomy })
 }
 
-/// What a metadata's document says of itself, or nothing if there is none.
+/// Makes the information of a metadata's document, which is empty if the metadata has none.
 fn info_in(alloc: Global, mut value: Value) -> Result<Info, AllocError>
     ensures { IfOk result (λ made. made ≡ info_of (document_info (view value))) }
 {
@@ -45,13 +45,14 @@ fn info_in(alloc: Global, mut value: Value) -> Result<Info, AllocError>
     }
 }
 
-/// The report of a metadata with these prefixes and parts, each of whose names of templates and columns is known.
+/// Makes the report of a metadata with these prefixes and parts. The names of templates and columns
+/// that its parts refer to must exist.
 #[tactic(auto, unfolding(crate::specs::Value::report_of))]
 pub(crate) fn report(
     alloc: Global,
     value: Value,
     namespaces: Namespaces,
-    parts: Parts,
+    parts: ReportParts,
     parameters: Parameters,
     types: Types,
 ) -> Result<Report, AllocError>

@@ -1,4 +1,4 @@
-//! How many members there are.
+//! Counts of members.
 
 ghost use Rattle.std.specs.Prelude.{◌≡◌};
 ghost use Rattle.serde_json.specs.View.{view, members_view};
@@ -8,7 +8,7 @@ ghost use Rattle.oim_meta.specs.Counts.{count_of};
 use crate::lookup::object_at;
 use serde_json::{Map, Value};
 
-/// How many members there are.
+/// Returns the count of members.
 #[tactic(auto, using(crate::proofs::Counted::count_is))]
 pub(crate) fn count(members: &Map<String, Value>) -> usize
     ensures { result ≡ count_of (members_view members.now.entries) }
@@ -16,7 +16,7 @@ pub(crate) fn count(members: &Map<String, Value>) -> usize
     members.len()
 }
 
-/// How many members the object at a key has; none if there is no object.
+/// Returns the count of members of the object at a key, or 0 if there is no object.
 pub(crate) fn count_at(value: &Value, key: &str) -> usize
     ensures { result ≡ count_of (section key.now (view value.now)) }
 {

@@ -18,7 +18,7 @@ fn in_range(number: i64) -> Option<i32>
     i32::try_from(number).ok()
 }
 
-/// The whole number of a value, if it fits into 32 bits.
+/// Returns the whole number of a value, if it fits into 32 bits.
 pub(crate) fn whole(value: &Value) -> Option<i32>
     ensures { result ≡ whole_of (view value.now) }
 {
@@ -60,7 +60,7 @@ fn text_decimals(alloc: Global, text: &str) -> Result<WrittenDecimals, AllocErro
     }
 }
 
-/// What a value says as decimals.
+/// Makes the decimals that a value writes.
 pub(crate) fn written_decimals(alloc: Global, value: &Value) -> Result<WrittenDecimals, AllocError>
     ensures { IfOk result (λ made. made ≡ decimals_of (view value.now)) }
 {

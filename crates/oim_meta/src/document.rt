@@ -1,4 +1,4 @@
-//! What is wrong with the document as a whole: its type, its namespaces, its taxonomy, and what is not supported.
+//! Faults of the whole document: its type, its namespaces, its taxonomy, and unsupported features.
 
 ghost use Rattle.std.specs.Prelude.{◌≡◌, ◌++◌, codes, true, OnOk};
 ghost use Rattle.serde_json.specs.Find.{get};
@@ -11,9 +11,9 @@ ghost use Rattle.oim_meta.specs.WalkReport.{in_document, in_info, in_info_in, in
 
 use crate::counts::count;
 use crate::findings::Findings;
+use crate::json_path::MetadataPart;
 use crate::lookup::{object_at, text_at};
 use crate::order::repeats_text;
-use crate::place::Part;
 use crate::shapes::{is_no_object_at, is_no_text_at, is_no_texts};
 use oim_entries::MetaFault;
 use oim_names::is_ncname;
@@ -29,7 +29,7 @@ fn is_csv_type(info: &Value) -> bool
     }
 }
 
-/// Whether the document information is missing, or its document type is another.
+/// Returns whether the document information is missing, or its document type is another.
 #[tactic(auto, unfolding(crate::specs::Faults::has_no_report))]
 pub(crate) fn no_report(report: &Value) -> bool
     ensures { result ≡ has_no_report (view report.now) }
@@ -52,7 +52,7 @@ fn find_prefix<'v>(prefix: &'v str, uri: &Value, findings: &mut Findings<'v>)
     findings.add_if(
         bad_prefix(prefix, uri),
         MetaFault::BadNamespaces,
-        Part::Document.member("namespaces", prefix),
+        MetadataPart::Document.member("namespaces", prefix),
     );
 }
 
@@ -65,7 +65,7 @@ fn find_prefixes<'v>(members: &'v Map<String, Value>, findings: &mut Findings<'v
     }
 }
 
-/// Adds what is wrong with the namespaces. Fails if memory runs out.
+/// Adds the faults of the namespaces.
 #[tactic(auto, unfolding(crate::specs::WalkReport::in_namespaces))]
 fn find_namespaces<'v>(
     alloc: Global,
@@ -77,7 +77,7 @@ fn find_namespaces<'v>(
     findings.add_if(
         is_no_object_at(info, "namespaces"),
         MetaFault::BadNamespaces,
-        Part::Document.at("namespaces"),
+        MetadataPart::Document.at("namespaces"),
     );
     match object_at(info, "namespaces") {
         Some(members) => {
@@ -85,7 +85,7 @@ fn find_namespaces<'v>(
             findings.add_if(
                 repeats_text(alloc, members)?,
                 MetaFault::BadNamespaces,
-                Part::Document.at("namespaces"),
+                MetadataPart::Document.at("namespaces"),
             );
             Ok(())
         }
@@ -117,7 +117,7 @@ fn is_no_empty_list(value: &Value) -> bool
     }
 }
 
-/// Whether `extends` is there and is not an empty list.
+/// Returns whether `extends` exists and is not an empty list.
 fn extends_another(info: &Value) -> bool
     ensures { result ≡ if_there not_empty_list (get (codes "extends") (view info.now)) }
 {
@@ -127,7 +127,7 @@ fn extends_another(info: &Value) -> bool
     }
 }
 
-/// Adds what is wrong with the document information apart from its type. Fails if memory runs out.
+/// Adds the faults of the document information apart from its type.
 #[tactic(auto, unfolding(crate::specs::WalkReport::in_info))]
 fn find_info<'v>(
     alloc: Global,
@@ -140,17 +140,17 @@ fn find_info<'v>(
     findings.add_if(
         lacks_taxonomy(info),
         MetaFault::BadTaxonomy,
-        Part::Document.at("taxonomy"),
+        MetadataPart::Document.at("taxonomy"),
     );
     findings.add_if(
         is_no_text_at(info, "baseURL"),
         MetaFault::BadTaxonomy,
-        Part::Document.at("baseURL"),
+        MetadataPart::Document.at("baseURL"),
     );
     findings.add_if(
         extends_another(info),
         MetaFault::Unsupported,
-        Part::Document.at("extends"),
+        MetadataPart::Document.at("extends"),
     );
     Ok(())
 }
@@ -194,7 +194,7 @@ fn has_links(report: &Value) -> bool
     }
 }
 
-/// Adds what is wrong with the document as a whole. Fails if memory runs out.
+/// Adds the faults of the whole document.
 #[tactic(auto, unfolding(crate::specs::WalkReport::in_document))]
 pub(crate) fn find_document<'v>(
     alloc: Global,
@@ -206,13 +206,13 @@ pub(crate) fn find_document<'v>(
     findings.add_if(
         no_report(report),
         MetaFault::NotReport,
-        Part::Document.at("documentType"),
+        MetadataPart::Document.at("documentType"),
     );
     find_info_in(alloc, report, findings)?;
     findings.add_if(
         has_links(report),
         MetaFault::Unsupported,
-        Part::Report.at("links"),
+        MetadataPart::Report.at("links"),
     );
     Ok(())
 }

@@ -7,7 +7,8 @@ ghost use Rattle.oim_meta.specs.FirstFault.{first_fault};
 ghost use Rattle.oim_report.specs.Parameters.{ParametersValue};
 ghost use Rattle.oim_report.specs.Types.{TypesValue};
 
-/// The first fault of a metadata is the one with the least number. A metadata without a first fault has no fault.
+/// Proves that the first fault of a metadata is the one with the least number, and that a metadata
+/// without a first fault has no fault.
 pub fn first_fault_is_least()
     ensures { (limits : Limits) (given : ParametersValue) (types : TypesValue) (d : Data)
         → IsLeastFault limits given types d (first_fault limits given types d) }

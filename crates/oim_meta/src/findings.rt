@@ -1,16 +1,17 @@
-//! What a walk over a metadata finds wrong.
+//! The faults that a walk over a metadata finds.
 
 ghost use Rattle.std.specs.Prelude.{◌≡◌, ◌++◌, ◌∷◌, [], option_map};
 ghost use Rattle.oim_meta.specs.Findings.{finding, found, first_of};
 ghost use Rattle.oim_meta.specs.state.Places.{seen_found, place_path};
 
-use crate::place::Place;
+use crate::json_path::JsonPath;
 use ghost_value::{Denotes, GhostValue};
 use oim_entries::MetaFault;
 use oim_names::{Items, Text};
 use std::marker::Model;
 
-/// A fault, and the keys that lead to its place, the outermost first; no keys for the metadata as a whole.
+/// A fault, and the keys that lead to its place, the outermost first. A fault of the whole metadata
+/// has no keys.
 #[derive(Drop)]
 pub struct Finding {
     pub fault: MetaFault,
@@ -21,11 +22,13 @@ pub struct Finding {
 #[derive(Clone, Copy, Debug)]
 pub(crate) struct Found<'v> {
     pub(crate) fault: MetaFault,
-    pub(crate) place: Place<'v>,
+    pub(crate) place: JsonPath<'v>,
 }
 
-/// The first of the faults that a walk has found so far: the one with the least number, and of those the earliest.
-/// It takes no memory. Contracts see all that were found, in the order of the walk.
+/// The first fault that a walk has found so far: the one with the least number, and the earliest of
+/// that number.
+///
+/// It takes no memory. Contracts see all faults that were found, in the order of the walk.
 #[derive(Drop)]
 pub(crate) struct Findings<'v> {
     first: Option<Found<'v>>,
@@ -47,17 +50,17 @@ impl<'v> Model for Findings<'v> {
 
 /// The findings so far, and one more.
 #[derive(Drop)]
-struct OneMore<'a, 'v> {
+struct OneMoreFinding<'a, 'v> {
     before: &'a GhostValue<Items<Finding>>,
     last: &'a Found<'v>,
 }
 
-impl<'a, 'v> Denotes<Items<Finding>> for OneMore<'a, 'v> {
+impl<'a, 'v> Denotes<Items<Finding>> for OneMoreFinding<'a, 'v> {
     ghost denoted = { λ t. t.before.now.value ++ seen_found t.last.now ∷ [] };
 }
 
 impl<'v> Findings<'v> {
-    /// Nothing is found yet.
+    /// Makes empty findings.
     pub(crate) fn new(nothing: &Items<Finding>) -> Findings<'v>
         requires { nothing.now ≡ [] }
         ensures { result ≡ [] }
@@ -68,20 +71,20 @@ impl<'v> Findings<'v> {
         }
     }
 
-    /// The first finding.
+    /// Returns the first finding.
     pub(crate) fn first(&self) -> Option<Found<'v>>
         ensures { option_map seen_found result ≡ first_of self.now }
     {
         self.first
     }
 
-    /// Adds a finding as the last.
-    pub(crate) fn add(&mut self, fault: MetaFault, place: Place<'v>)
+    /// Appends a finding.
+    pub(crate) fn add(&mut self, fault: MetaFault, place: JsonPath<'v>)
         ensures { self.new ≡ self.old ++ finding fault (place_path place.entry) ∷ [] }
     {
         let last = Found { fault, place };
         let before = &self.all;
-        let all = GhostValue::of(&OneMore {
+        let all = GhostValue::of(&OneMoreFinding {
             before,
             last: &last,
         });
@@ -93,8 +96,8 @@ impl<'v> Findings<'v> {
         *self = Findings { first, all };
     }
 
-    /// Adds a finding if the test passes.
-    pub(crate) fn add_if(&mut self, test: bool, fault: MetaFault, place: Place<'v>)
+    /// Appends a finding if the test passes.
+    pub(crate) fn add_if(&mut self, test: bool, fault: MetaFault, place: JsonPath<'v>)
         ensures { self.new ≡ self.old ++ found fault (place_path place.entry) test }
     {
         if test {

@@ -1,24 +1,28 @@
 //! The metadata of a report in xBRL-CSV 1.0, read from its bytes into a `Report`.
 //!
-//! What the crate promises:
-//! - `read_report` answers a report exactly where the metadata has no fault, and then the report
-//!   that its JSON spells out (`specs/Value.antt`); else its first fault: of the bytes (`specs/Reading.antt`), then of
-//!   their value in the order of `specs/FirstFault.antt`, one predicate for each fault number;
-//! - `read_report_at` says the same, and of the fault the keys that lead to its place: of all that a walk over
-//!   the metadata finds the first (`specs/WalkReport.antt`, `a_walk_finds_all_faults`, `first_finding_is_least`);
-//! - `parameter_url` answers exactly where the metadata has none of the four faults that it names, and else the first of them;
-//! - a `Metadata` is the JSON of a metadata, read once. Its `parameter_url` and `report_at` say of its value what
-//!   the calls above say of bytes;
-//! - a dimension's text has a fault exactly where it writes no value, and else it writes the one value that
-//!   the report has (`a_text_writes_one_value`, `specs/Writes.antt`);
-//! - a metadata has a fault of its document type, namespaces, taxonomy, extensions, identifiers, shape, kinds of
-//!   columns or templates exactly where a part is not what `specs/Shapes.antt` says it is
-//!   (`faults_of_shape_are_parts_without_it`).
+//! What is proved:
 //!
-//! Where memory runs out, `Memory` may come in place of any of these answers. The files of the parameters and of the
-//! types are read by `oim_entries`, whose names this crate passes on.
+//! - `read_report` returns a report exactly if the metadata has no fault, and then the report of
+//!   its JSON (`specs/Value.antt`). Else it returns the first fault: of the bytes
+//!   (`specs/Reading.antt`), then of their value in the order of `specs/FirstFault.antt`, which has
+//!   one predicate for each fault number.
+//! - `read_report_at` does the same, and also returns the keys that lead to the fault's place. It
+//!   returns the first finding of a walk over the metadata (`specs/WalkReport.antt`,
+//!   `a_walk_finds_all_faults`, `first_finding_is_least`).
+//! - `parameter_url` returns a value exactly if the metadata has none of the four faults that it
+//!   names, else the first of them.
+//! - A `Metadata` is the JSON of a metadata, read once. Its `parameter_url` and `report_at` have
+//!   the contracts of the calls above, for its value instead of bytes.
+//! - A dimension's text has a fault exactly if it writes no value. Else it writes one value, which
+//!   the report has (`a_text_writes_one_value`, `specs/Writes.antt`).
+//! - A metadata has a fault of its document type, namespaces, taxonomy, extensions, identifiers,
+//!   shape, kinds of columns or templates exactly if a part does not have its shape in
+//!   `specs/Shapes.antt` (`faults_of_shape_are_parts_without_it`).
 //!
-//! A call:
+//! If memory runs out, any of these calls may return `Memory` instead. `oim_entries` reads the
+//! parameters file and the types table, and this crate re-exports its names.
+//!
+//! Example:
 //!
 //! ```
 //! /// The report of a metadata file and a types table, without a parameters file.
@@ -43,10 +47,10 @@ mod document;
 mod fault_laws;
 mod finding_laws;
 mod findings;
+mod json_path;
 mod lookup;
 mod metadata;
 mod order;
-mod place;
 mod read;
 mod refusal;
 mod report;

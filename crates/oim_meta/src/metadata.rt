@@ -23,8 +23,10 @@ use serde_json::{Error, Value};
 use std::alloc::Global;
 use std::marker::Model;
 
-/// The JSON of a metadata, read once. A contract sees its value, in which the members of an object stand in byte order of name,
-/// unless a list holds the object.
+/// The JSON of a metadata, read once.
+///
+/// Contracts see its value. The members of each object in it are in byte order of name, except in
+/// objects inside a list.
 #[derive(Drop)]
 pub struct Metadata {
     value: Value,
@@ -46,7 +48,7 @@ impl Model for Metadata {
     ghost invariant = { λ m. IsInOrder (seen m.value) };
 }
 
-/// The fault of bytes that could not be read as JSON.
+/// Returns the fault of bytes that could not be read as JSON.
 fn fault_of(error: &Error) -> MetaFault
     ensures { IsFaultOf error.now result }
 {
@@ -57,7 +59,7 @@ fn fault_of(error: &Error) -> MetaFault
     }
 }
 
-/// The JSON value of the bytes.
+/// Returns the JSON value of the bytes.
 fn parse(alloc: Global, bytes: &[u8]) -> Result<Value, MetaFault>
     ensures json { IfOk result (λ v. IsJson bytes.now (view v)) }
     ensures order { IfOk result (λ v. IsInOrder (view v)) }
@@ -70,14 +72,14 @@ fn parse(alloc: Global, bytes: &[u8]) -> Result<Value, MetaFault>
     }
 }
 
-/// Fails with a fault if it is there.
+/// Fails with `fault` if `is_there`.
 fn refuse_if(is_there: bool, fault: MetaFault) -> Result<(), MetaFault>
     ensures { result ≡ (if is_there then Err fault else Ok tt) }
 {
     if is_there { Err(fault) } else { Ok(()) }
 }
 
-/// Refuses what is not a report, and a name of the parameters file that is not a plain path.
+/// Fails if the value is not a report, or if the name of the parameters file is not a plain path.
 fn check_url(report: &Value) -> Result<(), MetaFault>
     ensures sound { OnOk result (first_url_fault (view report.now) ≡ None) }
     ensures fault { IfErr result (λ fault. first_url_fault (view report.now) ≡ Some fault) }
@@ -87,13 +89,18 @@ fn check_url(report: &Value) -> Result<(), MetaFault>
 }
 
 impl Metadata {
-    /// Reads the JSON of a metadata, for the name of its parameters file and for its report. One byte-order mark at the start
-    /// of the bytes is skipped, and of a key that comes twice the last value counts.
+    /// Reads the JSON of a metadata, from which the name of its parameters file and its report are
+    /// made.
+    ///
+    /// One byte-order mark at the start of the bytes is skipped. If an object has a key twice, the
+    /// last value counts.
     ///
     /// # Errors
     ///
-    /// `TooLarge` if there are more than `limits.metadata` bytes; `Syntax` if they are not JSON in UTF-8 (RFC 8259) as `serde_json`
-    /// reads it: at most 127 levels, no number past a double, no escape of half a surrogate pair; `Memory` if memory runs out.
+    /// - `TooLarge`: there are more than `limits.metadata` bytes.
+    /// - `Syntax`: the bytes are not JSON in UTF-8 (RFC 8259) as `serde_json` reads it. That is at
+    ///   most 127 levels, no number beyond a double and no escape of half a surrogate pair.
+    /// - `Memory`: memory ran out.
     pub fn read(alloc: Global, bytes: &[u8], limits: &Limits) -> Result<Metadata, MetaFault>
         ensures json { IfOk result (λ m. Reads limits.now bytes.now (view m)) }
         ensures order { IfOk result (λ m. IsInOrder (view m)) }
@@ -107,13 +114,16 @@ impl Metadata {
         })
     }
 
-    /// The name of the parameters file that the metadata gives (xBRL-CSV 1.0, parameterURL), a plain path, or `None` if it
-    /// gives none.
+    /// Returns the name of the parameters file that the metadata gives (xBRL-CSV 1.0,
+    /// parameterURL), a plain path, or `None` if it gives none.
     ///
     /// # Errors
     ///
-    /// `NotReport`, else `BadParameter` if the name is not a text or not a plain path; no other fault is answered. `Memory` if
-    /// memory runs out.
+    /// - `NotReport`: the value is not an object, or its document is not of the type xBRL-CSV.
+    /// - `BadParameter`, if not `NotReport`: the name is not a text or not a plain path.
+    /// - `Memory`: memory ran out.
+    ///
+    /// Other faults of the metadata are not reported here.
     pub fn parameter_url(&self, alloc: Global) -> Result<Option<String>, MetaFault>
         ensures value { IfOk result (λ url. IsUrlOf (view self.now) (option_map string_bytes url)) }
         ensures fault { IfErr result (IsUrlFaultOf (view self.now)) }
@@ -125,13 +135,13 @@ impl Metadata {
         }
     }
 
-    /// The report that the metadata says, with the parameters of its parameters file and its types; or its first fault, and
-    /// the keys that lead to the fault's place.
+    /// Returns the report of the metadata, with the parameters of its parameters file and its
+    /// types; or its first fault, and the keys that lead to the fault's place.
     ///
     /// # Errors
     ///
-    /// The first finding of the metadata, as `read_report_at` tells it behind the reading of the bytes. `Memory` if memory runs
-    /// out, which may come in place of a fault.
+    /// The first finding of the metadata, as `read_report_at` returns it once the bytes are read.
+    /// `Memory` if memory runs out, even if the metadata has a fault.
     pub fn report_at(
         self,
         alloc: Global,

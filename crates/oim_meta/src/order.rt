@@ -1,4 +1,4 @@
-//! One text with two names.
+//! Texts with two names.
 
 ghost use Rattle.std.specs.Prelude.{◌≡◌, [], IfOk};
 ghost use Rattle.serde_json.specs.View.{members_view};
@@ -9,7 +9,8 @@ use oim_report::Named;
 use serde_json::{Map, Value};
 use std::alloc::{AllocError, Global};
 
-/// Whether some member has a text that a member before it has, where what is not a text counts as the empty one.
+/// Returns whether a member has the text of an earlier member. A value that is not a text counts as
+/// the empty text.
 fn repeats_earlier(alloc: Global, members: &Map<String, Value>) -> Result<bool, AllocError>
     ensures { IfOk result (λ repeats. repeats ≡ repeats_seen [] (members_view members.now.entries)) }
 {
@@ -24,11 +25,11 @@ fn repeats_earlier(alloc: Global, members: &Map<String, Value>) -> Result<bool, 
     Ok(false)
 }
 
-/// Whether one text has two names, where what is not a text counts as the empty one. Fails if memory runs out.
+/// Returns whether one text has two names. A value that is not a text counts as the empty text.
 pub(crate) fn repeats_text(alloc: Global, members: &Map<String, Value>) -> Result<bool, AllocError>
     ensures { IfOk result (λ repeats. repeats ≡ repeated (members_view members.now.entries)) }
 {
-    // For the proof: there are no more members than a number can count.
+    // For the proof: the count of members fits a `usize`.
     let _ = members.len();
     repeats_earlier(alloc, members)
 }

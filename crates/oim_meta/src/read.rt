@@ -1,4 +1,5 @@
-//! Reading a metadata from its bytes: the report that it says, or its first fault with its place; and the name of its parameters file.
+//! Reading a metadata from its bytes: its report, or its first fault with the fault's place; and
+//! the name of its parameters file.
 
 ghost use Rattle.std.specs.Prelude.{IfOk, IfErr};
 ghost use Rattle.std.specs.Option.{option_map};
@@ -12,16 +13,22 @@ use oim_entries::MetaFault;
 use oim_report::{Limits, Parameters, Report, Types};
 use std::alloc::Global;
 
-/// The report that a metadata says (xBRL-CSV 1.0, metadata), with the parameters of its parameters file and its types;
-/// or its first fault, and the keys that lead to the fault's place. `Metadata::read` says how the bytes are read.
+/// Returns the report of a metadata (xBRL-CSV 1.0, metadata), with the parameters of its parameters
+/// file and its types; or its first fault, and the keys that lead to the fault's place.
+///
+/// `Metadata::read` documents how the bytes are read.
 ///
 /// # Errors
 ///
-/// The first finding of the metadata: `TooLarge` for the bytes, or `Syntax`, with no keys; else the first of the faults that
-/// `read_report` names, at the first of its places in the order of a walk over the metadata: the document information, links,
-/// and then what the report itself writes, its templates with their columns, its tables and its parameters, each in byte order
-/// of name. A place may name a key that is missing there. `Memory` if memory runs out, which may come in place of a fault: the
-/// parts of the metadata are made while it is walked.
+/// The first finding of the metadata: `TooLarge` for the bytes, or `Syntax`, with no keys. Else the
+/// first of the faults that `read_report` names, at the first of its places in the order of a walk
+/// over the metadata. A place may name a key that is missing there.
+///
+/// The walk goes through the document information, links and the report's own level. It continues
+/// with the templates and their columns, the tables and the parameters, each in byte order of name.
+///
+/// `Memory` if memory runs out, even if the metadata has a fault: its parts are made during the
+/// walk.
 pub fn read_report_at(
     alloc: Global,
     bytes: &[u8],
@@ -38,14 +45,18 @@ pub fn read_report_at(
     }
 }
 
-/// The report that a metadata says (xBRL-CSV 1.0, metadata), with the parameters of its parameters file
-/// and its types. `Metadata::read` says how the bytes are read.
+/// Returns the report of a metadata (xBRL-CSV 1.0, metadata), with the parameters of its parameters
+/// file and its types.
+///
+/// `Metadata::read` documents how the bytes are read.
 ///
 /// # Errors
 ///
-/// The first fault of the metadata: `TooLarge` for the bytes, then `Syntax` to `BadParameter` in the order
-/// of their numbers, then `TooLarge` for the tables and columns. `Memory` if memory runs out, which may
-/// come in place of a fault: the parts of the metadata are made while it is walked. `read_report_at` tells the place too.
+/// The first fault of the metadata: `TooLarge` for the bytes, then `Syntax` to `BadParameter` in
+/// the order of their numbers, then `TooLarge` for the tables and columns.
+///
+/// `Memory` if memory runs out, even if the metadata has a fault: its parts are made during the
+/// walk. `read_report_at` also returns the fault's place.
 pub fn read_report(
     alloc: Global,
     bytes: &[u8],
@@ -62,13 +73,13 @@ pub fn read_report(
     }
 }
 
-/// The name of the parameters file that a metadata gives (xBRL-CSV 1.0, parameterURL), a plain path, or
-/// `None` if it gives none.
+/// Returns the name of the parameters file that a metadata gives (xBRL-CSV 1.0, parameterURL), a
+/// plain path, or `None` if it gives none.
 ///
 /// # Errors
 ///
-/// The first of `TooLarge` for the bytes, `Syntax`, `NotReport`, and `BadParameter` if the name is not a text or
-/// not a plain path; no other fault is answered. `Memory` if memory runs out.
+/// The first of `TooLarge` for the bytes, `Syntax`, `NotReport`, and `BadParameter` if the name is
+/// not a text or not a plain path. Other faults are not reported here. `Memory` if memory runs out.
 pub fn parameter_url(
     alloc: Global,
     bytes: &[u8],

@@ -6,7 +6,7 @@ ghost use Rattle.oim_meta.specs.Refusals.{IsFirstOf, fault_in};
 ghost use Rattle.oim_meta.specs.state.Refusals.{refusal_of};
 
 use crate::findings::{Finding, Findings};
-use crate::place::keys;
+use crate::json_path::keys;
 use oim_entries::MetaFault;
 use oim_names::Items;
 use std::alloc::{AllocError, Global};
@@ -21,7 +21,7 @@ pub enum Refusal {
 }
 
 impl Refusal {
-    /// A fault of the metadata as a whole.
+    /// Returns the refusal for a fault of the whole metadata.
     pub(crate) fn of_whole(alloc: Global, fault: MetaFault) -> Refusal
         ensures { result ≡ refusal_of fault }
     {
@@ -34,7 +34,7 @@ impl Refusal {
         })
     }
 
-    /// The fault.
+    /// Returns the fault.
     pub fn fault(&self) -> MetaFault
         ensures { result ≡ fault_in self.now }
     {
@@ -56,7 +56,7 @@ impl From<AllocError> for Refusal {
     }
 }
 
-/// Refuses the first finding, if there is one.
+/// Fails with the first finding, if there is one.
 pub(crate) fn refuse(alloc: Global, findings: &Findings<'_>) -> Result<(), Refusal>
     ensures none { OnOk result (first_of findings.now ≡ None) }
     ensures first { IfErr result (IsFirstOf findings.now) }

@@ -1,4 +1,4 @@
-//! The report that a metadata's JSON value says, or its first finding.
+//! The report of a metadata's JSON value, or its first finding.
 
 ghost use Rattle.std.specs.Prelude.{◌≡◌, [], codes, None, IfOk, OnOk, IfErr};
 ghost use Rattle.serde_json.specs.View.{view};
@@ -17,13 +17,13 @@ use crate::document::find_document;
 use crate::findings::Findings;
 use crate::refusal::{Refusal, refuse};
 use crate::walk::Walk;
-use crate::walk::report::Parts;
+use crate::walk::report::ReportParts;
 use oim_names::{Items, Namespaces};
 use oim_report::{Limits, Parameters, Report, Types};
 use serde_json::Value;
 use std::alloc::Global;
 
-/// The prefixes of a metadata, once its document is walked. Refuses the first finding of the document.
+/// Walks the document and returns its prefixes. Fails with the document's first finding.
 fn names_in<'v>(
     alloc: Global,
     value: &'v Value,
@@ -39,13 +39,13 @@ fn names_in<'v>(
     Ok(prefixes(alloc, value)?)
 }
 
-/// The parts of a metadata. Refuses its first finding.
+/// Walks the metadata and returns its parts. Fails with its first finding.
 #[tactic(auto, unfolding(crate::specs::WalkReport::in_metadata))]
 fn parts_in<'v>(
     walk: &Walk<'_>,
     value: &'v Value,
     findings: &mut Findings<'v>,
-) -> Result<Parts, Refusal>
+) -> Result<ReportParts, Refusal>
     requires document { findings.old ≡ in_document (view value.now) }
     requires prefixes { walk.now.names.now ≡ prefixes_of (view value.now) }
     ensures level { IfOk result (λ made. made.level ≡ level_of (view value.now)) }
@@ -60,14 +60,14 @@ fn parts_in<'v>(
     Ok(parts)
 }
 
-/// The prefixes and the parts of a metadata. Refuses its first finding.
+/// Returns the prefixes and the parts of a metadata. Fails with its first finding.
 fn walked(
     alloc: Global,
     value: &Value,
     parameters: &Parameters,
     types: &Types,
     limits: Limits,
-) -> Result<(Namespaces, Parts), Refusal>
+) -> Result<(Namespaces, ReportParts), Refusal>
     ensures names { IfOk result (λ made. made.0 ≡ prefixes_of (view value.now)) }
     ensures level { IfOk result (λ made. made.1.level ≡ level_of (view value.now)) }
     ensures templates { IfOk result (λ made. made.1.templates ≡ templates_of (view value.now)) }
@@ -89,7 +89,7 @@ fn walked(
     Ok((names, parts))
 }
 
-/// The report that a JSON value says. Refuses its first finding.
+/// Returns the report of a JSON value. Fails with its first finding.
 pub(crate) fn report_in(
     alloc: Global,
     value: Value,

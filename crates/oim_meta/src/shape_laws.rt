@@ -6,8 +6,8 @@ ghost use Rattle.oim_meta.specs.Faults.{has_bad_identifier, has_bad_shape, has_m
 ghost use Rattle.oim_meta.specs.Shapes.{IsCsvDocument, HasNamespaces, HasTaxonomy, StandsAlone};
 ghost use Rattle.oim_meta.specs.Shapes.{HasIdentifiers, HasShape, HasColumnKinds, HasTemplates, Refutes};
 
-/// A metadata has a fault of shape exactly where a part does not have its shape. `namespaces` and `taxonomy` are of
-/// its `documentInfo`.
+/// Proves that a metadata has a fault of shape exactly if a part does not have its shape.
+/// `namespaces` and `taxonomy` are those of its `documentInfo`.
 pub fn faults_of_shape_are_parts_without_it()
     ensures document { (d : Data) → Refutes (has_no_report d) (IsCsvDocument d) }
     ensures namespaces { (info : Data) → Refutes (has_bad_namespaces info) (HasNamespaces info) }

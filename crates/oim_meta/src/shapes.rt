@@ -8,7 +8,7 @@ ghost use Rattle.oim_meta.specs.Members.{if_there};
 
 use serde_json::Value;
 
-/// Whether there is a value at a key that is not an object.
+/// Returns whether the value at a key exists and is not an object.
 pub(crate) fn is_no_object_at(value: &Value, key: &str) -> bool
     ensures { result ≡ if_there not_object (get key.now (view value.now)) }
 {
@@ -18,7 +18,7 @@ pub(crate) fn is_no_object_at(value: &Value, key: &str) -> bool
     }
 }
 
-/// Whether there is a value at a key that is not a text.
+/// Returns whether the value at a key exists and is not a text.
 pub(crate) fn is_no_text_at(value: &Value, key: &str) -> bool
     ensures { result ≡ if_there not_text (get key.now (view value.now)) }
 {
@@ -28,7 +28,7 @@ pub(crate) fn is_no_text_at(value: &Value, key: &str) -> bool
     }
 }
 
-/// Whether there is a value at a key that is not a truth value.
+/// Returns whether the value at a key exists and is not a truth value.
 pub(crate) fn is_no_flag_at(value: &Value, key: &str) -> bool
     ensures { result ≡ if_there not_flag (get key.now (view value.now)) }
 {
@@ -49,7 +49,7 @@ fn lacks_text(items: &[Value]) -> bool
     false
 }
 
-/// Whether a value is not a list of texts.
+/// Returns whether a value is not a list of texts.
 pub(crate) fn is_no_texts(value: &Value) -> bool
     ensures { result ≡ not_texts (view value.now) }
 {

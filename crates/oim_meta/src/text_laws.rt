@@ -1,4 +1,4 @@
-//! The law of what the texts of a metadata write.
+//! The law of the values that a metadata's texts write.
 
 ghost use Rattle.std.specs.Prelude.{◌≡◌, ◌↔◌, ℕ, List, Option, true, false};
 ghost use Rattle.oim_report.specs.declared.data.Written.{Written};
@@ -7,7 +7,8 @@ ghost use Rattle.oim_meta.specs.BadDimensions.{is_bad_text};
 ghost use Rattle.oim_meta.specs.Writes.{Writes};
 ghost use Rattle.oim_meta.specs.Written.{written_of};
 
-/// A dimension's text is a fault exactly where it writes no value. Any other text writes one value, which the report has.
+/// Proves that a dimension's text is a fault exactly if it writes no value. Any other text writes
+/// one value, which the report has.
 pub fn a_text_writes_one_value()
     ensures value { (k : Option Kind) (key text : List ℕ) (v : Written)
         → Writes k key text v ↔ ((is_bad_text k key text ≡ false) × (written_of key text ≡ v)) }

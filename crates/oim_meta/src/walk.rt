@@ -1,4 +1,4 @@
-//! A walk over the parts of a metadata: what each says, and what is wrong with it.
+//! A walk over the parts of a metadata, which makes each part and finds its faults.
 
 mod columns;
 mod dimensions;
@@ -15,7 +15,8 @@ use oim_names::Namespaces;
 use oim_report::{Limits, Parameters, Types};
 use std::alloc::Global;
 
-/// What a walk knows before it begins: the types and the prefixes, by which dimensions are read, the parameters of the parameters file, and the limits.
+/// The input of a walk: the types and the prefixes, which dimensions are read by, the parameters of
+/// the parameters file, and the limits.
 #[derive(Drop)]
 pub(crate) struct Walk<'a> {
     pub(crate) alloc: Global,

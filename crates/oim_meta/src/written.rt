@@ -58,7 +58,7 @@ fn literal(alloc: Global, text: &str) -> Result<Written, AllocError>
     }
 }
 
-/// What a text says at a dimension's key.
+/// Makes the value that a text writes at a dimension's key.
 pub(crate) fn written(alloc: Global, key: &str, text: &str) -> Result<Written, AllocError>
     ensures { IfOk result (λ made. made ≡ written_of key.now text.now) }
 {

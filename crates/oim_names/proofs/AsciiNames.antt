@@ -1,4 +1,4 @@
--- A text of ASCII characters is its bytes, so a test of its characters is one of its bytes.
+-- A text of ASCII characters is its bytes, so a test of its characters is a test of its bytes.
 use Rattle.std.proofs.Common.{◌≡◌, ℕ, zero, suc, ◌+◌, ◌<◌, List, [], ◌∷◌, ◌++◌, length, get_or, take, drop, refl, sym, ap, ◌∙◌, Bool, true, false, cond, ◌&&◌, nat_lt, arith}
 use Rattle.std.specs.List.{list_all, prefix_len}
 use Rattle.std.specs.Str.{chars, IsAscii, IsUtf8, is_utf8}
@@ -10,7 +10,7 @@ both : (a b : Bool) → (a && b) ≡ true → (a ≡ true) × (b ≡ true)
 both true b h = (refl, h)
 both false b h = absurd (cc)
 
--- an ASCII character that passes a test
+-- An ASCII character that passes a test.
 abbrev pub is_ascii_and : (ℕ → Bool) → ℕ → Bool
 is_ascii_and p c = nat_lt c 128 && p c
 
@@ -32,7 +32,7 @@ one_more : (b : ℕ) (bs : List ℕ) → b < 128 → IsAscii bs → IsAscii (b �
 one_more b bs low rest zero = low
 one_more b bs low rest (suc i) = rest i
 
--- a text whose first byte passes one test and whose others pass another, all ASCII
+-- A text whose first byte passes one test and whose other bytes pass another, all ASCII.
 pub ascii_name : (first other : ℕ → Bool) (t : List ℕ) → IsUtf8 t → 0 < length t → is_ascii_and first (get_or t 0 0) ≡ true → list_all (is_ascii_and other) (drop 1 t) ≡ true
     → (is_utf8 t && begins_and_goes_on first other (chars t)) ≡ true
 ascii_name first other [] u some h rest = absurd (omega arith)
@@ -41,7 +41,7 @@ ascii_name first other (b ∷ bs) u some h rest =
     ap (λ d. d && begins_and_goes_on first other (chars (b ∷ bs))) (is_utf8-from_IsUtf8 (b ∷ bs) u)
     ∙ ap (begins_and_goes_on first other) spelt ∙ ap (λ d. d && list_all other bs) (both (nat_lt b 128) (first b) h).1 ∙ all_pass other bs rest
 
--- what stands before the first item that fails a test passes it
+-- The items before the first one that fails a test pass it.
 front_passes : (p : ℕ → Bool) (xs : List ℕ) → list_all p (take (prefix_len p xs) xs) ≡ true
 front_passes p [] = refl
 front_passes p (x ∷ xs) = by (p x) refl (front_passes p xs)
@@ -53,7 +53,8 @@ front_passes p (x ∷ xs) = by (p x) refl (front_passes p xs)
     by true e k = ap (λ n. list_all p (take n (x ∷ xs))) on ∙ ap (λ d. d && list_all p (take (prefix_len p xs) xs)) e ∙ k
     by false e k = refl
 
--- the name at the beginning of a text: a byte that may begin one, and those behind it that may stand in one
+-- The name at the start of a text: a byte that may begin a name, and the bytes after it that a name
+-- may contain.
 pub front_name : (t : List ℕ) → 0 < length t → is_ascii_and is_name_start (get_or t 0 0) ≡ true
     → is_ncname (take (1 + prefix_len (is_ascii_and is_name_char) (drop 1 t)) t) ≡ true
 unfolding is_ncname
@@ -65,6 +66,6 @@ front_name (b ∷ bs) some h =
     let ascii = one_more b (take n bs) (is_low is_name_start b h) (are_ascii is_name_char (take n bs) rest) in
     ap (λ k. is_ncname (take k (b ∷ bs))) on ∙ ascii_name is_name_start is_name_char (b ∷ take n bs) (IsUtf8-from_ascii (b ∷ take n bs) ascii) (omega arith) h rest
 
--- a list cut at one of its items
+-- A list cut at one of its items.
 pub cut_at : (t : List ℕ) (n m : ℕ) → n < length t → get_or t n 0 ≡ m → t ≡ take n t ++ m ∷ drop (n + 1) t
 cut_at t n m h e = sym (take-append-drop n t) ∙ ap (λ s. take n t ++ s) (at_drop_more (λ xs. xs) t n 0 h ∙ ap (λ c. c ∷ drop (n + 1) t) e)

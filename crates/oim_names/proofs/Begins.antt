@@ -1,4 +1,4 @@
--- A first character, and all others.
+-- The first character, and all others.
 use Rattle.std.proofs.Common.{◌≡◌, ℕ, List, [], ◌∷◌, ◌++◌, sym, ap, ◌∙◌, Bool, true, false, ◌&&◌, length}
 use Rattle.std.specs.List.{list_all}
 use Rattle.std.specs.Str.{chars, IsUtf8, is_utf8}
@@ -21,6 +21,6 @@ pub no_name : (first other : ℕ → Bool) (text : List ℕ) → length text ≡
 no_name first other [] e = sym (ap (begins_and_goes_on first other) chars-nil)
 no_name first other (b ∷ bs) e = absurd (cc)
 
--- a test of a text's characters is one of the text
+-- A test of a text's characters is a test of the text.
 pub in_text : (text : List ℕ) (r x : Bool) → IsUtf8 text → r ≡ x → r ≡ (is_utf8 text && x)
 in_text text r x u e = e ∙ ap (λ b. b && x) (sym (is_utf8-from_IsUtf8 text u))

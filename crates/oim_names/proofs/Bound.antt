@@ -1,4 +1,4 @@
--- A binding at its place.
+-- A binding inserted at its place.
 use Rattle.std.proofs.Common.{◌≡◌, ℕ, suc, ◌+◌, ◌≤◌, List, [], ◌∷◌, ◌++◌, refl, sym, ap, subst, ◌∙◌, Bool, true, false, ◌||◌, cond, arith, length, Option, Some, is_some, map, Ordering}
 use Rattle.std.specs.declared.cmp.Ordering.TheVariants.{Less, Equal, Greater}
 use Rattle.std.specs.List.{filter, prefix_len, insert, AllByRecursion, IsDistinct}
@@ -16,7 +16,7 @@ use Rattle.oim_names.specs.Names.{is_ncname}
 abbrev order : List ℕ → List ℕ → Ordering
 order = slice_cmp nat_cmp
 
--- the texts stand after a text, in byte order
+-- The texts are after a text, in byte order.
 abbrev AllAfter : List ℕ → List (List ℕ) → Type 0
 AllAfter x ys = AllByRecursion (λ y. order x y ≡ Less) ys
 
@@ -26,7 +26,7 @@ turned x y h = nat_list_cmp_total.antisymm y x ∙ ap ordering_reverse h
 turned_back : (x y : List ℕ) → order x y ≡ Greater → order y x ≡ Less
 turned_back x y h = nat_list_cmp_total.antisymm y x ∙ ap ordering_reverse h
 
--- of a binding before the place, and of one behind it
+-- A binding before the place, and one after it.
 before_is : (x y : List ℕ) → order x y ≡ Less → (is_before x y ≡ true) × (is_before y x ≡ false)
 before_is x y h = (ap is_lt h, ap is_lt (turned x y h))
 
@@ -42,7 +42,7 @@ all_behind : (p : List ℕ) (es : Bindings) → AllAfter p (keys_of es) → filt
 all_behind p [] a = refl
 all_behind p (e ∷ es) a = rw ((before_is p e.0 a.0).0) (ap (λ r. e ∷ r) (all_behind p es a.1))
 
--- one step of the place
+-- One step towards the place.
 bound_later : (e : List ℕ × List ℕ) (es : Bindings) (p u : List ℕ) → order e.0 p ≡ Less → bound (e ∷ es) p u ≡ e ∷ bound es p u
 unfolding bound
 bound_later e es p u h = let i = before_is e.0 p h in rw (i.0, i.1) refl
@@ -54,7 +54,7 @@ bound_here e es p u h a =
     let f = farther p e.0 (keys_of es) h a in
     rw (i.0, i.1, none_before p es f, all_behind p es f) refl
 
--- a prefix that is not there differs from each
+-- A prefix that is not bound differs from each one that is.
 other_key : (e : List ℕ × List ℕ) (es : Bindings) (p : List ℕ) → is_some (uri_of (e ∷ es) p) ≡ false → (order e.0 p ≡ Equal → ⊥) × (is_some (uri_of es p) ≡ false)
 other_key e es p h = by (bytes_eq e.0 p) refl h
   where
@@ -62,7 +62,7 @@ other_key e es p h = by (bytes_eq e.0 p) refl h
     by true q k = absurd (cc)
     by false q k = (λ s. let w = sym (is_eq-slice_cmp e.0 p) ∙ ap is_eq s in absurd (cc), k)
 
--- the three ways in which two texts stand
+-- The three orders of two texts.
 by_order : (P : Type 0) (x y : List ℕ) → (order x y ≡ Less → P) → (order x y ≡ Equal → P) → (order y x ≡ Less → P) → P
 by_order P x y l q g = at (order x y) refl
   where
@@ -71,7 +71,7 @@ by_order P x y l q g = at (order x y) refl
     at Equal h = q h
     at Greater h = g (turned_back x y h)
 
--- what is true of each prefix, or of each URI, and of the new one
+-- A property of each prefix, or of each URI, and of the new one.
 abbrev AllOf : {A : Type 0} → (A → List ℕ) → (List ℕ → Type 0) → List A → Type 0
 AllOf f P es = AllByRecursion P (map f es)
 
@@ -93,7 +93,7 @@ all_bound f P es p u a h =
     all_joined f P (filter (λ e. is_before e.0 p) es) ((p, u) ∷ filter (λ e. is_before p e.0) es)
     (all_kept f P (λ e. is_before e.0 p) es a) (h, all_kept f P (λ e. is_before p e.0) es a)
 
--- the prefixes still rise
+-- The prefixes are still in order.
 pub bound_in_order : (es : Bindings) (p u : List ℕ) → AreInOrder es → is_some (uri_of es p) ≡ false → AreInOrder (bound es p u)
 unfolding bound IsStrictlySortedBy
 bound_in_order [] p u s n = (tt, tt)
@@ -111,7 +111,7 @@ rest_lacks e es u h = by (bytes_eq e.1 u) h
     by true k = absurd (cc)
     by false k = k
 
--- a URI that is not there differs from each
+-- A URI that is not bound differs from each one that is.
 other_uris : (es : Bindings) (u : List ℕ) → has_uri es u ≡ false → AllByRecursion (λ y. bytes_eq y u ≡ false) (values_of es)
 other_uris [] u h = tt
 other_uris (e ∷ es) u h = by (bytes_eq e.1 u) refl h (λ k. other_uris es u k)
@@ -125,7 +125,7 @@ turned_round : (u : List ℕ) (ys : List (List ℕ)) → AllByRecursion (λ y. b
 turned_round u [] a = tt
 turned_round u (y ∷ ys) a = (nat_list_eq_equiv.symm u y ∙ a.0, turned_round u ys a.1)
 
--- the URIs still differ
+-- The URIs still differ.
 pub bound_own_uris : (es : Bindings) (p u : List ℕ) → AreInOrder es → HaveOwnUris es → is_some (uri_of es p) ≡ false → has_uri es u ≡ false → HaveOwnUris (bound es p u)
 unfolding bound IsDistinct IsStrictlySortedBy
 bound_own_uris [] p u s d n m = (tt, tt)
@@ -137,7 +137,7 @@ bound_own_uris (e ∷ es) p u s d n m =
     (λ h. absurd (k.0 h))
     (λ h. subst HaveOwnUris (sym (bound_here e es p u h s.0)) (turned_round u (values_of (e ∷ es)) o, d))
 
--- the place at which the binding is put
+-- The place at which the binding is inserted.
 pub place_le : (es : Bindings) (q : List ℕ × List ℕ → Bool) → prefix_len q es ≤ length es
 place_le [] q = omega arith
 place_le (e ∷ es) q = by (q e) (place_le es q)
@@ -159,14 +159,14 @@ placed (e ∷ es) p u s n =
     (λ h. let i : prefix_len q (e ∷ es) ≡ 0 = rw ((before_is p e.0 h).1) refl in
     ap (λ n. insert (e ∷ es) n (p, u)) i ∙ sym (bound_here e es p u h s.0))
 
--- what stands after a binding was put at its place, or was not
+-- The bindings after an insertion that succeeded or failed.
 pub kept : (b : Bool) (es new : Bindings) (p u : List ℕ) → IsNamespaces es → is_ncname p ≡ true → is_some (uri_of es p) ≡ false → has_uri es u ≡ false
     → new ≡ cond b (bound es p u) es → IsNamespaces new
 kept true es new p u are name n m e =
     rw e (bound_in_order es p u are.0 n, bound_own_uris es p u are.0 are.1 n m, all_bound (λ e. e.0) (λ prefix. is_ncname prefix ≡ true) es p u are.2 name)
 kept false es new p u are name n m e = rw e are
 
--- the bindings as a map: the new prefix has the new URI, any other what it had
+-- The bindings as a map: the new prefix has the new URI, any other what it had.
 one_of_two : (a b : Bool) (x y : Option (List ℕ)) (z : Option (List ℕ)) → (a ≡ true → b ≡ true → ⊥) → cond a x (cond b y z) ≡ cond b y (cond a x z)
 one_of_two true true x y z n = absurd (n refl refl)
 one_of_two true false x y z n = refl

@@ -1,9 +1,10 @@
--- The bytes that a table marks, held against a test of characters at each of the 256 bytes, by computing.
+-- The bytes that a table marks, compared with a test of characters at each of the 256 bytes by
+-- computing.
 use Rattle.std.proofs.Common.{◌≡◌, ℕ, zero, suc, ◌<◌, Bool, true, false, ◌&&◌, not, nat_eq, nat_lt, get_or, List, refl, arith, inl, inr}
 use Rattle.std.specs.Bool.{beq}
 use Rattle.std.proofs.lemmas.Bool.{cases_eq}
 
--- the two tests agree below n
+-- The two tests agree below n.
 unfoldable pub agree_below : (ℕ → Bool) → (ℕ → Bool) → ℕ → Bool
 agree_below f g zero = true
 agree_below f g (suc n) = beq (f n) (g n) && agree_below f g n
@@ -21,7 +22,7 @@ agree_at f g (suc n) h b lt =
     let both = both_of (f n) (g n) (agree_below f g n) h in
     elim (cases_eq b n) [ inl same ↦ rw same both.0 | inr other ↦ agree_at f g n both.1 b (omega arith) ]
 
--- a table that has a comma for all but the ASCII characters that pass a test
+-- A table with a comma for every byte but the ASCII characters that pass a test.
 pub from_table : (passes : ℕ → Bool) (table : List ℕ) (b : ℕ) → b < 256
     → agree_below (λ k. not (nat_eq (get_or table k 0) 44)) (λ k. nat_lt k 128 && passes k) 256 ≡ true
     → not (nat_eq (get_or table b 0) 44) ≡ (nat_lt b 128 && passes b)

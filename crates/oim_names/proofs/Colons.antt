@@ -1,4 +1,4 @@
--- The grammars of qualified names, and the functions.
+-- The grammars of qualified names, and their functions.
 use Rattle.std.proofs.Common.{◌≡◌, ◌⊎◌, inl, inr, ℕ, zero, suc, ◌+◌, ◌<◌, ◌≤◌, List, [], ◌∷◌, ◌++◌, take, refl, sym, ap, subst, ◌∙◌, arith, length, get_or, append_assoc}
 use Rattle.std.proofs.Common.{codes, Some, None, Option, Bool, true, false, not, ◌==◌, ◌&&◌, cond}
 use Rattle.std.specs.List.{position_or_len, before_first, after_first}
@@ -14,7 +14,7 @@ use Rattle.oim_names.specs.QName.{Name, Lacks, IsQName, IsSQName, IsOnly, qname,
 use Rattle.oim_names.proofs.Cut.{before_mark, after_mark, name_lacks, front_is_text}
 use Rattle.oim_names.proofs.Truth.{both_false}
 
--- a relation whose values a function gives has only that one
+-- A relation whose values a function gives has only that value.
 pub only_from : {A : Type 0} (P : A → Type 0) (o : Option A) → ((x : A) → o ≡ Some x → P x) → ((x : A) → P x → o ≡ Some x) → IsOnly P o
 only_from P None s w = λ x p. let e = w x p in absurd (cc)
 only_from P (Some y) s w = (s y refl, λ x p. let e = w x p in cc)
@@ -33,7 +33,7 @@ empty_is_not_solid = refl
 pub no_rest : (m : ℕ) (t : List ℕ) → length t ≤ position_or_len (λ c. c == m) t → after_first (λ c. c == m) t ≡ []
 no_rest m t h = drop_of_length-le t (omega (arith, h))
 
--- a text whose part after the mark is not empty has the mark
+-- A text whose part after the mark is not empty contains the mark.
 pub has_mark : (m : ℕ) (t : List ℕ) → (after_first (λ c. c == m) t ≡ [] → ⊥) → t ≡ before_first (λ c. c == m) t ++ m ∷ after_first (λ c. c == m) t
 has_mark m t n = by (cases_lt (position_or_len p t) (length t))
   where
@@ -47,7 +47,7 @@ has_mark m t n = by (cases_lt (position_or_len p t) (length t))
 colon_text : (t : List ℕ) → (local_of t ≡ [] → ⊥) → (prefix_of t ++ codes ":") ++ local_of t ≡ t
 colon_text t n = append_assoc (prefix_of t) (codes ":") (local_of t) ∙ sym (has_mark 58 t n)
 
--- what stands before the first mark lacks it
+-- The text before the first mark does not contain it.
 taken_lacks : (m : ℕ) (s : List ℕ) (n : ℕ) → n ≤ position_or_len (λ c. c == m) s → Lacks m (take n s)
 taken_lacks m s zero h = tt
 taken_lacks m [] (suc n) h = tt
@@ -60,14 +60,14 @@ taken_lacks m (c ∷ s) (suc n) h = by (c == m) refl h (λ k. taken_lacks m s n 
 prefix_lacks : (t : List ℕ) → (local_of t ≡ [] → ⊥) → Lacks 58 (prefix_of t)
 prefix_lacks t n = taken_lacks 58 t (position_or_len (λ c. c == 58) t) (omega arith)
 
--- what a qualified name is made of
+-- The parts of a qualified name.
 pub of_qname : {b : Bindings} {t : List ℕ} {x : Name} → IsQName b t x → (p : List ℕ) × (t ≡ p ++ 58 ∷ x.1) × (is_ncname p ≡ true) × (is_ncname x.1 ≡ true) × (uri_of b p ≡ Some x.0)
 of_qname (qname b p l u n m e) = (p, append_assoc p (codes ":") l, n, m, e)
 
 of_sqname : {b : Bindings} {t : List ℕ} {x : Name} → IsSQName b t x → (p : List ℕ) × (t ≡ p ++ 58 ∷ x.1) × Lacks 58 p × (is_solid x.1 ≡ true) × (uri_of b p ≡ Some x.0)
 of_sqname (sqname b p r u n m e) = (p, append_assoc p (codes ":") r, n, m, e)
 
--- the two functions, where the parts are known
+-- The two functions, for known parts.
 pub qname_cut : (b : Bindings) (t p l : List ℕ) → p ≡ prefix_of t → l ≡ local_of t → cond (is_ncname p && is_ncname l) (option_map (λ uri. (uri, l)) (uri_of b p)) None ≡ qname_of b t
 unfolding qname_of
 qname_cut b t p l e f = rw (e, f) refl
@@ -86,7 +86,7 @@ pub sqname_uncut : (b : Bindings) (t : List ℕ) → position_or_len (λ c. c ==
 unfolding sqname_of
 sqname_uncut b t e = rw (no_rest 58 t (omega (arith, e))) refl
 
--- a qualified name has the value of the function
+-- A qualified name has the value of the function.
 pub qname_value : (b : Bindings) (t : List ℕ) (x : Name) → IsUtf8 t → IsQName b t x → qname_of b t ≡ Some x
 qname_value b t x u q =
     let i = of_qname q in
@@ -102,7 +102,7 @@ sqname_value b t x q =
     let l : x.1 ≡ local_of t = sym (ap local_of i.1 ∙ after_mark 58 i.0 x.1 i.2) in
     sym (sqname_cut b t i.0 x.1 p l) ∙ rw (i.3, i.4) refl
 
--- and the value of the function is one of a qualified name
+-- The value of the function is a value of the qualified name.
 pub qname_sound : (b : Bindings) (t : List ℕ) (x : Name) → qname_of b t ≡ Some x → IsQName b t x
 unfolding qname_of
 qname_sound b t x e = by (is_ncname (prefix_of t)) (is_ncname (local_of t)) (uri_of b (prefix_of t)) refl refl refl e
@@ -129,7 +129,7 @@ sqname_sound b t x e = by (is_solid (local_of t)) (uri_of b (prefix_of t)) refl 
     by true None m o r = absurd (cc)
     by false o m e r = absurd (cc)
 
--- so each grammar has at most one value, that of its function
+-- So each grammar has at most one value, that of its function.
 pub qname_only : (b : Bindings) (t : List ℕ) → IsUtf8 t → IsOnly {A = Name} (λ x. IsQName b t x) (qname_of b t)
 qname_only b t u = only_from (λ x. IsQName b t x) (qname_of b t) (λ x e. qname_sound b t x e) (λ x q. qname_value b t x u q)
 

@@ -1,4 +1,4 @@
--- Texts that are cut at a mark, and the marks that names cannot hold.
+-- Texts that are cut at a mark, and the marks that names cannot contain.
 use Rattle.std.proofs.Common.{◌≡◌, ◌≢◌, ℕ, suc, ◌+◌, ◌<◌, List, [], ◌∷◌, ◌++◌, take, drop, length-append, refl, sym, ap, subst, ◌∙◌, arith, length, get_or, Bool, true, false, not, ◌==◌, ◌&&◌}
 use Rattle.std.specs.List.{list_all, position_or_len, before_first, after_first}
 use Rattle.std.specs.Str.{chars, IsUtf8, is_utf8, NonePass, NoCharPasses}
@@ -21,7 +21,7 @@ lacks_by_index : (m : ℕ) (s : List ℕ) → ((i : ℕ) → i < length s → ge
 lacks_by_index m [] h = tt
 lacks_by_index m (c ∷ s) h = (eqb_of c m (h 0 (omega arith)), lacks_by_index m s (λ i l. h (suc i) (omega arith)))
 
--- the first mark of a text, where what stands before it lacks the mark
+-- The first mark of a text whose part before it does not contain the mark.
 place_of_mark : (m : ℕ) (s t : List ℕ) → Lacks m s → position_or_len (λ c. c == m) (s ++ m ∷ t) ≡ length s
 place_of_mark m [] t h = rw (eq-eqb m m refl) refl
 place_of_mark m (c ∷ s) t h = rw (h.0) (let e = place_of_mark m s t h.1 in omega (arith, e))
@@ -32,7 +32,7 @@ before_mark m s t h = ap (λ n. take n (s ++ m ∷ t)) (place_of_mark m s t h) �
 pub after_mark : (m : ℕ) (s t : List ℕ) → Lacks m s → after_first (λ c. c == m) (s ++ m ∷ t) ≡ t
 after_mark m s t h = ap (λ n. drop (n + 1) (s ++ m ∷ t)) (place_of_mark m s t h) ∙ drop-append-add s (m ∷ t) 1
 
--- each character of a name may stand in a name
+-- Each character of a name is one that a name may contain.
 marks_differ : (m c : ℕ) → is_name_char m ≡ false → is_name_char c ≡ true → (c == m) ≡ false
 marks_differ m c f h = eqb_of c m (λ e. let k : is_name_char m ≡ true = ap is_name_char (sym e) ∙ h in absurd (cc))
 
@@ -56,7 +56,7 @@ name_passes m (c ∷ cs) f h = by (is_name_start c) refl h
     by true e k = (marks_differ m c f (starts_stand c e), none_pass m cs f k)
     by false e k = absurd (cc)
 
--- a mark that may not stand in names is not in a name
+-- A mark that names may not contain is not in a name.
 pub name_lacks : (m : ℕ) (s : List ℕ) → m < 128 → is_name_char m ≡ false → IsUtf8 s → is_ncname s ≡ true → Lacks m s
 unfolding is_ncname
 name_lacks m s l f u n =
@@ -64,7 +64,7 @@ name_lacks m s l f u n =
     let p : NoCharPasses (λ c. c == m) s = (chars s, encodes-chars s u, name_passes m (chars s) f begun) in
     lacks_by_index m s (λ i k. NoCharPasses-char m s i p l k)
 
--- a plain character is not a point
+-- A plain character is not a point.
 plain_differs : (c : ℕ) → is_plain_char c ≡ true → (c == 46) ≡ false
 unfolding is_plain_char
 plain_differs c h = by (is_name_char c) (c == 46) refl h
@@ -82,7 +82,7 @@ no_points (c ∷ cs) h = by (is_plain_char c) refl h (no_points cs)
     by true e k r = (plain_differs c e, r k)
     by false e k r = absurd cc
 
--- a text of which the first character passes a test that no point passes, and the others are plain
+-- A text whose first character passes a test that no point passes, and whose others are plain.
 text_lacks_point : (first : ℕ → Bool) (text : List ℕ) → ((c : ℕ) → first c ≡ true → (c == 46) ≡ false)
     → (is_utf8 text && begins_and_goes_on first is_plain_char (chars text)) ≡ true → Lacks 46 text
 text_lacks_point first text misses h = by (is_utf8 text) refl h
@@ -105,7 +105,7 @@ start_no_point : (c : ℕ) → is_name_start c ≡ true → (c == 46) ≡ false
 unfolding is_name_start
 start_no_point c h = eqb_of c 46 (λ e. let k : is_name_start 46 ≡ true = ap is_name_start (sym e) ∙ h in absurd cc)
 
--- neither an identifier nor a row identifier holds a point
+-- Neither an identifier nor a row identifier contains a point.
 pub identifier_lacks_point : (text : List ℕ) → is_identifier text ≡ true → Lacks 46 text
 unfolding is_identifier
 identifier_lacks_point text h = text_lacks_point is_name_start text start_no_point h
@@ -114,7 +114,7 @@ pub row_identifier_lacks_point : (text : List ℕ) → is_row_identifier text �
 unfolding is_row_identifier
 row_identifier_lacks_point text h = text_lacks_point is_plain_char text plain_differs h
 
--- the parts before and after an ASCII mark of a text are texts
+-- The parts before and after an ASCII mark of a text are texts.
 mark_at : (m : ℕ) (x s t : List ℕ) → x ≡ s ++ m ∷ t → (get_or x (length s) 0 ≡ m) × (length s < length x)
 mark_at m x s t e =
     let g : get_or x (length s) 0 ≡ m = rw e (get_or-append_seam s m t 0) in

@@ -1,4 +1,5 @@
--- The definitions on worked cases. Their answers come from XML 1.0 fifth edition, Namespaces in XML 1.0, BCP 47 and xBRL-JSON 1.0.
+-- The definitions on worked cases. Their results are from XML 1.0 fifth edition, Namespaces in XML
+-- 1.0, BCP 47 and xBRL-JSON 1.0.
 use Rattle.std.proofs.Common.{◌≡◌, [], ◌∷◌, Some, None, true, false, refl, codes, map}
 use Rattle.std.specs.List.{list_all, list_any}
 use Rattle.std.specs.Str.{chars, is_utf8}
@@ -12,7 +13,7 @@ use Rattle.oim_names.specs.Fault.{number_of, name_of}
 use Rattle.oim_names.specs.declared.namespaces.NameFault.TheVariants.{BadPrefix, Repeated, Memory}
 use Rattle.oim_names.specs.declared.unit_kind.UnitKind.TheVariants.{Pure, Written}
 
--- CHARACTERS: the first and the last of each range, and those beside the ranges
+-- CHARACTERS (XML 1.0): the first and the last of each range, and those next to the ranges.
 begin_a_name :
     list_all is_name_start
     (0x41 ∷ 0x5A ∷ 0x5F ∷ 0x61 ∷ 0x7A ∷ 0xC0 ∷ 0xD6 ∷ 0xD8 ∷ 0xF6 ∷ 0xF8 ∷ 0x2FF ∷ 0x370 ∷ 0x37D ∷ 0x37F ∷ 0x1FFF ∷ 0x200C ∷ 0x200D ∷ 0x2070 ∷ 0x218F
@@ -41,12 +42,12 @@ plain : list_all is_plain_char (0x61 ∷ 0x2D ∷ 0x30 ∷ 0x2040 ∷ []) ≡ tr
 unfolding is_plain_char is_name_char is_name_start
 plain = refl
 
--- NAMES: the last of each list is U+2040 behind `a`
+-- NAMES (Namespaces in XML 1.0, NCName). The last of each list is U+2040 after `a`.
 ncnames : list_all is_ncname (codes "a" ∷ codes "a.b" ∷ codes "_-1" ∷ (0xC3 ∷ 0xA9 ∷ []) ∷ (0x61 ∷ 0xE2 ∷ 0x81 ∷ 0x80 ∷ []) ∷ []) ≡ true
 unfolding is_ncname is_name_char is_name_start chars is_utf8 encode
 ncnames = refl
 
--- the empty text, a wrong first character, a colon, blanks, and bytes that are not UTF-8
+-- The empty text, a wrong first character, a colon, blanks, and bytes that are not UTF-8.
 no_ncnames :
     list_any is_ncname
     ([] ∷ codes "1a" ∷ codes "-" ∷ codes ".a" ∷ codes "a:b" ∷ codes "a b" ∷ codes "a\t" ∷ codes "a\n" ∷ codes "a\r" ∷ (0xE2 ∷ 0x81 ∷ 0x80 ∷ [])
@@ -71,7 +72,7 @@ no_row_identifiers : list_any is_row_identifier ([] ∷ codes ".a" ∷ codes "a.
 unfolding is_row_identifier is_plain_char is_name_char is_name_start chars is_utf8 encode
 no_row_identifiers = refl
 
--- NAMESPACES: three prefixes, bound out of order
+-- NAMESPACES: three prefixes, bound out of order.
 prefixes : Bindings
 unfolding bound
 prefixes =
@@ -91,7 +92,7 @@ uris_there : map (has_uri prefixes) (codes "http://www.xbrl.org/2003/instance" �
 unfolding prefixes bound
 uris_there = refl
 
--- a prefix alone, a URI alone, both of different bindings, and neither
+-- Only a prefix, only a URI, both of different bindings, and neither.
 bound_already :
     is_bound prefixes (codes "eg") (codes "u") ∷ is_bound prefixes (codes "e") (codes "http://example.com/eg") ∷ is_bound prefixes (codes "eg") (codes "http://www.xbrl.org/2003/instance")
     ∷ is_bound prefixes (codes "e") (codes "u") ∷ []
@@ -99,7 +100,7 @@ bound_already :
 unfolding prefixes bound
 bound_already = refl
 
--- QUALIFIED NAMES
+-- QUALIFIED NAMES (xBRL-JSON 1.0, QName and SQName).
 qnames :
     map (qname_of prefixes) (codes "eg:Cash" ∷ codes "xbrli:a.b" ∷ [])
     ≡ Some (codes "http://example.com/eg", codes "Cash") ∷ Some (codes "http://www.xbrl.org/2003/instance", codes "a.b") ∷ []
@@ -124,7 +125,7 @@ no_sqnames :
 unfolding prefixes bound sqname_of
 no_sqnames = refl
 
--- UNITS
+-- UNITS (xBRL-JSON 1.0, unit).
 pure_units : map (unit_of prefixes) (codes "xbrli:pure" ∷ codes "(xbrli:pure)" ∷ []) ≡ Some Pure ∷ Some Pure ∷ []
 unfolding prefixes bound unit_of qname_of is_ncname is_name_char is_name_start chars is_utf8 encode
 pure_units = refl
@@ -144,7 +145,8 @@ no_units :
 unfolding prefixes bound unit_of qname_of is_ncname is_name_char is_name_start chars is_utf8 encode
 no_units = refl
 
--- LANGUAGES: `A`, `Z`, `a`, `z` and what stands beside them, and `0`, `9` likewise
+-- LANGUAGES (BCP 47): `A`, `Z`, `a`, `z` and the characters next to them, and the same for `0`,
+-- `9`.
 letters : (list_all is_letter (65 ∷ 90 ∷ 97 ∷ 122 ∷ []) ≡ true) × (list_any is_letter (64 ∷ 91 ∷ 96 ∷ 123 ∷ 48 ∷ 57 ∷ []) ≡ false)
 letters = (refl, refl)
 
@@ -155,14 +157,14 @@ languages : map language_of (codes "e" ∷ codes "en-GB" ∷ codes "ABCDEFGH-123
 unfolding language_of
 languages = refl
 
--- a part of nine characters is too long, and an empty one is too short
+-- A part of nine characters is too long, and an empty one is too short.
 no_languages :
     map language_of ([] ∷ codes "en_GB" ∷ codes "e1" ∷ codes "en-" ∷ codes "-en" ∷ codes "en--x" ∷ codes "abcdefghi" ∷ codes "en-123456789" ∷ codes "en " ∷ [])
     ≡ None ∷ None ∷ None ∷ None ∷ None ∷ None ∷ None ∷ None ∷ None ∷ []
 unfolding language_of
 no_languages = refl
 
--- FAULTS
+-- FAULTS: this project's numbers and names.
 numbers : map number_of (BadPrefix ∷ Repeated ∷ Memory ∷ []) ≡ 60 ∷ 61 ∷ 62 ∷ []
 numbers = refl
 

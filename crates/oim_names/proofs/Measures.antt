@@ -1,4 +1,4 @@
--- The grammar of units, and the functions.
+-- The grammar of units, and its functions.
 use Rattle.std.proofs.Common.{◌≡◌, ℕ, ◌<◌, List, [], ◌∷◌, ◌++◌, refl, sym, ap, subst, ◌∙◌, arith, length, append_assoc, codes, Some, None, Option, Bool, true, false, ◌==◌, ◌&&◌, ◌||◌, is_some}
 use Rattle.std.specs.List.{list_all, slice_split, join_with_byte}
 use Rattle.std.specs.Str.{IsUtf8, bytes_eq}
@@ -20,7 +20,7 @@ lacks_joined : (m : ℕ) (s t : List ℕ) → Lacks m s → Lacks m t → Lacks 
 lacks_joined m [] t h k = k
 lacks_joined m (c ∷ s) t h k = (h.0, lacks_joined m s t h.1 k)
 
--- a mark that cannot stand in a QName
+-- A mark that a QName cannot contain.
 abbrev IsMark : ℕ → Type 0
 IsMark m = (m < 128) × (is_name_char m ≡ false) × ((58 == m) ≡ false)
 
@@ -66,7 +66,7 @@ product_complete (product b s t x more q r) u =
     let p = slice_split_at (λ c. c == 42) s 42 t (All-from_recursion (λ c. (c == 42) ≡ false) s (qname_lacks 42 star q f)) refl in
     ap (are_measures b) e ∙ ap (list_all (is_measure b)) p ∙ both_true (is_measure b s) (are_measures b t) (ap is_some (qname_value b s x f q)) (product_complete r w)
 
--- a measure before the first `*`: the text has measures where what stands behind that has
+-- A measure before the first `*`: the text has measures if the text after the `*` has.
 pub measures_behind : (b : Bindings) (t p o l r : List ℕ) → IsUtf8 t → t ≡ p ++ 58 ∷ o → is_ncname p ≡ true → o ≡ l ++ 42 ∷ r → is_ncname l ≡ true
     → is_some (uri_of b p) ≡ true → are_measures b t ≡ are_measures b r
 measures_behind b t p o l r u e n f m k = by (uri_of b p) refl k
@@ -114,7 +114,7 @@ product_sound b t h =
     let r = joined_product b (slice_split (λ c. c == 42) t) h (omega (arith, length-slice_split (λ c. c == 42) t)) in
     (r.0, subst (λ w. IsProduct b w r.0) (join_with_byte-slice_split 42 t) r.1)
 
--- the grammar of sides and its test
+-- The grammar of sides and its test.
 side_of_product : (b : Bindings) (t : List ℕ) (ns : List Name) → IsProduct b (inside t) ns → IsSide b t ns
 side_of_product b t ns p = by (is_bracketed t) refl
   where
@@ -125,7 +125,7 @@ side_of_product b t ns p = by (is_bracketed t) refl
 side_sound : (b : Bindings) (t : List ℕ) → is_side b t ≡ true → (ns : List Name) × IsSide b t ns
 side_sound b t h = let r = product_sound b (inside t) h in (r.0, side_of_product b t r.0 r.1)
 
--- what stands in parentheses is a text
+-- The bytes in parentheses are a text.
 middle_is_text : (s : List ℕ) → IsUtf8 (40 ∷ (s ++ 41 ∷ [])) → IsUtf8 s
 middle_is_text s u = front_is_text 41 (s ++ 41 ∷ []) s [] (omega arith) (rest_is_text 40 (40 ∷ (s ++ 41 ∷ [])) [] (s ++ 41 ∷ []) (omega arith) u refl) refl
 
@@ -144,7 +144,7 @@ side_lacks : {b : Bindings} {t : List ℕ} {ns : List Name} → IsSide b t ns �
 side_lacks (bare b t ns p) u = product_lacks 47 slash refl p u
 side_lacks (bracketed b s ns p) u = (refl, lacks_joined 47 s (41 ∷ []) (product_lacks 47 slash refl p (middle_is_text s u)) (refl, tt))
 
--- the grammar of units and its test
+-- The grammar of units and its test.
 empty_is_no_side : (b : Bindings) → is_side b [] ≡ false
 empty_is_no_side b = let e : is_some (qname_of b []) ≡ false = ap is_some (sym (qname_uncut b [] refl)) in rw e refl
 
@@ -176,7 +176,7 @@ unit_sound b t h = by (is_side b t) refl h
         let m : (above_of t ++ codes "/") ++ below_of t ≡ t = append_assoc (above_of t) (codes "/") (below_of t) ∙ sym (has_mark 47 t n) in
         (a.0, z.0, subst (λ w. IsUnit b w a.0 z.0) m (quotient b (above_of t) (below_of t) a.0 z.0 a.1 z.1))
 
--- what the code asks: of a text that is cut at a line, and of one that has none
+-- The code's two cases: a text that is cut at a `/`, and a text without one.
 lacks_not : (m : ℕ) (s t : List ℕ) → Lacks m (s ++ m ∷ t) → ⊥
 lacks_not m [] t h = let e = eq-eqb m m refl in absurd (cc (e, h.0))
 lacks_not m (c ∷ s) t h = lacks_not m s t h.1
@@ -198,7 +198,7 @@ unit_uncut b t e =
     let n : is_side b (below_of t) ≡ false = ap (is_side b) e ∙ empty_is_no_side b in
     sym (ap (λ k. is_side b t || (is_side b (above_of t) && k)) n ∙ ap (λ k. is_side b t || k) (both_false (is_side b (above_of t))) ∙ or_false (is_side b t))
 
--- the pure unit
+-- The unit of pure numbers.
 same_name : (x : Name) → (bytes_eq x.0 pure_name.0 && bytes_eq x.1 pure_name.1) ≡ true → x ≡ pure_name
 same_name x h =
     let d = two_true (bytes_eq x.0 pure_name.0) (bytes_eq x.1 pure_name.1) h in

@@ -6,13 +6,13 @@ use Rattle.oim_names.specs.QName.{Lacks}
 use Rattle.oim_names.specs.Unit.{is_bracketed, inside}
 use Rattle.oim_names.proofs.Truth.{two_true}
 
--- a list by its front and its last item
+-- A list is its prefix and its last item.
 last_apart : (cs : List ℕ) → 0 < length cs → cs ≡ take (length cs - 1) cs ++ (get_or cs (length cs - 1) 0 ∷ [])
 last_apart cs h =
     let n : suc (length cs - 1) ≡ length cs = omega (arith, h) in
     sym (take-length cs) ∙ ap (λ k. take k cs) (sym n) ∙ take-suc cs (length cs - 1) 0 (omega (arith, h))
 
--- a bracketed text is what is inside it, in parentheses
+-- A bracketed text is the text inside it, in parentheses.
 pub bracketed_is : (t : List ℕ) → is_bracketed t ≡ true → t ≡ 40 ∷ (inside t ++ 41 ∷ [])
 bracketed_is [] e = absurd (cc)
 bracketed_is (c ∷ []) e =
@@ -29,7 +29,7 @@ bracketed_is (c ∷ d ∷ ds) e =
     let s : cs ≡ take (length cs - 1) cs ++ 41 ∷ [] = last_apart cs (omega arith) ∙ ap (λ x. take (length cs - 1) cs ++ x ∷ []) l in
     ap (λ x. x ∷ cs) (eqb-true c 40 b.0) ∙ ap (λ xs. 40 ∷ xs) (s ∙ ap (λ xs. xs ++ 41 ∷ []) (sym f))
 
--- and a text in parentheses is bracketed
+-- A text in parentheses is bracketed.
 bracketed_text : (s : List ℕ) → is_bracketed (40 ∷ (s ++ 41 ∷ [])) ≡ true
 bracketed_text s =
     let n : length (40 ∷ (s ++ 41 ∷ [])) - 1 ≡ suc (length s) = omega (arith, length-append s (41 ∷ [])) in
@@ -41,7 +41,7 @@ inside_brackets s =
     ap (λ b. cond b (take (length (40 ∷ (s ++ 41 ∷ [])) - 2) (s ++ 41 ∷ [])) (40 ∷ (s ++ 41 ∷ []))) (bracketed_text s)
     ∙ ap (λ k. take k (s ++ 41 ∷ [])) n ∙ take-append_seam s (41 ∷ [])
 
--- any other text is left as it is
+-- Any other text is unchanged.
 pub inside_other : (t : List ℕ) → (is_bracketed t ≡ true → ⊥) → inside t ≡ t
 inside_other t n = by (is_bracketed t) refl
   where

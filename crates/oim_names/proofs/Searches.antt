@@ -1,4 +1,4 @@
--- A look-up by name in a list whose names rise.
+-- A lookup by name in a list whose names are in strict byte order.
 use Rattle.std.proofs.Common.{◌≡◌, ℕ, zero, suc, ◌+◌, ◌<◌, List, [], ◌∷◌, length, get_or, Some, None, Result, Ok, Err, false, true, refl, sym, ap, subst, ◌∙◌, inl, inr, arith, Ordering}
 use Rattle.std.specs.Prelude.{MatchResult}
 use Rattle.std.specs.Map.{keys_of}
@@ -20,12 +20,12 @@ use Rattle.oim_names.specs.Lookup.{value_at}
 abbrev order : List ℕ → List ℕ → Ordering
 order = slice_cmp nat_cmp
 
--- names that the order tells apart are different bytes
+-- Names that are not equal in the order are different bytes.
 differ : (k n : List ℕ) → is_eq (order k n) ≡ false → bytes_eq k n ≡ false
 differ k n h = sym (is_eq-slice_cmp k n) ∙ h
 
 module _ {V : Type 0} where
-  -- a name at one place is below a name at a later place
+  -- A name at one place is below a name at a later place.
   below : (es : List (List ℕ × V)) (i j : ℕ) (d : List ℕ × V) → IsStrictlySortedBy order (keys_of es) → i < j → j < length es → order (get_or es i d).0 (get_or es j d).0 ≡ Less
   below es i j d rise lt within =
       let long : length (keys_of es) ≡ length es = length-map es (λ e. e.0) in
@@ -33,7 +33,7 @@ module _ {V : Type 0} where
       let second : get_or (keys_of es) j d.0 ≡ (get_or es j d).0 = get_or-map (λ e. e.0) es j d d.0 within in
       rw (← first, ← second) (Less-from_sorted order (keys_of es) i j d.0 rise lt (rw long within))
 
-  -- the value of the name at a place
+  -- The value of the name at a place.
   there : (es : List (List ℕ × V)) (n : List ℕ) (i : ℕ) (d : List ℕ × V) → IsStrictlySortedBy order (keys_of es) → i < length es → (get_or es i d).0 ≡ n → value_at n es ≡ Some (get_or es i d).1
   there [] n i d rise within same = absurd (omega (arith, within))
   there (e ∷ es) n zero d rise within same =
@@ -43,17 +43,17 @@ module _ {V : Type 0} where
       let apart : bytes_eq e.0 n ≡ false = differ e.0 n (ap is_eq (subst (λ k. order e.0 k ≡ Less) same (below (e ∷ es) 0 (suc i) d rise (omega arith) within))) in
       rw apart (there es n i d (sorted_tail order e.0 (keys_of es) rise) (omega (arith, within)) same)
 
-  -- a name that stands at no place has no value
+  -- A name that is at no place has no value.
   nowhere : (es : List (List ℕ × V)) (n : List ℕ) → ((i : ℕ) (d : List ℕ × V) → i < length es → bytes_eq (get_or es i d).0 n ≡ false) → value_at n es ≡ None
   nowhere [] n none = refl
   nowhere (e ∷ es) n none = rw (none 0 e (omega arith)) (nowhere es n (λ i d within. none (suc i) d (omega (arith, within))))
 
-  -- the comparisons with a name rise along the list, as a binary search asks
+  -- The comparisons with a name rise along the list, as a binary search requires.
   comparisons_rise : (es : List (List ℕ × V)) (n : List ℕ) → IsStrictlySortedBy order (keys_of es) → IsNonDecreasingBy (λ e. ordering_index (order e.0 n)) es
   comparisons_rise es n rise = searchable_from_sorted nat_list_cmp_total (λ e. e.0) es n
       (λ k d low within. ap is_lt (nat_list_cmp_total.antisymm (get_or es (k + 1) d).0 (get_or es k d).0 ∙ ap ordering_reverse (below es k (k + 1) d rise (omega arith) within)))
 
-  -- a binary search answers the place of the name, or that it stands nowhere
+  -- A binary search returns the place of the name, or that it is at no place.
   pub searched : (es : List (List ℕ × V)) (n : List ℕ) (r : Result ℕ ℕ) → IsStrictlySortedBy order (keys_of es) → IsSearchInRange r (length es) → IsBinarySearchResult (λ e. order e.0 n) es r
       → MatchResult r (λ i. (d : List ℕ × V) → value_at n es ≡ Some (get_or es i d).1) (λ _. value_at n es ≡ None)
   searched es n (Ok i) rise within equal = λ d. there es n i d rise within (exact_bytes _ _ (equal d))

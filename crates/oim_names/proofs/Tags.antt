@@ -1,4 +1,4 @@
--- The grammar of languages, and the function.
+-- The grammar of languages, and its function.
 use Rattle.std.proofs.Common.{◌≡◌, ℕ, ◌<◌, List, [], ◌∷◌, refl, sym, ap, subst, ◌∙◌, arith, length, Bool, true, false, ◌==◌, ◌&&◌}
 use Rattle.std.specs.Int.{is_in_range}
 use Rattle.std.specs.List.{list_all, slice_split, join_with_byte, position_or_len, before_first, after_first}
@@ -11,7 +11,7 @@ use Rattle.oim_names.specs.Language.{is_letter, is_letter_or_digit, is_part, IsL
 use Rattle.oim_names.proofs.Cut.{eqb_of}
 use Rattle.oim_names.proofs.Truth.{and_true, two_true}
 
--- what the code asks: of a text that is cut at its first `-`, and of one that has none
+-- The code's two cases: a text that is cut at its first `-`, and a text without one.
 pub tag_cut : (t f o : List ℕ) → position_or_len (λ c. c == 45) t < length t → f ≡ before_first (λ c. c == 45) t → o ≡ after_first (λ c. c == 45) t
     → (is_part is_letter f && list_all (is_part is_letter_or_digit) (slice_split (λ c. c == 45) o)) ≡ is_language t
 tag_cut t f o l e g =
@@ -23,7 +23,7 @@ tag_uncut t e =
     let s = slice_split_none (λ c. c == 45) t (λ k d l. fails_before_first (λ c. c == 45) t k d (omega (arith, e, l))) in
     sym (ap (begins_and_goes_on (is_part is_letter) (is_part is_letter_or_digit)) s ∙ and_true (is_part is_letter t))
 
--- a part has no `-`
+-- A part has no `-`.
 all_lack : (kind : ℕ → Bool) → kind 45 ≡ false → (t : List ℕ) → list_all kind t ≡ true → Lacks 45 t
 all_lack kind n [] h = tt
 all_lack kind n (c ∷ cs) h =

@@ -1,4 +1,4 @@
--- Answers of tests, joined.
+-- Results of tests, joined.
 use Rattle.std.proofs.Common.{◌≡◌, refl, Bool, true, false, ◌&&◌, ◌||◌}
 
 pub two_true : (a b : Bool) → (a && b) ≡ true → (a ≡ true) × (b ≡ true)

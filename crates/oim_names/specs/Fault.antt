@@ -1,4 +1,4 @@
--- The number and the name of each fault of a binding. Both are this project's own.
+-- The number and the name of each fault of a binding. This project chose both.
 use Rattle.std.specs.Prelude.{ℕ, List, codes}
 use Rattle.oim_names.specs.declared.namespaces.NameFault.{NameFault}
 use Rattle.oim_names.specs.declared.namespaces.NameFault.TheVariants.{BadPrefix, Repeated, Memory}

@@ -1,21 +1,25 @@
-//! The names of an Open Information Model 1.0 report: identifiers, prefixes with their URIs, qualified names, units,
-//! languages and paths of files. The crate also has the text and list types that the other crates share.
+//! Names of an Open Information Model 1.0 report: identifiers, prefixes with their URIs, qualified
+//! names, units, languages and file paths. The text and list types that the other crates share are
+//! here too.
 //!
 //! What is proved:
 //!
-//! - [`is_identifier`], [`is_row_identifier`] and [`is_ncname`] are true exactly of the texts of one or more characters of
-//!   which the first and each other lie in sets of XML 1.0 fifth edition (`specs/Names.antt`).
-//! - [`Namespaces`] is a finite map from prefixes, which are NCNames, to URIs, of which none stands twice. It is listed in
-//!   byte order of prefix. `add` gives `BadPrefix` and `Repeated` exactly where they are due, and a call that fails changes
-//!   nothing.
-//! - [`qname`], [`sqname`], [`unit`] and [`language`] give a value exactly where the grammar has the text. For a QName and an
-//!   SQName it is the one value of the grammar, and for a unit it tells whether that is the pure number's. All four equal
-//!   short functions, which the contracts of the crates above cite.
-//! - [`is_plain_path`] is true exactly of the paths that have no barred character and no bad segment.
+//! - [`is_identifier`], [`is_row_identifier`] and [`is_ncname`] accept exactly the texts whose
+//!   first and other characters are in given sets of XML 1.0 fifth edition (`specs/Names.antt`).
+//! - [`Namespaces`] is a finite map from prefixes, which are NCNames, to URIs. Each prefix and each
+//!   URI occurs once, and the prefixes are in byte order. `add` returns `BadPrefix` and `Repeated`
+//!   exactly when they apply, and a call that fails changes nothing.
+//! - [`qname`], [`sqname`], [`unit`] and [`language`] return a value exactly if the grammar has the
+//!   text. For a QName and an SQName it is the grammar's only value. For a unit it is `Pure`
+//!   exactly for the unit of pure numbers. All four equal short functions that the contracts of
+//!   other crates cite.
+//! - [`is_plain_path`] accepts exactly the paths without a barred character and without a bad
+//!   segment.
 //!
-//! `add`, `language` and the calls that copy or grow a text, a list or namespaces take memory. The others take none.
+//! `add`, `language` and the calls that copy or grow a text, a list or namespaces take memory. The
+//! others take none.
 //!
-//! A call:
+//! Example:
 //!
 //! ```
 //! /// The concept that a name with a prefix names.

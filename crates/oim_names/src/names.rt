@@ -1,11 +1,11 @@
-//! Names by their characters: NCNames, identifiers and row identifiers.
+//! NCNames, identifiers and row identifiers, tested by their characters.
 
 ghost use Rattle.std.specs.Prelude.{◌≡◌, ◌<◌, ◌≤◌, ◌++◌, ◌∷◌, ◌&&◌, nat_lt, IfSome, IsTrue, length, take, true};
 ghost use Rattle.std.specs.List.{list_all, prefix_len};
 ghost use Rattle.oim_names.specs.Names.{is_name_start as name_start, is_name_char as name_char, is_plain_char as plain_char, is_ncname as ncname};
 ghost use Rattle.oim_names.specs.Names.{is_identifier as identifier, is_row_identifier as row_identifier};
 
-// Each ASCII character that may stand in a name stands at its own place, and a comma at every other place.
+// Each ASCII character that a name may contain is at its own index. All other bytes are commas.
 static NAME_BYTES: [u8; 256] = *b"\
     ,,,,,,,,,,,,,,,,,,,,,,,,,,,,,,,,\
     ,,,,,,,,,,,,,-.,0123456789,,,,,,\
@@ -27,7 +27,7 @@ static PLAIN_BYTES: [u8; 256] = *b"\
     ,,,,,,,,,,,,,,,,,,,,,,,,,,,,,,,,\
     ,,,,,,,,,,,,,,,,,,,,,,,,,,,,,,,,";
 
-/// Whether a character may begin a name.
+/// Returns whether a character may begin a name.
 #[tactic(auto, unfolding(crate::specs::Names::is_name_start))]
 #[inline(always)]
 fn is_name_start(c: char) -> bool
@@ -42,7 +42,7 @@ fn is_name_start(c: char) -> bool
     )
 }
 
-/// Whether a character may stand in a name.
+/// Returns whether a name may contain a character.
 #[tactic(auto, unfolding(crate::specs::Names::is_name_char))]
 #[inline(always)]
 fn is_name_char(c: char) -> bool
@@ -52,7 +52,7 @@ fn is_name_char(c: char) -> bool
         || matches!(c, '-' | '.' | '0'..='9' | '\u{B7}' | '\u{300}'..='\u{36F}' | '\u{203F}'..='\u{2040}')
 }
 
-/// Whether a byte is an ASCII character that may begin a name.
+/// Returns whether a byte is an ASCII character that may begin a name.
 #[tactic(auto, unfolding(crate::specs::Names::is_name_start))]
 #[inline(always)]
 fn is_ascii_name_start(byte: u8) -> bool
@@ -61,7 +61,7 @@ fn is_ascii_name_start(byte: u8) -> bool
     matches!(byte, b'A'..=b'Z' | b'_' | b'a'..=b'z')
 }
 
-/// Whether a byte is an ASCII character that may stand in a name.
+/// Returns whether a byte is an ASCII character that a name may contain.
 #[inline(always)]
 fn is_ascii_name_char(byte: u8) -> bool
     ensures { result ≡ (nat_lt byte 128 && name_char byte) }
@@ -69,7 +69,7 @@ fn is_ascii_name_char(byte: u8) -> bool
     NAME_BYTES[byte as usize] != b','
 }
 
-/// Whether a byte is an ASCII character that may stand in an identifier.
+/// Returns whether a byte is an ASCII character that an identifier may contain.
 #[inline(always)]
 fn is_ascii_plain_char(byte: u8) -> bool
     ensures { result ≡ (nat_lt byte 128 && plain_char byte) }
@@ -77,7 +77,7 @@ fn is_ascii_plain_char(byte: u8) -> bool
     PLAIN_BYTES[byte as usize] != b','
 }
 
-/// Whether a character may stand in an identifier: it may stand in a name and is not a point.
+/// Returns whether an identifier may contain a character: any character of a name but the point.
 #[tactic(auto, unfolding(crate::specs::Names::is_plain_char))]
 #[inline(always)]
 fn is_plain_char(c: char) -> bool
@@ -90,21 +90,21 @@ fn is_plain_char(c: char) -> bool
     }
 }
 
-/// Whether all bytes are ASCII characters that may stand in a name.
+/// Returns whether all bytes are ASCII characters that a name may contain.
 fn are_name_chars(bytes: &[u8]) -> bool
     ensures { result ≡ list_all (λ c. nat_lt c 128 && name_char c) bytes.now }
 {
     bytes.iter().all(|byte| is_ascii_name_char(*byte))
 }
 
-/// Whether all bytes are ASCII characters that may stand in an identifier.
+/// Returns whether all bytes are ASCII characters that an identifier may contain.
 fn are_plain_chars(bytes: &[u8]) -> bool
     ensures { result ≡ list_all (λ c. nat_lt c 128 && plain_char c) bytes.now }
 {
     bytes.iter().all(|byte| is_ascii_plain_char(*byte))
 }
 
-/// Whether a text is an NCName of ASCII characters.
+/// Returns whether a text is an NCName of ASCII characters.
 fn is_ascii_ncname(text: &str) -> bool
     ensures { IsTrue result → IsTrue (ncname text.now) }
 {
@@ -114,7 +114,7 @@ fn is_ascii_ncname(text: &str) -> bool
     }
 }
 
-/// How many bytes at the beginning are ASCII characters that may stand in a name.
+/// Returns the length of the longest prefix of ASCII characters that a name may contain.
 fn name_chars_len(bytes: &[u8]) -> usize
     ensures within { result ≤ length bytes.now }
     ensures chars { result ≡ prefix_len (λ c. nat_lt c 128 && name_char c) bytes.now }
@@ -125,7 +125,7 @@ fn name_chars_len(bytes: &[u8]) -> usize
         .count()
 }
 
-/// How many bytes at the beginning of a text are an NCName of ASCII characters, or 0 where it begins with none.
+/// Returns the length of a prefix of the text that is an ASCII NCName, or 0 if no prefix is one.
 fn ascii_ncname_len(text: &str) -> usize
     ensures within { result ≤ length text.now }
     ensures name { 0 < result → ncname (take result text.now) ≡ true }
@@ -136,7 +136,9 @@ fn ascii_ncname_len(text: &str) -> usize
     }
 }
 
-/// The NCName of ASCII characters before an ASCII mark, and what stands behind the mark, where a text begins so.
+/// Splits a text that begins with an ASCII NCName and then `mark`.
+///
+/// Returns the NCName and the text after `mark`, or `None` if the text does not begin so.
 pub(crate) fn cut_ascii_ncname(text: &str, mark: u8) -> Option<(&str, &str)>
     requires { mark < 128 }
     ensures { IfSome result (λ p. (text.now ≡ p.0.now ++ mark ∷ p.1.now) × (ncname p.0.now ≡ true)) }
@@ -148,7 +150,7 @@ pub(crate) fn cut_ascii_ncname(text: &str, mark: u8) -> Option<(&str, &str)>
     Some((&text[..len], &text[len + 1..]))
 }
 
-/// Whether a text is an identifier of ASCII characters.
+/// Returns whether a text is an identifier of ASCII characters.
 fn is_ascii_identifier(text: &str) -> bool
     ensures { IsTrue result → IsTrue (identifier text.now) }
 {
@@ -158,7 +160,7 @@ fn is_ascii_identifier(text: &str) -> bool
     }
 }
 
-/// Whether a text is the identifier of a row, of ASCII characters.
+/// Returns whether a text is a row identifier of ASCII characters.
 fn is_ascii_row_identifier(text: &str) -> bool
     ensures { IsTrue result → IsTrue (row_identifier text.now) }
 {
@@ -168,7 +170,7 @@ fn is_ascii_row_identifier(text: &str) -> bool
     }
 }
 
-/// Whether a text is an NCName, by its characters.
+/// Returns whether a text is an NCName, character by character.
 #[inline(never)]
 fn is_ncname_by_chars(text: &str) -> bool
     ensures { result ≡ ncname text.now }
@@ -180,7 +182,7 @@ fn is_ncname_by_chars(text: &str) -> bool
     }
 }
 
-/// Whether a text is an identifier, by its characters.
+/// Returns whether a text is an identifier, character by character.
 #[inline(never)]
 fn is_identifier_by_chars(text: &str) -> bool
     ensures { result ≡ identifier text.now }
@@ -192,7 +194,7 @@ fn is_identifier_by_chars(text: &str) -> bool
     }
 }
 
-/// Whether a text is the identifier of a row, by its characters.
+/// Returns whether a text is a row identifier, character by character.
 #[inline(never)]
 fn is_row_identifier_by_chars(text: &str) -> bool
     ensures { result ≡ row_identifier text.now }
@@ -204,27 +206,26 @@ fn is_row_identifier_by_chars(text: &str) -> bool
     }
 }
 
-/// Whether a text is an NCName, a name without a colon (Namespaces in XML 1.0, NCName; XML 1.0 fifth edition, section 2.3).
-///
-/// Its first character may begin a name, and the others may stand in one. It takes no memory.
+/// Returns whether a text is an NCName, a name without a colon (Namespaces in XML 1.0, NCName; XML
+/// 1.0 fifth edition, section 2.3).
 pub fn is_ncname(text: &str) -> bool
     ensures { result ≡ ncname text.now }
 {
     is_ascii_ncname(text) || is_ncname_by_chars(text)
 }
 
-/// Whether a text is an identifier, as tables, templates, columns and parameters have (xBRL-CSV 1.0, identifiers).
-///
-/// An identifier is an NCName without a point. It takes no memory.
+/// Returns whether a text is an identifier, that is an NCName without a point (xBRL-CSV 1.0,
+/// identifiers). Tables, templates, columns and parameters have identifiers.
 pub fn is_identifier(text: &str) -> bool
     ensures { result ≡ identifier text.now }
 {
     is_ascii_identifier(text) || is_identifier_by_chars(text)
 }
 
-/// Whether a text is the identifier of a row (xBRL-CSV 1.0, row identifiers).
+/// Returns whether a text is a row identifier (xBRL-CSV 1.0, row identifiers).
 ///
-/// It is one or more characters that may stand in a name, none of them a point. It takes no memory.
+/// It is one or more characters that a name may contain, without a point. It may begin with any of
+/// them.
 pub fn is_row_identifier(text: &str) -> bool
     ensures { result ≡ row_identifier text.now }
 {

@@ -25,7 +25,7 @@ pub enum NameFault {
 }
 
 impl NameFault {
-    /// The fault's number: 60 for `BadPrefix`, 61 for `Repeated`, 62 for `Memory`.
+    /// Returns the fault's number: 60 for `BadPrefix`, 61 for `Repeated`, 62 for `Memory`.
     pub fn number(&self) -> u32
         ensures { result ≡ number_of self.now }
     {
@@ -36,7 +36,7 @@ impl NameFault {
         }
     }
 
-    /// The fault's name: `BadPrefix`, `Repeated` or `Memory`.
+    /// Returns the fault's name: `BadPrefix`, `Repeated` or `Memory`.
     pub fn name(&self) -> &'static str
         ensures { result.now ≡ name_of self.now }
     {
@@ -47,7 +47,7 @@ impl NameFault {
         }
     }
 
-    /// What is wrong, as a sentence for people without capital and full stop.
+    /// Returns a sentence for people that explains the fault, without a capital and a full stop.
     pub fn explanation(&self) -> &'static str {
         match self {
             NameFault::BadPrefix => "the prefix is not a name without a colon",
@@ -59,8 +59,8 @@ impl NameFault {
 
 /// The namespaces of a report: prefixes with their URIs (Open Information Model 1.0, namespaces).
 ///
-/// No prefix and no URI stands twice. A prefix is an NCName (Namespaces in XML 1.0), and a URI is any text. Contracts see
-/// the list of prefixes with their URIs, in byte order of prefix.
+/// Each prefix and each URI occurs once. A prefix is an NCName (Namespaces in XML 1.0), and a URI
+/// is any text. Contracts see the list of prefixes with their URIs, in byte order of prefix.
 #[derive(Drop)]
 pub struct Namespaces {
     bindings: Items<(Text, Text)>,
@@ -88,7 +88,7 @@ impl Clone for Namespaces {
     }
 }
 
-/// How many of the prefixes stand before `prefix` in byte order.
+/// Returns the count of prefixes that are before `prefix` in byte order.
 fn place_of(bindings: &[(Text, Text)], prefix: &str) -> usize
     ensures { result ≡ prefix_len (λ e. is_before e.0 prefix.now) bindings.now }
 {
@@ -98,7 +98,7 @@ fn place_of(bindings: &[(Text, Text)], prefix: &str) -> usize
         .count()
 }
 
-/// Whether the URI is bound to some prefix.
+/// Returns whether a URI is bound to any prefix.
 fn any_uri(bindings: &[(Text, Text)], uri: &str) -> bool
     ensures { result ≡ uri_in bindings.now uri.now }
 {
@@ -106,7 +106,7 @@ fn any_uri(bindings: &[(Text, Text)], uri: &str) -> bool
 }
 
 impl Namespaces {
-    /// Makes namespaces without any prefix. It takes no memory; the allocator is kept for `add`.
+    /// Makes namespaces without a prefix. Takes no memory: the allocator is kept for `add`.
     pub fn new(alloc: Global) -> Self
         ensures { result ≡ [] }
     {
@@ -116,9 +116,8 @@ impl Namespaces {
         }
     }
 
-    /// Makes namespaces of a list of prefixes with their URIs. It takes no memory; the allocator is kept for `add`.
-    ///
-    /// Each prefix must be an NCName. The prefixes must rise strictly in byte order, and no URI may stand twice.
+    /// Makes namespaces from a list of prefixes with their URIs. Takes no memory: the allocator is
+    /// kept for `add`.
     pub fn from_bindings(alloc: Global, bindings: Items<(Text, Text)>) -> Self
         requires { IsNamespaces bindings }
         ensures { result ≡ bindings }
@@ -126,9 +125,9 @@ impl Namespaces {
         Namespaces { bindings, alloc }
     }
 
-    /// How many prefixes there are. It takes no memory.
+    /// Returns the count of prefixes.
     ///
-    /// They are NCNames and rise strictly in byte order, and no URI stands twice.
+    /// They are NCNames in strict byte order, and no URI occurs twice.
     pub fn len(&self) -> usize
         ensures count { result ≡ length self.now }
         ensures in_order { AreInOrder self.now }
@@ -138,7 +137,7 @@ impl Namespaces {
         self.bindings.len()
     }
 
-    /// The URI of a prefix, or `None` where the prefix is not bound. It takes no memory.
+    /// Returns the URI of a prefix, or `None` if the prefix is not bound.
     pub fn uri(&self, prefix: &str) -> Option<&str>
         ensures { option_map (λ u. u.now) result ≡ uri_of self.now prefix.now }
     {
@@ -148,7 +147,7 @@ impl Namespaces {
         }
     }
 
-    /// The prefix and the URI at place `i`, counted from 0 in byte order of prefix. It takes no memory.
+    /// Returns the prefix and the URI at index `i`, from 0, in byte order of prefix.
     pub fn at(&self, i: usize) -> (&str, &str)
         requires { i < length self.now }
         ensures { slice_get self.now i ≡ Some (result.0.now, result.1.now) }
@@ -159,8 +158,13 @@ impl Namespaces {
 
     /// Binds a prefix to a URI.
     ///
-    /// Fails with `BadPrefix` where the prefix is not an NCName, else with `Repeated` where the prefix or the URI is
-    /// already bound, else with `Memory` where memory runs out. A call that fails changes nothing.
+    /// # Errors
+    ///
+    /// - `BadPrefix`: the prefix is not an NCName.
+    /// - `Repeated`, if not `BadPrefix`: the prefix or the URI is already bound.
+    /// - `Memory`: memory ran out.
+    ///
+    /// A call that fails changes nothing.
     pub fn add(&mut self, prefix: &str, uri: &str) -> Result<(), NameFault>
         ensures bad_prefix { (result ≡ Err NameFault.BadPrefix) ↔ (ncname prefix.now ≡ false) }
         ensures repeated { (result ≡ Err NameFault.Repeated) ↔ ((ncname prefix.now ≡ true) × (is_bound self.old prefix.now uri.now ≡ true)) }

@@ -1,4 +1,4 @@
-//! Plain paths.
+//! Plain paths: relative file paths that mean the same as URLs.
 
 ghost use Rattle.std.specs.Prelude.{◌≡◌};
 ghost use Rattle.std.specs.List.{list_any};
@@ -21,7 +21,7 @@ fn has_barred(path: &[u8]) -> bool
     false
 }
 
-/// Whether the segment that a text begins with is empty, `.` or `..`.
+/// Returns whether the first segment of a text is empty, `.` or `..`.
 fn begins_badly(text: &[u8]) -> bool
     ensures { result ≡ bad_segment (first_segment text.now) }
 {
@@ -31,7 +31,7 @@ fn begins_badly(text: &[u8]) -> bool
     )
 }
 
-/// Whether such a segment follows a slash.
+/// Returns whether such a segment follows a slash.
 fn goes_on_badly(path: &[u8]) -> bool
     ensures { result ≡ list_any bad_segment (later_segments path.now) }
 {
@@ -43,8 +43,11 @@ fn goes_on_badly(path: &[u8]) -> bool
     false
 }
 
-/// Whether a path is relative and plain: it has no control character (U+0000 to U+001F), none of `\ : ? # %`, and no segment that is empty,
-/// `.` or `..`. Such a path is taken to mean the same as a URL and as the path of a file. It takes no memory.
+/// Returns whether a path is relative and plain, so that it means the same as a URL and as a file
+/// path.
+///
+/// It has no control character (U+0000 to U+001F), none of `\ : ? # %`, and no segment that is
+/// empty, `.` or `..`.
 #[tactic(auto, unfolding(crate::specs::PlainPath::is_plain_path))]
 pub fn is_plain_path(path: &str) -> bool
     ensures { result ≡ plain_path path.now }

@@ -5,10 +5,10 @@ ghost use Rattle.oim_names.specs.QName.{Name, IsQName, IsSQName, IsOnly, is_no_b
 
 use crate::{Namespaces, is_ncname};
 
-/// The URI and the local part of a QName (xBRL-JSON 1.0, QName; Namespaces in XML 1.0).
+/// Returns the URI and the local part of a QName (xBRL-JSON 1.0, QName; Namespaces in XML 1.0).
 ///
-/// A QName is `prefix:local`, two names without a colon, of which the first is a declared prefix. Any other text gives
-/// `None`. It takes no memory.
+/// A QName is `prefix:local`, two names without a colon, and the prefix is declared. Any other text
+/// gives `None`.
 pub fn qname<'a>(names: &'a Namespaces, text: &'a str) -> Option<(&'a str, &'a str)>
     ensures grammar { IsOnly {A = Name} (λ name. IsQName names.now text.now name) (option_map seen_name result) }
     ensures value { option_map seen_name result ≡ qname_of names.now text.now }
@@ -25,24 +25,24 @@ pub fn qname<'a>(names: &'a Namespaces, text: &'a str) -> Option<(&'a str, &'a s
     }
 }
 
-/// Whether a byte is neither a space nor a tab, carriage return or line feed.
+/// Returns whether a byte is not a space, tab, carriage return or line feed.
 fn is_no_blank(byte: u8) -> bool
     ensures { result ≡ no_blank byte }
 {
     !matches!(byte, b' ' | b'\t' | b'\r' | b'\n')
 }
 
-/// Whether a text is not empty and holds no space, tab, carriage return or line feed.
+/// Returns whether a text is not empty and has no space, tab, carriage return or line feed.
 fn is_solid(text: &str) -> bool
     ensures { result ≡ solid text.now }
 {
     !text.is_empty() && text.as_bytes().iter().all(|byte| is_no_blank(*byte))
 }
 
-/// The URI and the local part of an SQName (xBRL-JSON 1.0, SQName).
+/// Returns the URI and the local part of an SQName (xBRL-JSON 1.0, SQName).
 ///
-/// An SQName is a declared prefix, a colon and a local part, which is not empty and holds no space, tab, carriage return
-/// or line feed. The colon is the first of the text. Any other text gives `None`. It takes no memory.
+/// An SQName is a declared prefix, the text's first colon and a local part. The local part is not
+/// empty and has no space, tab, carriage return or line feed. Any other text gives `None`.
 pub fn sqname<'a>(names: &'a Namespaces, text: &'a str) -> Option<(&'a str, &'a str)>
     ensures grammar { IsOnly {A = Name} (λ name. IsSQName names.now text.now name) (option_map seen_name result) }
     ensures value { option_map seen_name result ≡ sqname_of names.now text.now }

@@ -18,7 +18,7 @@ use std::ops::Index;
 use std::slice;
 use std::sync::ArcStr;
 
-/// Where the bytes of a text lie: in a string of its own, or shared with its copies.
+/// The bytes of a text: in its own string, or shared with its copies.
 #[derive(Drop)]
 enum Body {
     Alone(String),
@@ -30,7 +30,7 @@ pub struct Text {
     body: Body,
 }
 
-// By hand, so that who lets one go elsewhere makes one call.
+// Written by hand, so that a drop in another crate is one call.
 impl Drop for Text {
     fn drop(self) {
         let Self { body: _ } = self;
@@ -47,7 +47,7 @@ impl Model for Text {
 }
 
 impl Text {
-    /// Makes a text of a string, without a copy.
+    /// Makes a text from a string without a copy.
     pub fn new(string: String) -> Text
         ensures { result ≡ string_bytes string }
     {
@@ -56,14 +56,14 @@ impl Text {
         }
     }
 
-    /// Copies a text. Fails with `AllocError` where memory runs out.
+    /// Copies a text.
     pub fn from_str(alloc: Global, text: &str) -> Result<Text, AllocError>
         ensures { IfOk result (λ t. t ≡ text.now) }
     {
         Ok(Text::new(String::from_str(alloc, text)?))
     }
 
-    /// Shares the text, so that its clones need not copy it. Fails with `AllocError` where memory runs out.
+    /// Shares the text's bytes, so that a clone does not copy them.
     pub fn share(self) -> Result<Text, AllocError>
         ensures { IfOk result (λ t. t ≡ self) }
     {
@@ -110,7 +110,7 @@ pub struct Items<T> {
     items: Vec<T>,
 }
 
-// By hand, so that who lets one go elsewhere makes one call.
+// Written by hand, so that a drop in another crate is one call.
 impl<T: Drop> Drop for Items<T> {
     fn drop(self) {
         let Self { items: _ } = self;
@@ -126,7 +126,7 @@ impl<T> Model for Items<T> {
 }
 
 impl<T> Items<T> {
-    /// Makes an empty list. It takes no memory; the allocator is kept for `push` and `insert`.
+    /// Makes an empty list. Takes no memory: the allocator is kept for `push` and `insert`.
     pub fn new(alloc: Global) -> Items<T>
         ensures { result ≡ [] }
     {
@@ -135,14 +135,14 @@ impl<T> Items<T> {
         }
     }
 
-    /// Makes a list of a vector, without a copy.
+    /// Makes a list from a vector without a copy.
     pub fn from_vec(items: Vec<T>) -> Items<T>
         ensures { result ≡ items.items }
     {
         Items { items }
     }
 
-    /// Gives the items as a vector, without a copy.
+    /// Returns the items as a vector without a copy.
     pub fn into_vec(self) -> Vec<T>
         ensures { result.items ≡ self }
     {
@@ -152,16 +152,16 @@ impl<T> Items<T> {
 
     /// Appends an item.
     ///
-    /// Where memory runs out the list is unchanged, and the item comes back in the error.
+    /// If memory runs out, the list is unchanged and the error has the item.
     pub fn push(&mut self, item: T) -> Result<(), AllocFailed<T>>
         ensures { self.new ≡ (if is_ok result then self.old ++ item ∷ [] else self.old) }
     {
         self.items.push(item)
     }
 
-    /// Inserts an item at `place`, counted from 0, before the item that stands there or at the end.
+    /// Inserts an item at index `place`, from 0. Later items move up by one.
     ///
-    /// Where memory runs out the list is unchanged, and the item comes back in the error.
+    /// If memory runs out, the list is unchanged and the error has the item.
     pub fn insert(&mut self, place: usize, item: T) -> Result<(), AllocFailed<T>>
         requires { place ≤ length self.old }
         ensures { self.new ≡ (if is_ok result then inserted self.old place item else self.old) }
@@ -169,14 +169,14 @@ impl<T> Items<T> {
         self.items.insert(place, item)
     }
 
-    /// How many items there are.
+    /// Returns the count of items.
     pub fn len(&self) -> usize
         ensures { result ≡ length self.now }
     {
         self.items.len()
     }
 
-    /// The item at place `i`, counted from 0.
+    /// Returns the item at index `i`, from 0.
     pub fn get(&self, i: usize) -> &T
         requires { i < length self.now }
         ensures { slice_get self.now i ≡ Some result.now }
@@ -184,14 +184,14 @@ impl<T> Items<T> {
         &self.items[i]
     }
 
-    /// Whether there are no items.
+    /// Returns whether the list is empty.
     pub fn is_empty(&self) -> bool
         ensures { result ≡ (length self.now == 0) }
     {
         self.items.is_empty()
     }
 
-    /// Goes over the items.
+    /// Returns an iterator over the items.
     pub fn iter(&self) -> slice::Iter<'_, T>
         ensures { GoesOver self.now result }
     {
@@ -256,9 +256,10 @@ impl PartialEq for Text {
     }
 }
 
-/// The value of a name in a list of names with values, or `None` where the name is not there.
+/// Returns the value of a name in a list of names with values, or `None` if the list does not have
+/// it.
 ///
-/// Where the name stands more than once it is the first value. It takes no memory.
+/// If the name occurs more than once, it is the first value.
 pub fn find<'a, V>(entries: &'a [(Text, V)], name: &str) -> Option<&'a V>
     ensures { option_map (λ v. v.now) result ≡ value_at name.now entries.now }
 {
@@ -270,12 +271,13 @@ pub fn find<'a, V>(entries: &'a [(Text, V)], name: &str) -> Option<&'a V>
     None
 }
 
-/// How long a list may be that is sooner walked than searched.
+/// Up to this many items a walk is used instead of a binary search.
 const SHORT: usize = 8;
 
-/// The value of a name in a list whose names rise strictly in byte order, or `None` where the name is not there.
+/// Returns the value of a name in a list whose names are in strict byte order, or `None` if the
+/// list does not have it.
 ///
-/// It takes no memory. Among more than eight names it searches by halves.
+/// Uses a binary search if the list has more than eight names.
 pub fn find_in_order<'a, V>(entries: &'a [(Text, V)], name: &str) -> Option<&'a V>
     requires { IsStrictlySortedBy (slice_cmp nat_cmp) (keys_of entries.now) }
     ensures { option_map (λ v. v.now) result ≡ value_at name.now entries.now }

@@ -9,7 +9,7 @@ ghost use Rattle.oim_names.specs.Unit.{HasMeasures, IsPure, inside as text_insid
 use crate::names::cut_ascii_ncname;
 use crate::{Namespaces, UnitKind, qname};
 
-/// The text without the one pair of parentheses around it, if it has them.
+/// Returns the text without the pair of parentheses around it, if it has one.
 fn inside(text: &str) -> &str
     ensures { result.now ≡ text_inside text.now }
 {
@@ -22,14 +22,14 @@ fn inside(text: &str) -> &str
     }
 }
 
-/// Whether a text is a QName.
+/// Returns whether a text is a QName.
 fn is_measure(names: &Namespaces, text: &str) -> bool
     ensures { result ≡ is_some (qname_of names.now text.now) }
 {
     qname(names, text).is_some()
 }
 
-/// Whether a prefix is bound, where `known` is one that is.
+/// Returns whether a prefix is bound. `known` is a prefix that is bound, and is compared first.
 fn is_bound(names: &Namespaces, known: Option<&str>, prefix: &str) -> bool
     requires { IfSome known (λ k. is_some (uri_of names.now k.now) ≡ true) }
     ensures { result ≡ is_some (uri_of names.now prefix.now) }
@@ -40,8 +40,10 @@ fn is_bound(names: &Namespaces, known: Option<&str>, prefix: &str) -> bool
     }
 }
 
-/// The prefix of the first QName, and what stands behind that and its `*`, where the QName has only ASCII characters. `known` is a prefix
-/// that is bound.
+/// Splits off the first measure of a product if it is a QName of ASCII characters with a bound
+/// prefix.
+///
+/// Returns its prefix and the text after its `*`, else `None`. `known` is a prefix that is bound.
 fn after_measure<'a>(
     names: &Namespaces,
     known: Option<&str>,
@@ -60,7 +62,7 @@ fn after_measure<'a>(
     Some((prefix, rest))
 }
 
-/// Whether a text is QNames joined by `*`.
+/// Returns whether a text is QNames joined by `*`.
 fn are_measures(names: &Namespaces, text: &str) -> bool
     ensures { result ≡ measures_in names.now text.now }
 {
@@ -75,14 +77,14 @@ fn are_measures(names: &Namespaces, text: &str) -> bool
         .all(|measure| is_measure(names, measure))
 }
 
-/// Whether a text is a side: QNames joined by `*`, bare or in one pair of parentheses.
+/// Returns whether a text is a side: QNames joined by `*`, bare or in one pair of parentheses.
 fn is_side(names: &Namespaces, text: &str) -> bool
     ensures { result ≡ side_in names.now text.now }
 {
     are_measures(names, inside(text))
 }
 
-/// Whether a text is a side, or two sides with `/` between them.
+/// Returns whether a text is a side, or two sides with `/` between them.
 fn is_unit(names: &Namespaces, text: &str) -> bool
     ensures { result ≡ unit_in names.now text.now }
 {
@@ -92,7 +94,7 @@ fn is_unit(names: &Namespaces, text: &str) -> bool
     }
 }
 
-/// Whether a text is the measure of a pure number, bare or in parentheses.
+/// Returns whether a text is the measure of a pure number, bare or in parentheses.
 fn is_pure(names: &Namespaces, text: &str) -> bool
     ensures { result ≡ is_pure_name (qname_of names.now (text_inside text.now)) }
 {
@@ -102,11 +104,11 @@ fn is_pure(names: &Namespaces, text: &str) -> bool
     }
 }
 
-/// The kind of a unit (xBRL-JSON 1.0, unit).
+/// Returns the kind of a unit (xBRL-JSON 1.0, unit).
 ///
-/// A unit is one side, or two sides with `/` between them. A side is one or more QNames joined by `*`, bare or in one pair
-/// of parentheses. The unit is `Pure` where its one measure is `pure` of `http://www.xbrl.org/2003/instance`, and
-/// `Written` otherwise. A text that is not a unit gives `None`. It takes no memory.
+/// A unit is one side, or two sides with `/` between them. A side is one or more QNames joined by
+/// `*`, bare or in one pair of parentheses. The unit is `Pure` if its only measure is `pure` of
+/// `http://www.xbrl.org/2003/instance`, else `Written`. A text that is not a unit gives `None`.
 pub fn unit(names: &Namespaces, text: &str) -> Option<UnitKind>
     ensures grammar { IsSome result ↔ HasMeasures names.now text.now }
     ensures pure { (result ≡ Some UnitKind.Pure) ↔ IsPure names.now text.now }

@@ -25,7 +25,7 @@ months_before y (suc m) =
     let e : day_count (pos y) (suc m + 1) 1 ≡ day_count (pos y) (suc m) 1 + days_in_month y (suc m) = day_count-next_month (pos y) (suc m) (omega arith) in
     omega (arith, rw add-one at e, months_before y m)
 
--- the two counts differ by a constant
+-- The two counts differ by a constant.
 pub day_count-day_number : (y m d : ℕ) → 1 ≤ y → 1 ≤ m → 1 ≤ d → day_count (pos y) m d ≡ 3_652_791 + day_number y m d
 unfolding day_number
 day_count-day_number zero m d hy hm hd = absurd (omega arith)
@@ -35,7 +35,7 @@ day_count-day_number (suc y) (suc m) d hy hm hd =
     let back_month : suc m - 1 ≡ m = omega arith in
     rw (back, back_month) (omega (arith, years_before y, months_before (suc y) m, day_count-day (pos (suc y)) (suc m) d 1 hd (omega arith)))
 
--- the days from -9999-01-01, where `jiff` begins
+-- The days from -9999-01-01, where `jiff` begins.
 pub since_min : (y m d r : ℕ) → 1 ≤ y → 1 ≤ m → 1 ≤ d → days_from_civil (pos y) m d +ℤ pos 4_371_587 ≡ pos r → r ≡ 3_652_425 + day_number y m d
 since_min y m d r hy hm hd e = omega (arith, signed_arith, e, days_from_civil-day_count (pos y) m d, day_count-day_number y m d hy hm hd)
 
@@ -45,7 +45,7 @@ widened16 n h = omega (arith, ints)
 pub widened8 : (n : ℕ) → n < 128 → to_z w8 n ≡ pos n
 widened8 n h = omega (arith, ints)
 
--- the calendar of `jiff` has the same days
+-- The calendar of `jiff` has the same days.
 pub date_exists : (y m d : ℕ) → 1 ≤ y → y ≤ 9999 → m ≤ 99 → d ≤ 99 → (HasDate (to_z w16 y) (to_z w8 m) (to_z w8 d) → IsDate y m d) × (IsDate y m d → HasDate (to_z w16 y) (to_z w8 m) (to_z w8 d))
 date_exists y m d low hy hm hd =
     let ey : to_z w16 y ≡ pos y = widened16 y (omega arith) in
@@ -71,7 +71,7 @@ day_number-bound y m d h =
     let b = day_count_bounds (pos y) m d ((omega (arith, ints), omega (arith, ints)), h.1, h.2) in
     omega (arith, b.1, day_count-day_number y m d (omega arith) (omega arith) (omega arith))
 
--- the date that `jiff` has for a day
+-- The date that `jiff` has for a day.
 pub date_of_is : (year : ℤ) (m d day : ℕ) → IsCivilDate year m d → days_from_civil year m d +ℤ pos 4_371_587 ≡ pos (day + 3_652_425) → IsDateOf day year m d
 date_of_is (negsuc n) m d day r e =
     absurd (omega (arith, signed_arith, e, days_from_civil-day_count (negsuc n) m d, day_count-year_one, day_count-lt_year (negsuc n) m d (pos 1) 1 1 r (omega arith) (omega (arith, signed_arith))))
@@ -92,7 +92,7 @@ date_of_is (pos (suc y)) m d day r e = (
   ),
 )
 
--- a small number that was cast from a signed type
+-- A small number that was cast from a signed type.
 pub cast16 : (z : ℤ) (n : ℕ) → z ≡ pos n → n < 32768 → unsigned_abs (to_z w16 (of_z w16 z)) ≡ n
 cast16 z n e h = rw e (ap unsigned_abs (back_small w16 (pos n) (omega arith)))
 

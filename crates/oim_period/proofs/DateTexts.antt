@@ -1,4 +1,4 @@
--- The reader of dates and the test of dates answer as the table does.
+-- The reader of dates and the test of dates agree with the table.
 use Rattle.std.proofs.Common.{◌≡◌, ℕ, true, Decides, List, Option, Some, None, is_some, refl, bytes_eq}
 use Rattle.std.proofs.lemmas.Bool.Decides.{same_from_decides}
 use Rattle.std.proofs.lemmas.Slice.Eq.{bytes_eq-Decides}
@@ -15,7 +15,7 @@ of_day (date y m d h) = written y m d h
 day_of : {t : List ℕ} → IsDateText t → (n : ℕ) × IsDay t n
 day_of (written y m d h) = (_, date y m d h)
 
--- a reader of days that answers the only one tells whether the text is a date
+-- A reader of days that returns the only one decides whether the text is a date.
 pub day_tells : (t : List ℕ) (o : Option ℕ) → IsOnly (IsDay t) o → Decides (is_some o) (IsDateText t)
 day_tells t None h = (λ e. cc e, λ w. let d = day_of w in absurd (h d.0 d.1))
 day_tells t (Some n) h = (λ e. of_day h.0, λ w. refl)
@@ -36,6 +36,6 @@ date_text_Decides : (t : List ℕ) → Decides (is_date_text t) (IsDateText t)
 unfolding is_date_text
 date_text_Decides t = (written_when t (four_at 0 t) (two_at 5 t) (two_at 8 t), test_of)
 
--- so the reader and the test answer the same
+-- So the reader and the test agree.
 pub day_test : (t : List ℕ) (o : Option ℕ) → IsOnly (IsDay t) o → is_some o ≡ is_date_text t
 day_test t o h = same_from_decides (is_some o) (is_date_text t) (day_tells t o h) (date_text_Decides t)

@@ -1,4 +1,4 @@
--- How moments and times are taken apart, and with which character their texts end.
+-- The parts of moments and times, and the last characters of their texts.
 use Rattle.std.proofs.Common.{◌≡◌, ℕ, ◌+◌, ◌-◌, ◌*◌, ◌<◌, ◌≤◌, ◌⊎◌, inl, inr, List, [], ◌∷◌, ◌++◌, take, drop, refl, sym, ap, ◌∙◌, arith, length, get_or, length-append, append_assoc, codes}
 use Rattle.std.proofs.lemmas.List.{get_or-append_right}
 use Rattle.std.proofs.Math.Seq.{get_or-append_seam, take-append_seam}
@@ -49,7 +49,7 @@ not_moment (days t f a d b) l = (length-days d).1 l
 not_moment (moments t t₂ s e m n o) l =
     let k : length (t ++ codes "/" ++ t₂) ≡ 39 = simp length-append (omega (arith, length-moment m, length-moment n)) in absurd (omega arith)
 
--- the last character
+-- The last character.
 abbrev pub last : List ℕ → ℕ
 last x = get_or x (length x - 1) 0
 
@@ -107,7 +107,7 @@ of_plain (span t s z d) no_start no_end = inr (s, z, d, refl)
 of_plain (at_start t s z d) no_start no_end = absurd (no_start t refl)
 of_plain (at_end t s z d) no_start no_end = absurd (no_end t refl)
 
--- what is written can be read
+-- A written text can be read.
 pub moment_of_written : {x : List ℕ} {k : ℕ} → IsWrittenMoment x k → IsMoment x k
 moment_of_written (written y m d hour minute second r h n s) =
     let b = day_number-bound y m d r in

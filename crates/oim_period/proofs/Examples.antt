@@ -1,5 +1,6 @@
--- Texts of periods and what each means, in the written form. The answers come from the Gregorian calendar and ISO 8601. The years are
--- early ones, because their days are counted fast; `ExamplesLateYears` has the others.
+-- Texts of periods and what each means, in the written form. The results are from the Gregorian
+-- calendar and ISO 8601. The years are early ones, because their days are counted fast;
+-- `ExamplesLateYears` has the others.
 use Rattle.std.proofs.Common.{◌≡◌, ℕ, Bool, true, false, refl, List, [], ◌∷◌, Option, Some, None, is_some, option_map, codes, map}
 use Rattle.std.specs.List.{list_all, list_any}
 use Rattle.oim_period.specs.Calendar.{days_of_years, days_of_months, day_number, is_date, is_week, is_clock, days_in_year, days_in_month}
@@ -9,14 +10,14 @@ use Rattle.oim_period.specs.Periods.{instant, duration, found, first_some, momen
 use Rattle.oim_period.specs.state.Reads.{AreDigits}
 use Rattle.oim_period.specs.Periods.{period_of, start_of, end_of, first_number, year_of, month_of, date_in_year, day_text, moment_text, period_text}
 
--- the written form of what a text means
+-- The written form of the period that a text means.
 unfoldable written : List ℕ → Option (List ℕ)
 written text = option_map period_text (period_of text)
 
 unfoldable means_something : List ℕ → Bool
 means_something text = is_some (period_of text)
 
--- THE CALENDAR: each month, leap years, and the day limit
+-- THE CALENDAR: each month, leap years, and the day limit.
 years : map days_in_year (4 ∷ 5 ∷ 100 ∷ 400 ∷ 2000 ∷ 2100 ∷ []) ≡ 366 ∷ 365 ∷ 365 ∷ 366 ∷ 366 ∷ 365 ∷ []
 years = refl
 
@@ -41,16 +42,17 @@ no_clocks : (is_clock 24 0 1 ≡ false) × (is_clock 24 1 0 ≡ false) × (is_cl
 unfolding is_clock
 no_clocks = (refl, refl, refl, refl, refl)
 
--- THE DIGITS of a year, with zeros in front of a low one
+-- THE DIGITS of a year, with leading zeros in a low one.
 digits_of_years : AreDigits 2007 50 48 48 55 × AreDigits 45 48 48 52 53
 digits_of_years = ((refl, refl, refl, refl), (refl, refl, refl, refl))
 
--- WRITTEN DATES, up to the last day of the year 9999
+-- WRITTEN DATES (ISO 8601), up to the last day of the year 9999.
 written_dates : list_all is_date_text (codes "2024-02-29" ∷ codes "0001-01-01" ∷ codes "9999-12-31" ∷ codes "2000-02-29" ∷ []) ≡ true
 unfolding is_date is_date_text two_at four_at
 written_dates = refl
 
--- days that the calendar does not have, a time zone, too few or too many digits, blanks, other marks, and a form of a period
+-- Days that the calendar does not have, a time zone, too few or too many digits, blanks, other
+-- marks, and a form of a period.
 no_written_dates :
     list_any is_date_text
     ([] ∷ codes "2023-02-29" ∷ codes "1900-02-29" ∷ codes "2024-13-01" ∷ codes "2024-00-01" ∷ codes "2024-04-31" ∷ codes "0000-01-01" ∷ codes "2024-02-29Z"
@@ -60,7 +62,7 @@ no_written_dates :
 unfolding is_date is_date_text two_at four_at
 no_written_dates = refl
 
--- THE SIDES of a duration; an instant has neither
+-- THE SIDES of a duration (xBRL-CSV 1.0). An instant has neither.
 starts : (start_of (duration 1 2) ≡ Some (instant 1)) × (start_of (instant 1) ≡ None)
 unfolding start_of
 starts = (refl, refl)
@@ -69,8 +71,8 @@ ends : (end_of (duration 1 2) ≡ Some (instant 2)) × (end_of (instant 1) ≡ N
 unfolding end_of
 ends = (refl, refl)
 
--- TEXTS AND THEIR PERIODS
--- years, months, quarters and half years, each at its limits
+-- TEXTS AND THEIR PERIODS (xBRL-CSV 1.0, the short forms of periods). Years, months, quarters and
+-- half years, each at its limits.
 years_to_half_years :
     (written (codes "0001") ≡ Some (codes "0001-01-01T00:00:00/0002-01-01T00:00:00"))
     × (written (codes "0005-01") ≡ Some (codes "0005-01-01T00:00:00/0005-02-01T00:00:00"))
@@ -85,7 +87,8 @@ unfolding written days_of_years days_of_months day_number is_date is_week is_clo
     whole_days in_order pair_of duration_of without period_of first_number year_of month_of date_in_year day_text moment_text period_text
 years_to_half_years = (refl, refl, refl, refl, refl, refl, refl, refl, refl)
 
--- weeks: 4 January lies in the first, and a long year has 53; the year 4 begins with a Thursday
+-- Weeks (ISO 8601): 4 January is in the first, and a long year has 53. The year 4 begins with a
+-- Thursday.
 weeks :
     (written (codes "0001W1") ≡ Some (codes "0001-01-01T00:00:00/0001-01-08T00:00:00"))
     × (written (codes "0002W1") ≡ Some (codes "0001-12-31T00:00:00/0002-01-07T00:00:00"))
@@ -102,7 +105,7 @@ unfolding written days_of_years days_of_months day_number is_date is_week is_clo
     whole_days in_order pair_of duration_of without period_of first_number year_of month_of date_in_year day_text moment_text period_text
 weeks = (refl, refl, refl, refl, refl, refl, refl, refl, refl, refl, refl)
 
--- days and ranges of days, of which one day is the shortest
+-- Days and ranges of days. The shortest range is one day.
 days :
     (written (codes "0004-02-29") ≡ Some (codes "0004-02-29T00:00:00/0004-03-01T00:00:00"))
     × (written (codes "0005-12-31") ≡ Some (codes "0005-12-31T00:00:00/0006-01-01T00:00:00"))
@@ -112,7 +115,7 @@ unfolding written days_of_years days_of_months day_number is_date is_week is_clo
     whole_days in_order pair_of duration_of without period_of first_number year_of month_of date_in_year day_text moment_text period_text
 days = (refl, refl, refl, refl)
 
--- moments, and durations between two
+-- Moments, and durations between two.
 moments :
     (written (codes "0001-01-01T00:00:00") ≡ Some (codes "0001-01-01T00:00:00"))
     × (written (codes "0001-01-01T01:00:00") ≡ Some (codes "0001-01-01T01:00:00"))
@@ -125,7 +128,7 @@ unfolding written days_of_years days_of_months day_number is_date is_week is_clo
     whole_days in_order pair_of duration_of without period_of first_number year_of month_of date_in_year day_text moment_text period_text
 moments = (refl, refl, refl, refl, refl, refl, refl)
 
--- the sides of a duration
+-- The sides of a duration.
 sides :
     (written (codes "0005@start") ≡ Some (codes "0005-01-01T00:00:00"))
     × (written (codes "0005-12@end") ≡ Some (codes "0006-01-01T00:00:00"))
@@ -140,7 +143,7 @@ unfolding written days_of_years days_of_months day_number is_date is_week is_clo
     whole_days in_order pair_of duration_of without period_of first_number year_of month_of date_in_year day_text moment_text period_text
 sides = (refl, refl, refl, refl, refl, refl, refl, refl, refl)
 
--- numbers that are too large or too small
+-- Numbers that are too large or too small.
 no_whole_days :
     list_any means_something
     (codes "0000" ∷ codes "0005-00" ∷ codes "0005-13" ∷ codes "0005Q0" ∷ codes "0005Q5" ∷ codes "0005H0" ∷ codes "0005H3" ∷ codes "0005W0" ∷ codes "0005W00"
@@ -150,7 +153,7 @@ unfolding means_something days_of_years days_of_months day_number is_date is_wee
     days_of whole_days in_order pair_of duration_of without period_of
 no_whole_days = refl
 
--- ranges and pairs in the wrong order, and times that clocks do not show
+-- Ranges and pairs in the wrong order, and times that clocks do not show.
 no_ranges_and_moments :
     list_any means_something
     (codes "0005-06-30..0005-06-29" ∷ codes "0003-02-29..0003-03-01" ∷ codes "0003-02-28..0003-02-29" ∷ codes "0005-12-31T23:59:60" ∷ codes "0005-12-31T23:60:00"
@@ -161,7 +164,7 @@ unfolding means_something days_of_years days_of_months day_number is_date is_wee
     days_of whole_days in_order pair_of duration_of without period_of
 no_ranges_and_moments = refl
 
--- a side of an instant, of a side or of nothing
+-- A side of an instant, of a side or of nothing.
 no_sides :
     list_any means_something
     (codes "0005-12-31T00:00:00@end" ∷ codes "0005-12-31T00:00:00@start" ∷ codes "0005@start@end" ∷ codes "@start" ∷ codes "@end" ∷ codes "0005@"
@@ -171,7 +174,7 @@ unfolding means_something days_of_years days_of_months day_number is_date is_wee
     days_of whole_days in_order pair_of duration_of without period_of
 no_sides = refl
 
--- other forms: small letters, blanks, too few or too many digits, other marks
+-- Other forms: small letters, blanks, too few or too many digits, other marks.
 no_forms :
     list_any means_something
     ([] ∷ codes "5" ∷ codes "005" ∷ codes "00005" ∷ codes "0005-1" ∷ codes "0005-1-1" ∷ codes "0005Q" ∷ codes "0005Q01" ∷ codes "0005q1" ∷ codes "0005h1"

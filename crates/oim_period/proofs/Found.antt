@@ -1,4 +1,4 @@
--- What `found` and `first_some` tell, and what the tests of the calendar decide.
+-- The values of `found` and `first_some`, and what the tests of the calendar decide.
 use Rattle.std.proofs.Common.{◌≡◌, ℕ, ◌+◌, ◌/◌, ◌%◌, ◌≤◌, Bool, true, false, ◌&&◌, Decides, bytes_eq, nat_le, nat_lt, if◌then◌else◌, List, [], ◌∷◌, Option, Some, None, IfSome, refl, ap, arith, get_or}
 use Rattle.std.specs.Int.{IsInRange, is_in_range}
 use Rattle.std.proofs.lemmas.Bool.Decides.{nat_tests, Decides-ltb, Decides-and}
@@ -46,24 +46,24 @@ pub first_later : {A : Type 0} (o : Option A) (os : List (Option A)) (r : Option
 unfolding first_some
 first_later o os r e f = rw e f
 
--- the first form is the text's, or it is not
+-- The text has the first form, or it does not.
 pub hit : {A : Type 0} (t w : List ℕ) (v : Bool) (x : A) (os : List (Option A)) → t ≡ w → v ≡ true → first_some (found t w v x ∷ os) ≡ Some x
 hit t w v x os e f = first_here _ os x (found_is t w v x e f)
 
 pub skip : {A : Type 0} (t w : List ℕ) (v : Bool) (x : A) (os : List (Option A)) (r : Option A) → (t ≡ w → ⊥) → first_some os ≡ r → first_some (found t w v x ∷ os) ≡ r
 skip t w v x os r n f = first_later _ os r (found_not t w v x n) f
 
--- an answer that is sound and complete is the only one
+-- A sound and complete answer is the only one.
 pub only_from : {A : Type 0} (P : A → Type 0) (o : Option A) → IfSome o P → ((x : A) → P x → o ≡ Some x) → IsOnly P o
 only_from P None h k = λ x p. let e = k x p in absurd (cc)
 only_from P (Some y) h k = (h, λ x p. let e = k x p in cc)
 
--- where the relation has nothing, nothing is answered
+-- If the relation has no value, the answer is `None`.
 pub none_from : {A : Type 0} (P : A → Type 0) (o : Option A) → IfSome o P → ((x : A) → P x → ⊥) → o ≡ None
 none_from P None h k = refl
 none_from P (Some x) h k = absurd (k x h)
 
--- two answers of one relation are the same
+-- Two answers of one relation are the same.
 pub same_only : {A : Type 0} (P : A → Type 0) (o p : Option A) → IsOnly P o → IsOnly P p → o ≡ p
 same_only P None None h k = refl
 same_only P None (Some y) h k = absurd (h y k.0)

@@ -9,7 +9,7 @@ use Rattle.oim_period.specs.Reads.{IsOnly}
 use Rattle.oim_period.proofs.Found.{found_tells, first_tells, none_tells, hit, skip, only_from, one_back, two_back, four_back, le_decides, range_decides, year_decides}
 use Rattle.oim_period.proofs.Found.{both, both_yes, date_decides, week_decides}
 
--- the days of a text, as a pair
+-- The days of a text, as a pair.
 abbrev pub Named : List ℕ → ℕ × ℕ → Type 0
 Named t e = IsDays t e.0 e.1
 
@@ -68,12 +68,12 @@ days_by_tells t y n m d y₂ m₂ d₂ =
     (first_tells (Named t) _ _ (found_tells (Named t) t _ _ _ (of_range t y m d y₂ m₂ d₂))
     (none_tells (Named t)))))))))
 
--- what is found is so
+-- A value that is found is in the table.
 pub days_tell : (t : List ℕ) → IfSome (days_of t) (Named t)
 unfolding days_of
 days_tell t = days_by_tells t (four_at 0 t) (one_at 5 t) (two_at 5 t) (two_at 8 t) (four_at 12 t) (two_at 17 t) (two_at 20 t)
 
--- what two equal texts have in common
+-- Properties that two equal texts share.
 clash : {s t : List ℕ} → s ≡ t → (length s ≡ length t) × (get_or s 4 0 ≡ get_or t 4 0)
 clash e = (ap length e, ap (λ s. get_or s 4 0) e)
 
@@ -152,7 +152,7 @@ by_range n y₂ m₂ d₂ y m d h k o =
     (skip t _ _ _ _ _ (λ e. absurd (omega (arith, clash e)))
     (hit t _ _ _ _ refl (both_yes _ _ (both_yes _ _ ((date_decides y m d).1 h) ((date_decides y₂ m₂ d₂).1 k)) ((le_decides (day_number y m d) (day_number y₂ m₂ d₂)).1 o)))))))))
 
--- whatever the table gives is found
+-- Each value of the table is found.
 pub days_found : {t : List ℕ} {f a : ℕ} → IsDays t f a → days_of t ≡ Some (f, a)
 unfolding days_of
 days_found (in_year y tail f a r (year z)) =
@@ -181,6 +181,6 @@ days_found (range t t₂ f l (date y m d h) (date y₂ m₂ d₂ k) o) =
     rw (four_back t 0 y refl refl refl refl, two_back t 5 m refl refl, two_back t 8 d refl refl, four_back t 12 y₂ refl refl refl refl, two_back t 17 m₂ refl refl, two_back t 20 d₂ refl refl)
     (by_range _ _ _ _ y m d h k o)
 
--- `days_of` has exactly the days of the table
+-- `days_of` has exactly the days of the table.
 pub days_exact : (t : List ℕ) → IsOnly (Named t) (days_of t)
 days_exact t = only_from (Named t) (days_of t) (days_tell t) (λ e h. days_found h)

@@ -1,4 +1,4 @@
--- `moment_of` and `duration_of` have exactly what the table gives.
+-- `moment_of` and `duration_of` have exactly the values of the table.
 use Rattle.std.proofs.Common.{◌≡◌, ℕ, ◌+◌, ◌*◌, ◌<◌, Bool, true, false, ◌&&◌, nat_lt, cond, List, ◌++◌, codes, take, drop, Option, Some, None, IfSome, option_and_then, refl, arith, length-append}
 use Rattle.std.proofs.lemmas.Bool.Decides.{Decides-ltb}
 use Rattle.oim_period.specs.Calendar.{IsDate, is_date, IsClock, is_clock, day_number, day_limit, midnight, seconds_at}
@@ -43,7 +43,7 @@ moment_found (date_time t t₂ n s (date y m d h) (clock hour minute second k) b
     rw (four_back t 0 y refl refl refl refl, two_back t 5 m refl refl, two_back t 8 d refl refl, two_back t 11 hour refl refl, two_back t 14 minute refl refl, two_back t 17 second refl refl)
     (by_moment y m d hour minute second h k b)
 
--- the ends of a duration, as a pair
+-- The ends of a duration, as a pair.
 abbrev pub Lasts : List ℕ → ℕ × ℕ → Type 0
 Lasts t e = IsDuration t e.0 e.1
 

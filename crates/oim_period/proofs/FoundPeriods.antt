@@ -1,4 +1,4 @@
--- `period_of` has exactly the period that the table gives.
+-- `period_of` has exactly the period of the table.
 use Rattle.std.proofs.Common.{◌≡◌, ℕ, ◌-◌, true, List, ◌++◌, codes, take, Option, Some, None, IfSome, option_map, option_and_then, refl, ap, arith, length, length-append}
 use Rattle.std.proofs.Math.Seq.{take-append_seam}
 use Rattle.oim_period.specs.Periods.{Reading, instant, duration, found, moment_of, duration_of, without, period_of}
@@ -12,7 +12,7 @@ map_tells : {A B : Type 0} (P : A → Type 0) (Q : B → Type 0) (f : A → B) (
 map_tells P Q f None k h = tt
 map_tells P Q f (Some x) k h = k x h
 
--- a text with a mark at its end names what its front names
+-- A text with a mark at its end names a side of what the text before the mark names.
 pub IsMarked : List ℕ → List ℕ → ℕ × ℕ → Type 0
 IsMarked mark t e = (w : List ℕ) × (t ≡ w ++ mark) × Lasts w e
 
@@ -36,7 +36,7 @@ side_found mark w a b d =
     let q : found (w ++ mark) (w ++ mark) true w ≡ Some w = found_is _ _ _ _ refl refl in
     rw (n, take-append_seam w mark, q) (duration_found d)
 
--- what has no such mark
+-- A text without such a mark.
 side_none : (mark t : List ℕ) → ((w : List ℕ) → t ≡ w ++ mark → ⊥) → option_and_then duration_of (without mark t) ≡ None
 unfolding without
 side_none mark t n =
@@ -90,6 +90,6 @@ period_found (at_end w s z d) =
     (first_later _ _ _ (rw n refl)
     (first_here _ _ _ (rw e refl))))
 
--- `period_of` has exactly the period of the table
+-- `period_of` has exactly the period of the table.
 pub period_of_exact : (t : List ℕ) → IsOnly (Means t) (period_of t)
 period_of_exact t = only_from (Means t) (period_of t) (period_tells t) (λ r h. period_found h)

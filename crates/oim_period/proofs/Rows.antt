@@ -1,10 +1,10 @@
--- What a row of the table says of a text that is written out.
+-- The meaning of a row of the table for a text that is written out.
 use Rattle.std.proofs.Common.{◌≡◌, ℕ, ◌+◌, ◌-◌, ◌*◌, ◌/◌, ◌%◌, ◌≤◌, List, [], ◌∷◌, refl, ap, arith, length, get_or}
 use Rattle.std.specs.Int.{IsInRange}
 use Rattle.oim_period.specs.Calendar.{day_number, week_start, IsWeek, IsDate, month_start}
 use Rattle.oim_period.specs.Table.{InYear, year, month, quarter, half, week_of_one_digit, week, day}
 
--- what two equal texts have in common
+-- Properties that two equal texts share.
 clash : {s t : List ℕ} → s ≡ t → (length s ≡ length t) × (get_or s 0 0 ≡ get_or t 0 0)
 clash e = (ap length e, ap (λ s. get_or s 0 0) e)
 

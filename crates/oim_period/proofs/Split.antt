@@ -20,7 +20,7 @@ joined_two x n a b h e f =
     let d₂ : drop (n + 1) x ≡ b ∷ drop (n + 2) x = rw (← m, ← f) (drop-cons x (n + 1) 0 h) in
     sym (append_assoc (take n x) (a ∷ b ∷ []) (drop (n + 2) x) ∙ ap (λ r. take n x ++ r) (ap (λ r. a ∷ r) (sym d₂) ∙ sym d) ∙ take-append-drop n x)
 
--- what a range to the end of a slice holds
+-- The items of a range to the end of a slice.
 pub rest_is : (x : List ℕ) (n : ℕ) → take (length x - n) (drop n x) ≡ drop n x
 rest_is x n = take_all (length x - n) (drop n x) (rw (length-drop n x) (omega arith))
 

@@ -31,7 +31,7 @@ pub fourth_of_january : (y : ℕ) → day_number y 1 4 ≡ day_number y 1 1 + 3
 unfolding day_number
 fourth_of_january y = omega arith
 
--- the Monday of week 1, by both counts
+-- The Monday of week 1, by both counts.
 pub year_start : (y : ℕ) → 1 ≤ y → y ≤ 10000 → up (iso_year_start (pos y)) + 719_162 ≡ down (iso_year_start (pos y)) + monday_of (day_number y 1 4)
 year_start y low high =
     let e = iso_year_start-day_count (pos y) (omega (arith, ints), omega (arith, ints)) in
@@ -48,7 +48,7 @@ new_year_bound y low high =
       day_count-day_number (y + 1) 1 1 (omega arith) (omega arith) (omega arith),
     )
 
--- the ISO year has a week exactly where the week's Thursday lies in the year
+-- The ISO year has a week exactly if the week's Thursday is in the year.
 pub week_exists : (y n : ℕ) → 1 ≤ y → y ≤ 9999 → n ≤ 99 → (IsIsoWeekDate (to_z w16 y) (to_z w8 n) Monday → IsWeek y n) × (IsWeek y n → IsIsoWeekDate (to_z w16 y) (to_z w8 n) Monday)
 unfolding days_from_iso
 week_exists y n low high hn =

@@ -1,4 +1,4 @@
--- How a text of days is taken apart.
+-- The parts of a text of days.
 use Rattle.std.proofs.Common.{◌≡◌, ℕ, ◌+◌, ◌≤◌, List, [], ◌∷◌, ◌++◌, take, drop, refl, arith, length, get_or, length-append, codes}
 use Rattle.oim_period.specs.Calendar.{IsYear}
 use Rattle.oim_period.specs.Digits.{four}

@@ -1,4 +1,4 @@
--- What a written date or time says, and how its parts lie in a text.
+-- The numbers of a written date or time, and the places of its parts in a text.
 use Rattle.std.proofs.Common.{◌≡◌, ℕ, ◌+◌, ◌*◌, ◌/◌, ◌%◌, List, [], ◌∷◌, refl, length}
 use Rattle.oim_period.specs.Calendar.{day_number, IsDate, IsClock}
 use Rattle.oim_period.specs.Digits.{digit}

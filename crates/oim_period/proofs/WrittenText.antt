@@ -103,13 +103,13 @@ moment_text_is (written y m d hour minute second r h n s) =
     let j : rest % 60 ≡ second = omega arith in
     rw (e, f, g, i, j, day_is y m d r) refl
 
--- the written form of a period is its text
+-- The written form of a period is its text.
 pub period_text_is : {t : List ℕ} {r : Reading} → IsWritten t r → period_text r ≡ t
 unfolding period_text
 period_text_is (one_moment t k h) = moment_text_is h
 period_text_is (two_moments t u s e h k) = rw (moment_text_is h, moment_text_is k) refl
 
--- each day of the calendar has a date
+-- Each day of the calendar has a date.
 in_years : (n day : ℕ) → day < days_of_years n → (y : ℕ) × (1 ≤ y) × (y ≤ n) × (days_of_years (y - 1) ≤ day) × (day < days_of_years y)
 unfolding days_of_years
 in_years zero day h = absurd (omega arith)
@@ -166,23 +166,23 @@ moment_text_written k h =
     let v = rw same at w in
     rw (moment_text_is v) v
 
--- the moments of a period lie in the years that a text may name
+-- The moments of a period are in the years that a text may name.
 abbrev pub IsInTime : Reading → Type 0
 IsInTime (instant at) = at < midnight day_limit
 IsInTime (duration start end) = (start < midnight day_limit) × (end < midnight day_limit)
 
--- a duration starts before it ends
+-- A duration starts before it ends.
 abbrev pub IsForward : Reading → Type 0
 IsForward (instant at) = Unit
 IsForward (duration start end) = start < end
 
--- the text of a period is its written form
+-- The text of a period is its written form.
 pub period_text_written : (r : Reading) → IsInTime r → IsWritten (period_text r) r
 unfolding period_text
 period_text_written (instant k) h = one_moment _ k (moment_text_written k h)
 period_text_written (duration s e) h = two_moments _ _ s e (moment_text_written s h.0) (moment_text_written e h.1)
 
--- and it means the period
+-- The text of a period means the period.
 pub period_text_means : (r : Reading) → IsInTime r → IsForward r → period_of (period_text r) ≡ Some r
 unfolding period_text
 period_text_means (instant k) h o = period_found (moment _ k (moment_of_written (moment_text_written k h)))

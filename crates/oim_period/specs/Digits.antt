@@ -1,7 +1,8 @@
--- Numbers, dates and times in a fixed number of decimal digits (ISO 8601, extended format), and the numbers that stand at places of a text.
+-- Numbers, dates and times in a fixed count of decimal digits (ISO 8601, extended format), and the
+-- numbers at given places of a text.
 use Rattle.std.specs.Prelude.{ℕ, ◌+◌, ◌-◌, ◌*◌, ◌/◌, ◌%◌, List, [], ◌∷◌, ◌++◌, codes, get_or}
 
--- the character of a digit
+-- The character of a digit.
 abbrev pub digit : ℕ → ℕ
 digit n = 48 + n
 
@@ -14,15 +15,15 @@ two n = digit (n / 10) ∷ digit (n % 10) ∷ []
 abbrev pub four : ℕ → List ℕ
 four n = two (n / 100) ++ two (n % 100)
 
--- a written date: `yyyy-mm-dd`
+-- A written date: `yyyy-mm-dd`.
 abbrev pub date_text : ℕ → ℕ → ℕ → List ℕ
 date_text y m d = four y ++ codes "-" ++ two m ++ codes "-" ++ two d
 
--- a written time: `hh:mm:ss`
+-- A written time: `hh:mm:ss`.
 abbrev pub clock_text : ℕ → ℕ → ℕ → List ℕ
 clock_text hour minute second = two hour ++ codes ":" ++ two minute ++ codes ":" ++ two second
 
--- the number of one, two or four digits that begins at a place in a text
+-- The number of one, two or four digits that begins at a place in a text.
 unfoldable pub one_at : ℕ → List ℕ → ℕ
 one_at n text = get_or text n 0 - 48
 

@@ -10,10 +10,10 @@ use jiff::civil::{Date, ISOWeekDate, Weekday};
 /// The days from -9999-01-01, where `jiff` begins to count, to 0001-01-01.
 const BEFORE_YEAR_ONE: u32 = 3_652_425;
 
-/// The number of days in the years 1 to 9999.
+/// The count of days in the years 1 to 9999.
 pub const DAY_LIMIT: u32 = 3_652_059;
 
-/// The number of a date's day. `None` where the calendar does not have the date.
+/// Returns the number of a date's day, or `None` if the calendar does not have the date.
 pub fn day_number(year: u16, month: u8, day: u8) -> Option<u32>
     requires year_in { IsYear year }
     requires month_in { month ≤ 99 }
@@ -28,9 +28,9 @@ pub fn day_number(year: u16, month: u8, day: u8) -> Option<u32>
     Some(date.to_plain().days_since_min() - BEFORE_YEAR_ONE)
 }
 
-/// The number of a month's first day, where month 13 is the next January.
+/// Returns the number of a month's first day. Month 13 is the next January.
 ///
-/// `None` where that day is not in the years 1 to 9999.
+/// Returns `None` if that day is not in the years 1 to 9999.
 pub fn month_start(year: u16, month: u8) -> Option<u32>
     requires year_in { IsYear year }
     requires month_in { IsInRange 1 13 month }
@@ -46,7 +46,8 @@ pub fn month_start(year: u16, month: u8) -> Option<u32>
     }
 }
 
-/// The number of the Monday of a week of the ISO year. `None` where the year does not have the week.
+/// Returns the number of the Monday of a week of the ISO year, or `None` if the year does not have
+/// the week.
 pub fn week_start(year: u16, week: u8) -> Option<u32>
     requires year_in { IsYear year }
     requires week_in { week ≤ 99 }
@@ -61,7 +62,7 @@ pub fn week_start(year: u16, week: u8) -> Option<u32>
     Some(date.to_plain().days_since_min() - BEFORE_YEAR_ONE)
 }
 
-/// The date of a day.
+/// Returns the date of a day.
 pub fn date_of(day: u32) -> Date
     requires { day < day_limit }
     ensures { IsDateOf day result.year result.month result.day }

@@ -1,9 +1,9 @@
-//! Whole days in a row.
+//! Consecutive whole days.
 
 ghost use Rattle.std.specs.Prelude.{◌<◌};
 ghost use Rattle.oim_period.specs.Calendar.{day_limit};
 
-/// The days from `first` up to the one before `after`, numbered from 0001-01-01 as day 0.
+/// The days from `first` to `after`, without `after`. 0001-01-01 is day 0.
 #[derive(Clone, Copy, Debug, PartialEq, Eq)]
 pub struct Days {
     pub first: u32,

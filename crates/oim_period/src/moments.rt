@@ -10,7 +10,7 @@ use crate::calendar::DAY_LIMIT;
 use crate::parts;
 use crate::period::{Moment, Span};
 
-/// The midnight with which a day begins.
+/// Returns the midnight at which a day begins.
 fn midnight(day: u32) -> Moment
     requires { day < day_limit }
     ensures { seconds_of result ≡ midnight_of day }
@@ -18,14 +18,14 @@ fn midnight(day: u32) -> Moment
     Moment { day, second: 0 }
 }
 
-/// The seconds from the begin of the first day to the moment.
+/// Returns the seconds from the start of the first day to the moment.
 fn seconds(moment: Moment) -> u64
     ensures { result ≡ seconds_of moment }
 {
     86_400 * moment.day as u64 + moment.second as u64
 }
 
-/// The moment that a text of a date and a time names. `None` for any other text.
+/// Returns the moment that a date and a time name, or `None` for any other text.
 pub fn moment(text: &[u8]) -> Option<Moment>
     ensures { IsOnly (IsMoment text.now) (option_map seconds_of result) }
 {
@@ -43,7 +43,8 @@ pub fn moment(text: &[u8]) -> Option<Moment>
     }
 }
 
-/// The duration between two written moments. `None` where the first is not before the second.
+/// Returns the duration between two written moments, or `None` if the first is not before the
+/// second.
 fn between(text: &[u8]) -> Option<Span>
     requires { length text.now ≡ 39 }
     ensures { IsOnly (λ e. IsDuration text.now e.0 e.1) (option_map ends_of result) }
@@ -60,7 +61,7 @@ fn between(text: &[u8]) -> Option<Span>
     }
 }
 
-/// The duration that a text names. `None` where it names none.
+/// Returns the duration that a text names, or `None` if it names none.
 pub fn duration(text: &[u8]) -> Option<Span>
     ensures { IsOnly (λ e. IsDuration text.now e.0 e.1) (option_map ends_of result) }
 {

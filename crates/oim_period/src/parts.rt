@@ -10,7 +10,7 @@ use crate::calendar;
 use crate::days::Days;
 use crate::short_form::{self, two_digits};
 
-/// The year from 1 to 9999 that four digits write. `None` for any other bytes.
+/// Returns the year from 1 to 9999 that four digits write, or `None` for any other bytes.
 fn year(thousands: u8, hundreds: u8, tens: u8, units: u8) -> Option<u16>
     ensures exact { (n : ℕ) → (result ≡ Some n) ↔ (IsYear n × AreDigits n thousands hundreds tens units) }
     ensures bound { IfSome result IsYear }
@@ -23,7 +23,7 @@ fn year(thousands: u8, hundreds: u8, tens: u8, units: u8) -> Option<u16>
     Some(number)
 }
 
-/// The number of the day that a written date names. `None` for any other text.
+/// Returns the number of the day that a written date names, or `None` for any other text.
 pub fn date(text: &[u8]) -> Option<u32>
     ensures exact { IsOnly (IsDay text.now) result }
     ensures bound { IfSome result (λ n. n < day_limit) }
@@ -39,7 +39,8 @@ pub fn date(text: &[u8]) -> Option<u32>
     }
 }
 
-/// The second of the day that a written time names, where 86,400 is the next midnight. `None` for any other text.
+/// Returns the second of the day that a written time names, or `None` for any other text. 86,400 is
+/// the next midnight.
 pub fn time(text: &[u8]) -> Option<u32>
     ensures exact { IsOnly (IsTime text.now) result }
     ensures bound { IfSome result (λ n. n ≤ 86_400) }
@@ -55,7 +56,8 @@ pub fn time(text: &[u8]) -> Option<u32>
     }
 }
 
-/// The second of the day, where 24:00:00 is the next midnight. `None` where clocks do not show these numbers.
+/// Returns the second of the day, or `None` if a clock does not show these numbers. 24:00:00 is the
+/// next midnight.
 fn second_of_day(hour: u8, minute: u8, second: u8) -> Option<u32>
     ensures exists { IsSome result ↔ IsClock hour minute second }
     ensures value { IfSome result (λ n. n ≡ 3600 * hour + 60 * minute + second) }
@@ -70,7 +72,7 @@ fn second_of_day(hour: u8, minute: u8, second: u8) -> Option<u32>
     }
 }
 
-/// The days that a text names. `None` where it names none.
+/// Returns the days that a text names, or `None` if it names none.
 pub fn days(text: &[u8]) -> Option<Days>
     ensures { IsRead (IsDays text.now) result }
 {
@@ -86,7 +88,7 @@ pub fn days(text: &[u8]) -> Option<Days>
     }
 }
 
-/// The days from one written date to another. `None` where the second is before the first.
+/// Returns the days from one written date to another, or `None` if the second is before the first.
 fn range(text: &[u8]) -> Option<Days>
     requires { length text.now ≡ 22 }
     ensures { IsRead (IsDays text.now) result }

@@ -1,4 +1,4 @@
-//! How a period is read from a text.
+//! Reading a period from a text.
 
 ghost use Rattle.std.specs.Prelude.{◌≡◌, option_map};
 ghost use Rattle.oim_period.specs.Periods.{period_of};
@@ -8,11 +8,13 @@ ghost use Rattle.oim_period.specs.Table.{Means};
 use crate::moments;
 use crate::period::Period;
 
-/// The period that a text means, in any of its ten forms (xBRL-CSV 1.0, the short forms of periods).
+/// Reads the period that a text means, in any of its ten forms (xBRL-CSV 1.0, the short forms of
+/// periods).
 ///
-/// A duration of whole days starts at the midnight with which its first day begins, and ends at the midnight after its last day.
-/// `24:00:00` is the next midnight. Letters are capitals, and spaces around the text are not allowed. `None` where the text does
-/// not mean a period, as where it names a moment after 9999-12-31T23:59:59. It takes no memory.
+/// A duration of whole days starts at the midnight before its first day, and ends at the midnight
+/// after its last day. `24:00:00` is the next midnight. Letters are capitals, and spaces around the
+/// text are not allowed. Returns `None` if the text does not mean a period, or if a moment would be
+/// after 9999-12-31T23:59:59.
 pub fn read(text: &str) -> Option<Period>
     ensures exact { IsOnly (Means text.now) (option_map reading_of result) }
     ensures value { option_map reading_of result ≡ period_of text.now }

@@ -1,4 +1,4 @@
-//! The short forms of periods: what a text says behind its year.
+//! The short forms of periods: the text after the year.
 
 ghost use Rattle.std.specs.Prelude.{◌≡◌, ℕ, ◌↔◌, ◌+◌, ◌/◌, ◌%◌, ◌<◌, ◌≤◌, [], ◌∷◌, ◌++◌, codes, Some, IsSome, IfSome};
 ghost use Rattle.std.specs.Int.{IsInRange};
@@ -10,7 +10,7 @@ ghost use Rattle.oim_period.specs.state.Reads.{IsRead};
 use crate::calendar;
 use crate::days::Days;
 
-/// The number from 1 to `most` that a digit writes. `None` for any other byte.
+/// Returns the number from 1 to `most` that a digit writes, or `None` for any other byte.
 fn one_digit(byte: u8, most: u8) -> Option<u8>
     requires { most ≤ 9 }
     ensures exact { (n : ℕ) → (result ≡ Some n) ↔ (IsInRange 1 most n × (byte ≡ digit n)) }
@@ -22,7 +22,7 @@ fn one_digit(byte: u8, most: u8) -> Option<u8>
     }
 }
 
-/// The number from 0 to 99 that two digits write. `None` for any other bytes.
+/// Returns the number from 0 to 99 that two digits write, or `None` for any other bytes.
 pub fn two_digits(tens: u8, units: u8) -> Option<u8>
     ensures exact { (n : ℕ) → (result ≡ Some n) ↔ ((n ≤ 99) × (tens ≡ digit (n / 10)) × (units ≡ digit (n % 10))) }
     ensures bound { IfSome result (λ n. n ≤ 99) }
@@ -34,9 +34,9 @@ pub fn two_digits(tens: u8, units: u8) -> Option<u8>
     }
 }
 
-/// The days of the months from `from` up to the one before `to`, where month 13 is the next January.
+/// Returns the days of the months from `from` to `to`, without `to`. Month 13 is the next January.
 ///
-/// `None` where the day after them is not in the years 1 to 9999.
+/// Returns `None` if the day after them is not in the years 1 to 9999.
 fn months(year: u16, from: u8, to: u8) -> Option<Days>
     requires year_in { IsYear year }
     requires from_in { 1 ≤ from }
@@ -50,7 +50,7 @@ fn months(year: u16, from: u8, to: u8) -> Option<Days>
     Some(Days { first, after })
 }
 
-/// The days of the month that two digits name.
+/// Returns the days of the month that two digits name.
 fn month(year: u16, tens: u8, units: u8) -> Option<Days>
     requires { IsYear year }
     ensures { IsRead (InYear year (codes "-" ++ tens ∷ units ∷ [])) result }
@@ -62,7 +62,7 @@ fn month(year: u16, tens: u8, units: u8) -> Option<Days>
     months(year, month, month + 1)
 }
 
-/// The days of the quarter that a digit names.
+/// Returns the days of the quarter that a digit names.
 fn quarter(year: u16, byte: u8) -> Option<Days>
     requires { IsYear year }
     ensures { IsRead (InYear year (codes "Q" ++ byte ∷ [])) result }
@@ -71,7 +71,7 @@ fn quarter(year: u16, byte: u8) -> Option<Days>
     months(year, 3 * quarter - 2, 3 * quarter + 1)
 }
 
-/// The days of the half year that a digit names.
+/// Returns the days of the half year that a digit names.
 fn half(year: u16, byte: u8) -> Option<Days>
     requires { IsYear year }
     ensures { IsRead (InYear year (codes "H" ++ byte ∷ [])) result }
@@ -80,7 +80,7 @@ fn half(year: u16, byte: u8) -> Option<Days>
     months(year, 6 * half - 5, 6 * half + 1)
 }
 
-/// The days of a week of the ISO year.
+/// Returns the days of a week of the ISO year.
 fn week(year: u16, week: u8) -> Option<Days>
     requires year_in { IsYear year }
     requires week_in { week ≤ 99 }
@@ -91,7 +91,7 @@ fn week(year: u16, week: u8) -> Option<Days>
     days_from(first, first + 7)
 }
 
-/// One day of the calendar.
+/// Returns one day of the calendar.
 fn day(year: u16, month: u8, day: u8) -> Option<Days>
     requires year_in { IsYear year }
     requires month_in { month ≤ 99 }
@@ -103,7 +103,8 @@ fn day(year: u16, month: u8, day: u8) -> Option<Days>
     days_from(first, first + 1)
 }
 
-/// The days from `first` up to the one before `after`. `None` where the day `after` is not in the years 1 to 9999.
+/// Returns the days from `first` to `after`, without `after`, or `None` if `after` is not in the
+/// years 1 to 9999.
 fn days_from(first: u32, after: u32) -> Option<Days>
     requires { first < after }
     ensures exists { IsSome result ↔ (after < day_limit) }
@@ -116,7 +117,7 @@ fn days_from(first: u32, after: u32) -> Option<Days>
     }
 }
 
-/// The days of the week that a digit names.
+/// Returns the days of the week that a digit names.
 fn week_of_one_digit(year: u16, byte: u8) -> Option<Days>
     requires { IsYear year }
     ensures { IsRead (InYear year (codes "W" ++ byte ∷ [])) result }
@@ -125,7 +126,7 @@ fn week_of_one_digit(year: u16, byte: u8) -> Option<Days>
     week(year, number)
 }
 
-/// The days of the week that two digits name.
+/// Returns the days of the week that two digits name.
 fn week_of_two_digits(year: u16, tens: u8, units: u8) -> Option<Days>
     requires { IsYear year }
     ensures { IsRead (InYear year (codes "W" ++ tens ∷ units ∷ [])) result }
@@ -134,7 +135,7 @@ fn week_of_two_digits(year: u16, tens: u8, units: u8) -> Option<Days>
     week(year, number)
 }
 
-/// The day that two digits of a month and two digits of a day name.
+/// Returns the day that two digits of a month and two digits of a day name.
 fn month_and_day(
     year: u16,
     month_tens: u8,
@@ -150,7 +151,7 @@ fn month_and_day(
     day(year, month, number)
 }
 
-/// The days that a year and the text behind it name. `None` where they name none.
+/// Returns the days that a year and the text after it name, or `None` if they name none.
 pub fn in_year(year: u16, tail: &[u8]) -> Option<Days>
     requires { IsYear year }
     ensures { IsRead (InYear year tail.now) result }

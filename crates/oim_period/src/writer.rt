@@ -10,10 +10,10 @@ use crate::calendar;
 use crate::period::{Moment, Period};
 use std::alloc::{AllocError, Global};
 
-/// The number of bytes in the written form of a duration.
+/// The length in bytes of a duration's written form.
 const LONGEST: usize = 39;
 
-/// Adds the two digits of a number from 0 to 99.
+/// Appends the two digits of a number from 0 to 99.
 fn push_two(text: &mut String, number: u32) -> Result<(), AllocError>
     requires { number ≤ 99 }
     ensures { OnOk result (string_bytes text.new ≡ string_bytes text.old ++ two number) }
@@ -22,7 +22,7 @@ fn push_two(text: &mut String, number: u32) -> Result<(), AllocError>
     text.push((b'0' + (number % 10) as u8) as char)
 }
 
-/// Adds an ASCII character.
+/// Appends an ASCII character.
 fn push_mark(text: &mut String, mark: char) -> Result<(), AllocError>
     requires { mark < 128 }
     ensures { OnOk result (string_bytes text.new ≡ string_bytes text.old ++ mark ∷ []) }
@@ -30,7 +30,7 @@ fn push_mark(text: &mut String, mark: char) -> Result<(), AllocError>
     text.push(mark)
 }
 
-/// Adds `yyyy-mm-dd`.
+/// Appends `yyyy-mm-dd`.
 fn push_date(text: &mut String, year: u32, month: u32, day: u32) -> Result<(), AllocError>
     requires year_in { year ≤ 9999 }
     requires month_in { month ≤ 99 }
@@ -45,7 +45,7 @@ fn push_date(text: &mut String, year: u32, month: u32, day: u32) -> Result<(), A
     push_two(text, day)
 }
 
-/// Adds `hh:mm:ss`.
+/// Appends `hh:mm:ss`.
 fn push_clock(text: &mut String, hour: u32, minute: u32, second: u32) -> Result<(), AllocError>
     requires hour_in { hour ≤ 99 }
     requires minute_in { minute ≤ 99 }
@@ -59,7 +59,7 @@ fn push_clock(text: &mut String, hour: u32, minute: u32, second: u32) -> Result<
     push_two(text, second)
 }
 
-/// Adds the written form of a moment.
+/// Appends the written form of a moment.
 fn push_moment(text: &mut String, moment: Moment) -> Result<(), AllocError>
     ensures { OnOk result ((written : List ℕ) × (string_bytes text.new ≡ string_bytes text.old ++ written) × IsWrittenMoment written (seconds_of moment)) }
 {
@@ -80,10 +80,11 @@ fn push_moment(text: &mut String, moment: Moment) -> Result<(), AllocError>
 }
 
 impl Period {
-    /// The written form of the period (Open Information Model 1.0, the period core dimension).
+    /// Returns the written form of the period (Open Information Model 1.0, the period core
+    /// dimension).
     ///
-    /// It is `yyyy-mm-ddThh:mm:ss`, or two of these with `/` between them. Reading it gives the period again. Fails with
-    /// `AllocError` where memory runs out.
+    /// It is `yyyy-mm-ddThh:mm:ss`, or two of these with `/` between them. Reading it gives the
+    /// period again.
     pub fn text(&self, alloc: Global) -> Result<String, AllocError>
         ensures written { IfOk result (λ t. IsWritten (string_bytes t) (reading_of self.now)) }
         ensures value { IfOk result (λ t. string_bytes t ≡ period_text (reading_of self.now)) }
@@ -104,7 +105,8 @@ impl Period {
         }
     }
 
-    /// The instant at which a duration starts (xBRL-CSV 1.0, `@start`). `None` for an instant. It takes no memory.
+    /// Returns the instant at which a duration starts (xBRL-CSV 1.0, `@start`), or `None` for an
+    /// instant.
     #[tactic(auto, unfolding(crate::specs::Periods::start_of))]
     pub fn start_instant(&self) -> Option<Period>
         ensures { option_map reading_of result ≡ start_of (reading_of self.now) }
@@ -115,7 +117,8 @@ impl Period {
         }
     }
 
-    /// The instant at which a duration ends (xBRL-CSV 1.0, `@end`). `None` for an instant. It takes no memory.
+    /// Returns the instant at which a duration ends (xBRL-CSV 1.0, `@end`), or `None` for an
+    /// instant.
     #[tactic(auto, unfolding(crate::specs::Periods::end_of))]
     pub fn end_instant(&self) -> Option<Period>
         ensures { option_map reading_of result ≡ end_of (reading_of self.now) }

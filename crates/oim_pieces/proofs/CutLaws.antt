@@ -1,4 +1,4 @@
--- What one more piece leaves of a file.
+-- What is left of a file after one more piece is cut.
 use Rattle.std.proofs.Common.{◌≡◌, ◌++◌, ℕ, List, [], Option, Some, None, refl, sym, ap, ◌∙◌}
 use Rattle.std.specs.Io.KnownBytes.{IsAtEnd, Keeps}
 use Rattle.csv.specs.declared.parser.State.TheVariants as state

@@ -1,4 +1,4 @@
--- Pieces of a table that are under way, on worked cases.
+-- Examples of the rules for pieces under way (`specs/Flights.antt`, `specs/state`).
 use Rattle.std.proofs.Common.{◌≡◌, ◌∷◌, ◌+◌, ◌≤◌, [], ℕ, List, Option, Some, None, Result, Ok, Err, ap, arith, codes, length, refl, true, inl, inr}
 use Rattle.std.specs.Str.{chars, is_utf8}
 use Rattle.csv.specs.Records.{field_at}
@@ -13,14 +13,14 @@ use Rattle.oim_rows.specs.Streams.{Stream, ending, stream_from}
 use Rattle.oim_rows.specs.declared.fault.TableFault.{TableFault}
 use Rattle.oim_rows.specs.declared.fault.TableKind.TheVariants as kind
 use Rattle.oim_decode.specs.Apart.{Apart, apart_from}
-use Rattle.oim_pieces.specs.state.Comings.{Comes}
+use Rattle.oim_pieces.specs.state.ComingAnswers.{Comes}
 use Rattle.oim_pieces.specs.state.Cutting.{IsOver, TakesRows, left_over}
-use Rattle.oim_pieces.specs.Flights.{FewerSteps, GivesBlocks, steps_for, steps_left}
-use Rattle.oim_pieces.specs.state.Flights.{AreChained, FlyingPiece, GivesJoined, IsEndOfTable, IsFront, IsPieceAnswer, KeepsStream, NoMoreSteps, ReadsJoined, fault_or_left, first_row_of, rows_in, rows_left, steps_in, stream_in}
+use Rattle.oim_pieces.specs.PiecesLeft.{FewerSteps, GivesBlocks, steps_for, steps_left}
+use Rattle.oim_pieces.specs.state.PiecesUnderWay.{AreChained, PieceRowsLeft, GivesJoined, IsEndOfTable, IsFront, IsPieceAnswer, KeepsStream, NoMoreSteps, ReadsJoined, fault_or_left, first_row_of, rows_in, rows_left, steps_in, stream_in}
 use Rattle.oim_pieces.specs.declared.decoded.Asked.{Asked}
-use Rattle.oim_pieces.specs.declared.flying.Coming.TheVariants.{Here, Thread}
+use Rattle.oim_pieces.specs.declared.piece_under_way.ComingAnswer.TheVariants.{Here, Awaited}
 
--- a report of one table, each of whose rows has an identifier and no facts
+-- A report of one table whose rows have an identifier and no facts.
 abbrev report : ReportValue
 report = record {
   info = record { base_url = None; taxonomy = [] };
@@ -50,7 +50,8 @@ c = codes "kkk" ∷ []
 abbrev read : TableFault
 read = file_fault 0 kind.Read
 
--- CUTTING. The end leaves no record; a failure, or no end yet, leaves what there is
+-- CUTTING (`left_over`). The end leaves no record. After a failure, or before the end, what there
+-- was is left.
 records_left_over : (left_over None (Some (a ∷ [])) ≡ Some (a ∷ [])) × (left_over (Some None) (Some (a ∷ [])) ≡ Some []) × (left_over {A = Record} (Some None) None ≡ Some [])
     × (left_over (Some (Some read)) (Some (a ∷ [])) ≡ Some (a ∷ []))
 records_left_over = (refl, refl, refl, refl)
@@ -76,11 +77,11 @@ answer_of_a_piece = record { decoded = inl refl; few = omega arith }
 too_many : IsPieceAnswer header 4294967295 (a ∷ b ∷ []) (ids_of (codes "k" ∷ codes "kk" ∷ [])) → ⊥
 too_many h = let few : 4294967295 + 2 ≤ 4294967296 = h.few in absurd (omega (arith, few))
 
--- PIECES: rows 4 and 5, then row 6, and what is cut next begins with row 7
-abbrev front : FlyingPiece
+-- PIECES: rows 4 and 5, then row 6. The next piece to cut starts with row 7.
+abbrev front : PieceRowsLeft
 front = record { header = header; first = 4; rows = a ∷ b ∷ [] }
 
-abbrev second : FlyingPiece
+abbrev second : PieceRowsLeft
 second = record { header = header; first = 6; rows = c ∷ [] }
 
 chained : AreChained header (front ∷ second ∷ []) 7
@@ -92,7 +93,8 @@ not_chained = (λ h. absurd (omega (arith, h.2.1)), λ h. absurd (omega (arith, 
 in_order : (first_row_of (front ∷ second ∷ []) 7 ≡ 4) × (first_row_of [] 7 ≡ 7) × (rows_in (front ∷ second ∷ []) ≡ a ∷ b ∷ c ∷ [])
 in_order = (refl, refl, refl)
 
--- the rows of the pieces and then those behind them: a comes again as row 7, a row before them was c
+-- `rows_left`: the pieces' rows and then those after them. In the first case row 7 repeats the
+-- identifier of `a`; in the second an earlier row has that of `c`.
 whole_stream : (rows_left header [] (front ∷ second ∷ []) 7 (Some (a ∷ [])) ≡ Some (record { rows = [] ∷ [] ∷ [] ∷ []; fault = Some (fault_at 0 7 1 kind.RepeatedRowId) }))
     × (rows_left header (codes "kkk" ∷ []) (front ∷ second ∷ []) 7 (Some []) ≡ Some (record { rows = [] ∷ [] ∷ []; fault = Some (fault_at 0 6 1 kind.RepeatedRowId) }))
     × (rows_left header [] (front ∷ []) 6 None ≡ None)
@@ -107,32 +109,32 @@ stream_of_the_cutter = refl
 kept : KeepsStream (Some (ending None)) (Some (ending None)) × (KeepsStream (Some (ending None)) None → ⊥)
 kept = (refl, λ h. absurd (cc h))
 
--- ENDS. Behind a fault nothing comes
+-- ENDS (`fault_or_left`). Nothing follows a fault.
 abbrev one : Stream
 one = record { rows = [] ∷ []; fault = None }
 
 behind_a_piece : (fault_or_left None (Some one) ≡ Some one) × (fault_or_left (Some read) (Some one) ≡ Some (ending (Some read))) × (fault_or_left (Some read) None ≡ Some (ending (Some read)))
 behind_a_piece = (refl, refl, refl)
 
--- one row was read, which has no facts
+-- `GivesBlocks`: one row without facts was read.
 row_given : GivesBlocks 0 one ([] ∷ []) (Some (ending None))
 row_given = record { rows = [] ∷ []; reads = inl (refl, refl); answers = refl }
 
--- the first of two rows was joined, and the second is left; or its fault is
+-- `ReadsJoined`: the first of two rows was joined; the second is left, or its fault.
 first_of_two : ReadsJoined 0 (record { rows = [] ∷ [] ∷ []; fault = None }) one (Some one)
 first_of_two = inl (refl, refl)
 
 first_and_a_failure : ReadsJoined 0 (record { rows = [] ∷ [] ∷ []; fault = None }) (record { rows = [] ∷ []; fault = Some read }) (Some one)
 first_and_a_failure = inr (([] ∷ [], refl), read, inl refl, refl)
 
--- rows of a joined piece, whose fault ends the table
+-- `GivesJoined`: rows of a joined piece whose fault ends the table.
 joined_to_its_fault : GivesJoined (record { rows = [] ∷ []; fault = Some read }) (Some one) ([] ∷ []) (Some (ending (Some read)))
 joined_to_its_fault = (refl, refl)
 
 ends : IsEndOfTable 0 (Some (ending None)) None × IsEndOfTable 0 (Some one) (Some read) × (IsEndOfTable 0 (Some one) None → ⊥)
 ends = (refl, inl refl, λ h. let counts : 1 ≡ 0 = ap (λ (s : Stream). length s.rows) h in absurd (omega (arith, counts)))
 
--- STEPS: three bytes that are not cut, and pieces under way
+-- STEPS (`steps_for`): three bytes that are not cut, and pieces under way.
 three_and_two : (steps_for 2 (Some (codes "kkk")) ≡ Some 5) × (steps_for 2 None ≡ None)
     × (steps_in (record { header = header; ids = []; pieces = front ∷ []; cutter = record { table = 0; limit = 6; next = 6; left = None; over = None; unread = Some (codes "kkk") } }) ≡ Some 4)
 three_and_two = (refl, refl, refl)
@@ -146,7 +148,7 @@ no_more = (omega arith, tt, λ h. absurd (omega (arith, h)), λ h. h)
 fewer : FewerSteps (Some 3) (Some 2) × FewerSteps None (Some 3) × (FewerSteps (Some 3) (Some 3) → ⊥) × (FewerSteps (Some 3) None → ⊥)
 fewer = (omega arith, tt, λ h. absurd (omega (arith, h)), λ h. h)
 
--- JOINED: b came before, and ends the piece at its row
+-- JOINED (`IsFront`): the identifier of `b` is in an earlier row, and ends the piece there.
 front_joined : IsFront front (codes "kk" ∷ []) (record { rows = [] ∷ []; fault = Some (fault_at 0 5 1 kind.RepeatedRowId) }) []
 unfolding apart_from chars is_row_identifier is_plain_char is_ncname is_name_char is_name_start field_at is_utf8 lib.Utf8.encode
 front_joined = record { answer = ids_of (codes "k" ∷ codes "kk" ∷ []); decoded = inl refl; joined = inl refl; behind = λ h. absurd (cc h) }
@@ -155,7 +157,8 @@ ids_behind : IsFront second (codes "kk" ∷ []) (record { rows = [] ∷ []; faul
 unfolding apart_from chars is_row_identifier is_plain_char is_ncname is_name_char is_name_start field_at is_utf8 lib.Utf8.encode
 ids_behind = record { answer = ids_of (codes "kkk" ∷ []); decoded = inl refl; joined = inl refl; behind = λ h. refl }
 
--- COMING: an answer that is here is for what was asked; one that a thread gives comes through the channel of just that piece
+-- COMING (`Comes`): an answer that is here is for the piece that was asked for. An answer from a
+-- thread arrives through that piece's channel only.
 abbrev asked : Asked → List Record → Asked
 asked any rows = record any { header = record any.header { value = header }; first = 6; rows = record any.rows { value = rows } }
 
@@ -163,5 +166,5 @@ comes_here : (any : Asked) → Comes (asked any (c ∷ [])) (Here (ids_of (codes
 unfolding apart_from chars is_row_identifier is_plain_char is_ncname is_name_char is_name_start field_at is_utf8 lib.Utf8.encode
 comes_here any = record { decoded = inl refl; few = omega arith }
 
-through_its_channel : (any : Asked) → Comes (asked any (c ∷ [])) (Thread (Some (asked any (c ∷ [])))) × (Comes (asked any (c ∷ [])) (Thread None) → ⊥)
+through_its_channel : (any : Asked) → Comes (asked any (c ∷ [])) (Awaited (Some (asked any (c ∷ [])))) × (Comes (asked any (c ∷ [])) (Awaited None) → ⊥)
 through_its_channel any = ((refl, refl, refl), λ h. h)

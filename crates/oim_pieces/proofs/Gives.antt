@@ -8,10 +8,10 @@ use Rattle.oim_rows.specs.declared.fault.TableKind.TheVariants as kind
 use Rattle.oim_decode.specs.Blocks.{GivesBlock, KeepsAnswer, ReadsRows}
 use Rattle.oim_decode.specs.state.Blocks.{end_or_left}
 use Rattle.oim_decode.proofs.Advances.{broken_off}
-use Rattle.oim_pieces.specs.Flights.{FewerSteps, steps_for}
-use Rattle.oim_pieces.specs.state.Flights.{IsEndOfTable, KeepsStream, fault_or_left}
+use Rattle.oim_pieces.specs.PiecesLeft.{FewerSteps, steps_for}
+use Rattle.oim_pieces.specs.state.PiecesUnderWay.{IsEndOfTable, KeepsStream, fault_or_left}
 
--- the end, or a fault, is kept
+-- The end or the fault is kept.
 pub end_kept : {A : Type 0} (r : Result (Option A) TableFault) (o : Option TableFault) → r ≡ answer_of o → KeepsAnswer r (Some o)
 end_kept r None is = rw is refl
 end_kept r (Some e) is = rw is refl
@@ -22,12 +22,12 @@ given_kept (Ok (Some v)) answered some fault = tt
 given_kept (Ok None) answered some fault = absurd (cc some)
 given_kept (Err e) answered some fault = fault
 
--- no blocks are given
+-- No blocks are given.
 pub none_given : {A : Type 0} (r : Result (Option A) TableFault) (o : Option TableFault) (P : Type 0) → r ≡ answer_of o → IfOk r (λ p. IfSome p (λ _. P))
 none_given r None P is = rw is tt
 none_given r (Some e) P is = rw is tt
 
--- a piece was joined, and its blocks were given
+-- A piece was joined, and its blocks were given.
 pub moved : {A : Type 0} (r : Result (Option A) TableFault) (answered : Option (Option TableFault)) (before : Option ℕ) (under now : ℕ) (unread left : Option (List ℕ))
     → FewerSteps before (steps_for under unread) → IsSome answered ⊎ ((now ≡ under) × (left ≡ unread))
     → IfOk r (λ o. IfSome o (λ _. IsSome answered ⊎ FewerSteps before (steps_for now left)))
@@ -38,7 +38,7 @@ moved (Ok None) answered before under now unread left fewer so = tt
 moved (Err e) answered before under now unread left fewer so = tt
 
 module _ (table : ℕ) where
-  -- the same end or fault again
+  -- The same end or fault is answered again.
   pub again_ended : (left : Option Stream) (o : Option TableFault) → o ≡ None → IfSome (end_or_left (Some o) left) (λ s. GivesBlock table [] s (Ok None) [] (end_or_left (Some o) left))
   again_ended left o is = subst (λ p. IfSome (end_or_left (Some p) left) (λ s. GivesBlock table [] s (Ok None) [] (end_or_left (Some p) left))) (sym is) (record {
     rows = [];
@@ -54,7 +54,7 @@ module _ (table : ℕ) where
     answers = (refl, refl, inl refl);
   })
 
-  -- the blocks of a piece
+  -- The blocks of a piece.
   piece-gives : (s : Stream) (rows : List (List Fact)) (facts : List Fact) (left : Option Stream) → ReadsRows table s rows left → facts ≡ facts_of_rows rows
       → GivesBlock table [] s (Ok (Some facts)) [] left
   piece-gives s rows facts left reads all = record { rows = rows; reads = reads; answers = sym all ∙ sym (append-nil facts) }
@@ -70,7 +70,7 @@ module _ (table : ℕ) where
       let reads : ReadsRows table s rows (fault_or_left o next) = subst (λ (p : Option Stream). IfSome p (λ whole. ReadsRows table whole rows (fault_or_left o next))) kept read in
       piece-gives s rows (facts v) left (subst (λ p. ReadsRows table s rows p) (sym are.1) reads) are.0
 
-  -- memory was refused for the blocks of a piece
+  -- Memory ran out for the blocks of a piece.
   pub short_given : {A : Type 0} (r : Result A TableFault) (old now next : Option Stream) (rows : List (List Fact)) (o : Option TableFault) (left : Option Stream)
       → KeepsStream old now → IfSome now (λ whole. ReadsRows table whole rows (fault_or_left o next))
       → IfErr r (λ e. (e ≡ file_fault table kind.Memory) × (left ≡ Some (ending (Some e))))
@@ -85,7 +85,7 @@ module _ (table : ℕ) where
         answers = (refl, short.1, inr short.0);
       }
 
-  -- the end
+  -- The end.
   pub end_given : {V : Type 0} (r : Result (Option V) TableFault) (old now left : Option Stream) (o : Option TableFault) → KeepsStream old now → IsEndOfTable table now o
       → IfOk r (λ p. IfNone p (o ≡ None) × IfSome p (λ _. ⊥)) → left ≡ Some (ending o)
       → IfSome old (λ s. IfOk r (λ p. IfNone p (GivesBlock table [] s (Ok None) [] left)))

@@ -1,9 +1,9 @@
 pub mod Sends
-pub mod FlightLaws
+pub mod UnderWayLaws
 pub mod Openings
 pub mod Gives
 pub mod CutLaws
 pub mod StepLaws
-pub mod SheetLaws
+pub mod ChannelLaws
 pub mod Examples
-pub mod ExamplesSheets
+pub mod ExamplesChannels

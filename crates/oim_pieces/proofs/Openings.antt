@@ -9,22 +9,22 @@ use Rattle.oim_rows.specs.RowFacts.{TableHeaderValue}
 use Rattle.oim_rows.specs.Streams.{IsOutside, Stream, table_header_of, stream_from, stream_of}
 use Rattle.oim_rows.specs.declared.fault.TableFault.{TableFault}
 use Rattle.oim_decode.specs.Heads.{table_header_in}
-use Rattle.oim_pieces.specs.state.Flights.{AreChained, FlyingPiece, rows_left}
+use Rattle.oim_pieces.specs.state.PiecesUnderWay.{AreChained, PieceRowsLeft, rows_left}
 
 good-header : (report : ReportValue) (table limit : ℕ) (header : Record) (rows : List Record) → header_fault report table header ≡ None
     → stream_of report table limit (header ∷ rows) ≡ stream_from (table_header_of report table limit header) 1 [] rows
 good-header report table limit header rows none = rw none refl
 
--- a piece is known by its parts
-pub piece_is : (f : FlyingPiece) (g : TableHeaderValue) (n : ℕ) (rows : List Record) → f.header ≡ g → f.first ≡ n → f.rows ≡ rows → f ≡ record { header = g; first = n; rows = rows }
+-- Pieces with equal parts are equal.
+pub piece_is : (f : PieceRowsLeft) (g : TableHeaderValue) (n : ℕ) (rows : List Record) → f.header ≡ g → f.first ≡ n → f.rows ≡ rows → f ≡ record { header = g; first = n; rows = rows }
 piece_is f g n rows reads at same = ap (λ x. piece x f.first f.rows) reads ∙ ap (λ k. piece g k f.rows) at ∙ ap (λ l. piece g n l) same
   where
-    piece : TableHeaderValue → ℕ → List Record → FlyingPiece
+    piece : TableHeaderValue → ℕ → List Record → PieceRowsLeft
     piece x k l = record { header = x; first = k; rows = l }
 
 module _ (report : ReportValue) (table limit : ℕ) where
-  -- the rows of the head are under way
-  abbrev pub head_piece : List Record → FlyingPiece
+  -- The rows of the head are under way.
+  abbrev pub head_piece : List Record → PieceRowsLeft
   head_piece head = record { header = table_header_in report table limit head; first = 1; rows = drop 1 head }
 
   stream-behind : (head rest : List Record) → 1 ≤ length head → file_header_fault report table head ≡ None
@@ -47,12 +47,12 @@ module _ (report : ReportValue) (table limit : ℕ) where
   chain_opened [] next some at = absurd (omega (arith, some))
   chain_opened (h ∷ rows) next some at = let more : 1 + length rows ≡ next = omega (arith, at) in (refl, more, tt)
 
-  pub behind_chain : (head : List Record) (items : List FlyingPiece) (g : TableHeaderValue) (next : ℕ) → items ≡ head_piece head ∷ [] → table_header_in report table limit head ≡ g
+  pub behind_chain : (head : List Record) (items : List PieceRowsLeft) (g : TableHeaderValue) (next : ℕ) → items ≡ head_piece head ∷ [] → table_header_in report table limit head ≡ g
       → 1 ≤ length head → next ≡ 1 + (length head - 1) → AreChained g items next
   behind_chain head items g next is reads some at =
       subst (λ l. AreChained g l next) (sym is) (subst (λ (x : TableHeaderValue). AreChained x (head_piece head ∷ []) next) reads (chain_opened head next some at))
 
-  pub behind_stream : (head : List Record) (bytes : Option (List ℕ)) (g : TableHeaderValue) (ids : List Field) (items : List FlyingPiece) (next : ℕ) (left : Option (List Record))
+  pub behind_stream : (head : List Record) (bytes : Option (List ℕ)) (g : TableHeaderValue) (ids : List Field) (items : List PieceRowsLeft) (next : ℕ) (left : Option (List Record))
       → g ≡ table_header_in report table limit head → ids ≡ [] → items ≡ head_piece head ∷ [] → left ≡ left_known [] bytes → 1 ≤ length head → file_header_fault report table head ≡ None
       → IfSome (left_known head bytes) (λ records. rows_left g ids items next left ≡ Some (stream_of report table limit records))
   behind_stream head bytes g ids items next left reads none is known some good =
@@ -62,7 +62,7 @@ module _ (report : ReportValue) (table limit : ℕ) where
       ∙ ap (λ x. rows_left r [] x next left) is ∙ ap (λ x. rows_left r [] (head_piece head ∷ []) next x) known in
       subst (λ o. IfSome (left_known head bytes) (λ records. o ≡ Some (stream_of report table limit records))) (sym same) (stream_opened head bytes next some good)
 
-  -- the whole file has the header's fault of its head
+  -- The whole file has the header fault of its head.
   fault-before : (head rest : List Record) (e : TableFault) → 1 ≤ length head → file_header_fault report table head ≡ Some e → file_header_fault report table (head ++ rest) ≡ Some e
   fault-before [] rest e some bad = absurd (omega (arith, some))
   fault-before (h ∷ rows) rest e some bad = bad
@@ -76,13 +76,13 @@ module _ (report : ReportValue) (table limit : ℕ) where
       let same : head ++ records_left state.StartRecord ys ≡ grid xs = cc starts in
       inr (ap (file_header_fault report table) (sym same) ∙ fault-before head (records_left state.StartRecord ys) e some bad)
 
--- the bytes behind the head of a known file are known
+-- If the file is known, the bytes after its head are known.
 pub file_unread : (head : List Record) (bytes file : Option (List ℕ)) → StartsFile file (left_known head bytes) → OnSome file (IsSome bytes)
 file_unread head bytes None starts = tt
 file_unread head None (Some xs) starts = absurd (cc starts)
 file_unread head (Some ys) (Some xs) starts = refl
 
--- what is said of the records that are left is said of a file's
+-- What holds for the records that are left holds for those of the file.
 pub file_stream : (file : Option (List ℕ)) (left : Option (List Record)) (P : List Record → Type 0) → StartsFile file left → IfSome left P → IfSome file (λ xs. P (grid xs))
 file_stream None left P starts so = tt
 file_stream (Some xs) left P starts so = subst (λ o. IfSome o P) starts so

@@ -1,4 +1,4 @@
--- What decodes a piece, and what it answers, may cross threads.
+-- A decoder and its answers may move between threads.
 use denote.Param.Send.{IsSend, IsSync, sendable, view_send}
 use denote.Param.SendFields.{declared_send, variants_send}
 use denote.Ref.{NamedLft}
@@ -11,8 +11,8 @@ use Rattle.oim_report.proofs.data.Column.TheSendSync as column
 use Rattle.oim_report.specs.contracts.data.Column as Column
 use Rattle.oim_resolve.proofs.plan.Plan.TheSendSync as plan
 use Rattle.oim_resolve.specs.contracts.plan.Plan as Plan
-use Rattle.oim_pieces.proofs.helpers.Helpers.TheSendSync as helpers
-use Rattle.oim_pieces.specs.contracts.helpers.Helpers as Helpers
+use Rattle.oim_pieces.proofs.at_work.AtWork.TheSendSync as at_work
+use Rattle.oim_pieces.specs.contracts.at_work.AtWork as AtWork
 use Rattle.oim_rows.proofs.table_header.TableHeader.TheSendSync as header
 use Rattle.oim_rows.proofs.ids.RowIds.TheSendSync as ids
 use Rattle.oim_rows.specs.contracts.table_header.TableHeader as Header
@@ -24,19 +24,19 @@ use Rattle.oim_decode.specs.contracts.piece.piece_decoder.PieceDecoder as Decode
 use Rattle.keyed.proofs.ends.Giver.TheSendSync as giver
 use Rattle.keyed.proofs.ends.Taker.TheSendSync as taker
 use Rattle.keyed.specs.contracts.ends.Giver as Giver
-use Rattle.oim_pieces.proofs.bins.Bin.TheSendSync as bin
-use Rattle.oim_pieces.specs.contracts.bins.Bin as Bin
+use Rattle.oim_pieces.proofs.spare_vectors.SpareVectors.TheSendSync as kept
+use Rattle.oim_pieces.specs.contracts.spare_vectors.SpareVectors as SpareVectors
 use Rattle.oim_pieces.specs.contracts.decoded.Asked as Asked
-use Rattle.oim_pieces.specs.contracts.sheet.OfPiece as OfPiece
-use Rattle.oim_pieces.specs.contracts.sheet.OfPieceFitAskedSheet.TheImpl as of_piece
-use Rattle.oim_pieces.specs.contracts.sheet.OfTable as OfTable
-use Rattle.oim_pieces.specs.contracts.sheet.OfTableFitAskedJob.TheImpl as of_table
-use Rattle.oim_pieces.specs.contracts.sheet.Question as Question
-use Rattle.oim_pieces.specs.contracts.sheet.Reply as Reply
-use Rattle.oim_pieces.specs.contracts.sheet.Sheet as Sheet
-use Rattle.oim_pieces.specs.contracts.thread.Station as Station
-use Rattle.oim_pieces.specs.contracts.thread.Post as Post
-use Rattle.oim_pieces.specs.contracts.thread.Post.TheInside as Inside
+use Rattle.oim_pieces.specs.contracts.in_channel.OfPiece as OfPiece
+use Rattle.oim_pieces.specs.contracts.in_channel.OfPieceFitAskedInChannel.TheImpl as of_piece
+use Rattle.oim_pieces.specs.contracts.in_channel.OfTable as OfTable
+use Rattle.oim_pieces.specs.contracts.in_channel.OfTableFitAskedJob.TheImpl as of_table
+use Rattle.oim_pieces.specs.contracts.in_channel.PieceToDecode as PieceToDecode
+use Rattle.oim_pieces.specs.contracts.in_channel.DecodedPiece as DecodedPiece
+use Rattle.oim_pieces.specs.contracts.in_channel.InChannel as InChannel
+use Rattle.oim_pieces.specs.contracts.helper_thread.HelperSetup as HelperSetup
+use Rattle.oim_pieces.specs.contracts.helper_thread.HelperThread as HelperThread
+use Rattle.oim_pieces.specs.contracts.helper_thread.HelperThread.TheInside as Inside
 
 pub answer_send : IsSend Answer.the_row
 answer_send = answer.the_send
@@ -59,8 +59,8 @@ writer_send a = writer.the_send a
 records_send : IsSend Records.the_row
 records_send = records.the_send
 
-pub helpers_sync : IsSync Helpers.the_row
-helpers_sync = helpers.the_sync
+pub helpers_sync : IsSync AtWork.the_row
+helpers_sync = at_work.the_sync
 
 ids_send : IsSend Ids.the_row
 ids_send = ids.the_send
@@ -68,26 +68,26 @@ ids_send = ids.the_send
 pub decoder_send : (a : NamedLft) → IsSend (Decoder.the_row a)
 decoder_send a = search (sendable, crosses, row_plan_send, header_send, writer_send, records_send, ids_send) depth 20
 
-bin_send : IsSend Bin.the_row
-bin_send = bin.the_send
+bin_send : IsSend SpareVectors.the_row
+bin_send = kept.the_send
 
-reply_send : IsSend Reply.the_row
-reply_send = search (sendable, crosses, answer_send) depth 20
+decoded_send : IsSend DecodedPiece.the_row
+decoded_send = search (sendable, crosses, answer_send) depth 20
 
-question_send : (a : NamedLft) → IsSend (Question.the_row a)
-question_send a = search (sendable, crosses) depth 20
+to_decode_send : (a : NamedLft) → IsSend (PieceToDecode.the_row a)
+to_decode_send a = search (sendable, crosses) depth 20
 
-sheet_send : (a : NamedLft) → IsSend (Sheet.the_row a)
-sheet_send a = variants_send (Sheet.enum a) ((question_send a, tt), ((reply_send, tt), tt))
+channel_send : (a : NamedLft) → IsSend (InChannel.the_row a)
+channel_send a = variants_send (InChannel.enum a) ((to_decode_send a, tt), ((decoded_send, tt), tt))
 
-job_send : (a : NamedLft) → IsSend (Giver.the_row (Sheet.the_row a) (Asked.the_row a) OfPiece.the_row of_piece.ghosts)
-job_send a = giver.the_send (Sheet.the_row a) (Asked.the_row a) OfPiece.the_row of_piece.ghosts (sheet_send a)
+job_send : (a : NamedLft) → IsSend (Giver.the_row (InChannel.the_row a) (Asked.the_row a) OfPiece.the_row of_piece.ghosts)
+job_send a = giver.the_send (InChannel.the_row a) (Asked.the_row a) OfPiece.the_row of_piece.ghosts (channel_send a)
 
-station_send : (a : NamedLft) → IsSend (Station.the_row a)
+station_send : (a : NamedLft) → IsSend (HelperSetup.the_row a)
 station_send a =
-    let job = Giver.the_row (Sheet.the_row a) (Asked.the_row a) OfPiece.the_row of_piece.ghosts in
+    let job = Giver.the_row (InChannel.the_row a) (Asked.the_row a) OfPiece.the_row of_piece.ghosts in
     let share = taker.the_send job (Asked.the_row a) OfTable.the_row of_table.ghosts (job_send a) in
-    declared_send (Station.the_type a) (share, (bin_send, (search sendable, tt)))
+    declared_send (HelperSetup.the_type a) (share, (bin_send, (search sendable, tt)))
 
-pub post_send : (a : NamedLft) → IsSend (Post.the_row a)
+pub post_send : (a : NamedLft) → IsSend (HelperThread.the_row a)
 post_send a = view_send (Inside.the_row a) _ _ _ _ (declared_send (Inside.the_type a) (decoder_send a, (station_send a, tt)))

@@ -1,2 +1,2 @@
-pub mod Flights
+pub mod PiecesLeft
 pub mod state

@@ -1,4 +1,4 @@
-pub mod Sheets
-pub mod Comings
+pub mod Channels
+pub mod ComingAnswers
 pub mod Cutting
-pub mod Flights
+pub mod PiecesUnderWay

@@ -13,8 +13,9 @@ use oim_rows::{TableFault, TableKind, fault_of_read, whole_fault};
 use std::io::Read;
 use std::marker::Model;
 
-/// Whole records of a table's file, the number of the first as a row, and whether the worker that cut them decodes them, as it does with fewer bytes
-/// than half of those that were asked for.
+/// A piece of a table: whole records, and the row number of the first. `stays` means that the
+/// worker that cut it also decodes it, as it does if the piece has less than half of the asked-for
+/// bytes.
 #[derive(Drop)]
 pub(crate) struct CutPiece {
     pub(crate) bytes: Vec<u8>,
@@ -23,7 +24,7 @@ pub(crate) struct CutPiece {
 }
 
 impl CutPiece {
-    /// The same piece. Where it is to stay, the worker that cut it decodes it, as it does with a short one.
+    /// Returns the piece, which stays with the worker if `stays` or if it is short.
     pub(crate) fn staying(self, stays: bool) -> CutPiece
         ensures { (result.bytes ≡ self.bytes) × (result.first ≡ self.first) }
     {
@@ -40,21 +41,25 @@ impl CutPiece {
     }
 }
 
-/// What cuts the file of a table. A contract sees the place of the table, its limit of rows, the number of the next row, the records that are left
-/// and the bytes that are not cut yet, where the reader tells its bytes, and, once no more is cut, the fault behind them, if there is one.
+/// The cutter of a table's file.
+///
+/// Contracts see the table's place, its limit of rows, the number of the next row, the records and
+/// the bytes that are left (for a reader whose bytes are known), and the end or fault once nothing
+/// more is cut.
 pub(crate) struct Cutter<R: Read + Drop> {
     pieces: PieceReader<R>,
     table: usize,
     limit: u32,
     next: u64,
     over: Option<Option<TableFault>>,
-    // how many bytes a piece is to have
+    // How many bytes a piece should have.
     size: usize,
-    // whether the last piece was short, or the last read, as at the end of a file and of a reader that gives few bytes at a time
+    // Whether the last piece or the last read was short, as at the end of a file, or with a reader
+    // that gives few bytes at a time.
     is_slow: bool,
 }
 
-// By hand, so that who lets one go elsewhere makes one call.
+// Written by hand so that dropping one elsewhere compiles to a single call.
 impl<R: Read + Drop> Drop for Cutter<R> {
     fn drop(self) {
         let Self {
@@ -90,7 +95,7 @@ impl<R: Read + Drop> Model for Cutter<R> {
 }
 
 impl<R: Read + Drop> Cutter<R> {
-    /// Cuts what a reader of pieces has left of a table, whose next row has this number, into pieces of about `size` bytes.
+    /// Makes a cutter of what `pieces` has left of a table, whose next row has number `next`.
     pub(crate) fn new(
         pieces: PieceReader<R>,
         table: usize,
@@ -112,19 +117,20 @@ impl<R: Read + Drop> Cutter<R> {
         }
     }
 
-    /// The place of the table.
+    /// Returns the table's place in the report.
     pub(crate) fn table(&self) -> usize
         ensures { result ≡ self.now.table }
     {
         self.table
     }
 
-    /// Whether the records that were cut may be all that the reader has for now, so that they are to wait for no others. No contract says so.
+    /// Returns whether the cut records may be all that the reader has for now. They then wait for
+    /// no others.
     pub(crate) fn is_slow(&self) -> bool {
         self.is_slow
     }
 
-    /// What ends the table behind the pieces that were cut, once no more is cut.
+    /// Returns the end or fault after the cut pieces, once nothing more is cut.
     pub(crate) fn over(&self) -> Option<Option<TableFault>>
         ensures value { result ≡ self.now.over }
         ensures over { IfSome result (IsOver self.now.table self.now.left) }
@@ -132,16 +138,18 @@ impl<R: Read + Drop> Cutter<R> {
         self.over
     }
 
-    /// Keeps the room of a vector for pieces that are cut later.
-    pub(crate) fn keep_room(&mut self, room: Vec<u8>)
+    /// Keeps the memory of a vector for the bytes of later pieces.
+    pub(crate) fn keep_spare(&mut self, spare: Vec<u8>)
         ensures { self.new ≡ self.old }
     {
-        self.pieces.keep_room(room);
+        self.pieces.keep_spare(spare);
     }
 
-    /// The next piece, or `None` where no more is cut: at the end of the file, where the reader failed, or where memory is short.
-    /// Once no more is cut, a call changes nothing.
-    #[tactic(auto, using(crate::proofs::FlightLaws::rows_few, crate::proofs::CutLaws::cut_taken, crate::proofs::CutLaws::cut_ended, crate::proofs::CutLaws::cut_failed, crate::proofs::CutLaws::bytes_ended, crate::proofs::CutLaws::bytes_kept))]
+    /// Cuts the next piece.
+    ///
+    /// Returns `None` at the end of the file, if the reader failed, or if memory runs out. Further
+    /// calls then return `None` and change nothing.
+    #[tactic(auto, using(crate::proofs::UnderWayLaws::rows_few, crate::proofs::CutLaws::cut_taken, crate::proofs::CutLaws::cut_ended, crate::proofs::CutLaws::cut_failed, crate::proofs::CutLaws::bytes_ended, crate::proofs::CutLaws::bytes_kept))]
     pub(crate) fn cut(&mut self) -> Option<CutPiece>
         ensures some { IfSome result (λ piece. TakesRows self.old.left (records_left state.StartRecord piece.bytes.items) self.new.left) }
         ensures first { IfSome result (λ piece. (piece.first ≡ self.old.next) × (piece.first ≤ self.old.limit + 1)) }
@@ -159,7 +167,7 @@ impl<R: Read + Drop> Cutter<R> {
             None => {}
         }
         if self.next > self.limit as u64 + 1 {
-            // The rows before have the fault TooManyRows, behind which nothing is asked for.
+            // An earlier row has the fault TooManyRows, and nothing is asked for after it.
             self.over = Some(Some(whole_fault(self.table, TableKind::Memory)));
             return None;
         }

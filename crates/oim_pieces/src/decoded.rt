@@ -1,4 +1,4 @@
-//! Which rows are asked for.
+//! Which rows a piece has, for contracts.
 
 ghost use Rattle.std.specs.Prelude.{◌≡◌, drop};
 ghost use Rattle.csv.specs.declared.parser.State.TheVariants as state;
@@ -9,7 +9,8 @@ use oim_decode::FirstRecords;
 use oim_rows::TableHeader;
 use std::snapshot::Snapshot;
 
-/// Which rows are asked for: how they are read, the number of the first, and, for contracts alone, the rows.
+/// Which rows to decode: the header that reads them, the number of the first, and, for contracts
+/// only, the rows.
 #[derive(Drop)]
 pub(crate) struct Asked<'a> {
     pub(crate) header: Snapshot<TableHeader<'a>>,
@@ -30,7 +31,7 @@ impl Denotes<FirstRecords> for RecordsOf<'_> {
     ghost denoted = { λ a. records_left state.StartRecord a.bytes.now.items };
 }
 
-/// Denotes the records behind the header of a head.
+/// Denotes the records after the header record of a head.
 #[derive(Drop)]
 struct RowsBehind<'a> {
     head: &'a FirstRecords,
@@ -43,7 +44,7 @@ impl Denotes<FirstRecords> for RowsBehind<'_> {
 }
 
 impl<'a> Asked<'a> {
-    /// The rows of a piece, from this number on.
+    /// Describes the rows of a piece whose first row has number `first`.
     pub(crate) fn of(header: &TableHeader<'a>, bytes: &Vec<u8>, first: u32) -> Asked<'a>
         ensures { (result.header.value ≡ header.now) × (result.first ≡ first) × (result.rows.value ≡ records_left state.StartRecord bytes.now.items) }
     {
@@ -54,7 +55,7 @@ impl<'a> Asked<'a> {
         }
     }
 
-    /// The rows behind the header of a head.
+    /// Describes the rows of a head.
     pub(crate) fn of_head(header: &TableHeader<'a>, head: &FirstRecords) -> Asked<'a>
         ensures { (result.header.value ≡ header.now) × (result.first ≡ 1) × (result.rows.value ≡ drop 1 head.now) }
     {

@@ -1,16 +1,18 @@
-//! The decoders that threads are given.
+//! Decoders for helper threads.
 
 ghost use Rattle.std.specs.Prelude.{◌≡◌, ◌≤◌, ◌<◌, List, IfSome, length};
 ghost use Rattle.oim_decode.specs.Heads.{table_header_in};
 ghost use Rattle.oim_records.specs.Grids.{Record};
-ghost use Rattle.oim_pieces.specs.state.Flights.{IsPieceAnswer};
+ghost use Rattle.oim_pieces.specs.state.PiecesUnderWay.{IsPieceAnswer};
 
 use oim_decode::{FirstRecords, PieceAnswer, PieceDecoder};
 use oim_report::Report;
 use std::alloc::Global;
 use std::marker::Model;
 
-/// The head of a table, which gives decoders of its pieces. A contract sees the table's header.
+/// The head of a table, from which decoders of its pieces are made.
+///
+/// Contracts see the table's header.
 #[derive(Drop)]
 pub(crate) struct Decoders<'a> {
     alloc: Global,
@@ -33,7 +35,7 @@ impl<'a> Model for Decoders<'a> {
 }
 
 impl<'a> Decoders<'a> {
-    /// What gives decoders of the table at this place of a report, whose rows are at most `limit`.
+    /// Keeps what makes decoders of one table, with at most `limit` rows.
     pub(crate) fn new(
         alloc: Global,
         report: &'a Report,
@@ -54,7 +56,7 @@ impl<'a> Decoders<'a> {
         }
     }
 
-    /// A new decoder. `None` where memory is short.
+    /// Makes a decoder, or returns `None` if memory runs out.
     pub(crate) fn take(&self) -> Option<PieceDecoder<'a>>
         ensures { IfSome result (λ d. d.header ≡ self.now) }
     {
@@ -67,8 +69,8 @@ impl<'a> Decoders<'a> {
         }
     }
 
-    /// The answer for a piece that none comes for, whose first row has this number: memory was refused.
-    #[tactic(auto, using(crate::proofs::SheetLaws::refused_answer))]
+    /// Returns Memory, without a row, for a piece whose answer never arrives.
+    #[tactic(auto, using(crate::proofs::ChannelLaws::refused_answer))]
     pub(crate) fn no_answer(&self, first: u32) -> PieceAnswer
         ensures { (rows : List Record) → IsPieceAnswer self.now first rows result }
     {

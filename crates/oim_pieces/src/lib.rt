@@ -1,21 +1,37 @@
 //! The pieces of one table, decoded on more than one thread.
 //!
-//! A worker that has drawn a table cuts its file into pieces that end between two records. It puts them up in a line, from which threads that stay
-//! until the table is over draw them, and so does the worker itself, where the next answer is not there yet. Short pieces and the rows that were read
-//! with the header it decodes at once.
-//! `TablePieces` joins the answers in the order of the pieces, so what it gives is the table's stream, or a beginning of it before Read or
-//! Memory, whoever decoded what and whenever it was done: each piece has a channel of its own, where the piece lies until it is drawn, and then
-//! its answer, and all who have an end of it know of which rows that is.
+//! The worker that drew a table cuts its file into pieces that end between two records, and queues
+//! them. Helper threads, which stay until the table ends, take pieces from the queue and decode
+//! them. The worker does the same while it waits for the next answer. Short pieces, and the rows
+//! that were read with the header, it decodes at once.
 //!
-//! `Helpers` counts how many threads are at work. No contract rests on that count: whatever it says, what is given is right.
+//! `TablePieces` joins the answers in the order of the pieces. What it gives is the table's stream,
+//! or a prefix of it before Read or Memory, whichever thread decoded a piece and whenever it
+//! finished. Each piece has a channel of its own, which holds the piece until a thread takes it,
+//! and then its answer. Both ends of the channel know the rows that the piece has.
 //!
-//! A call:
+//! Names in this crate:
+//!
+//! - `Cutter` cuts the table's file into pieces.
+//! - `PiecesUnderWay`: the pieces that are cut and not joined yet; `PieceUnderWay` is one of them.
+//! - `InChannel`: what is in a piece's channel: the piece to decode, or its decoded rows.
+//! - `Job`, `Pending`: the ends of that channel: one takes the piece and answers, one receives.
+//! - `TableThreads`: a table's threads, which are its worker and its helper threads.
+//! - `PieceQueue`, `PieceQueueEnd`: the ends of a table's queue: the worker's, a helper thread's.
+//! - `HelperThread`, `HelperSetup`: what a helper thread is started with.
+//! - `SpareVectors`, `SparesByThread`: spare vectors, kept for the thread that last wrote to them.
+//! - `Memory`: all spare vectors of a table.
+//! - `AtWork`: the count of the threads at work in the run.
+//!
+//! Not proved: what `AtWork` and `Memory` hold, and how many pieces the worker cuts
+//! ahead. No result depends on them.
+//!
+//! A call, which returns how many blocks the first piece of a report's first table has:
 //!
 //! ```
-//! /// The number of blocks in the first piece of a report's first table, whose file has these bytes.
 //! fn first_piece<'s, E, T: Threads + Wait + Sync + 's>(
 //!     scope: &Scope<'s, E>,
-//!     helpers: &'s Helpers,
+//!     at_work: &'s AtWork,
 //!     rt: &'s T,
 //!     alloc: Global,
 //!     report: &'s Report,
@@ -25,7 +41,7 @@
 //!         return Ok(0);
 //!     }
 //!     let limits = Limits::profile();
-//!     let mut table = TablePieces::open(alloc, helpers, report, 0, file, limits)?;
+//!     let mut table = TablePieces::open(alloc, at_work, report, 0, file, limits)?;
 //!     let first = table.next_blocks(scope, rt);
 //!     mem::drop(table);
 //!     match first? {
@@ -36,18 +52,18 @@
 //! ```
 #![tactic(auto)]
 
-mod bins;
-mod crew;
+mod at_work;
 mod cutter;
 mod decoded;
 mod decoders;
-mod flight;
-mod flying;
-mod helpers;
+mod helper_thread;
+mod in_channel;
 mod memory;
-mod sheet;
+mod piece_under_way;
+mod pieces_under_way;
+mod spare_vectors;
 mod table_pieces;
-mod thread;
+mod table_threads;
 
-pub use helpers::Helpers;
+pub use at_work::AtWork;
 pub use table_pieces::{PIECE_SIZE, TablePieces};

@@ -6,11 +6,11 @@ ghost use Rattle.oim_records.specs.Grids.{grid};
 ghost use Rattle.oim_rows.specs.Header.{file_fault, file_header_fault};
 ghost use Rattle.oim_rows.specs.Streams.{IsOutside, answer_of as answer_at_end, ending, stream_of};
 ghost use Rattle.oim_rows.specs.declared.fault.TableKind.TheVariants as kind;
-ghost use Rattle.oim_pieces.specs.Flights.{FewerSteps, GivesBlocks, steps_left};
-ghost use Rattle.oim_pieces.specs.state.Flights.{GivesJoined};
+ghost use Rattle.oim_pieces.specs.PiecesLeft.{FewerSteps, GivesBlocks, steps_left};
+ghost use Rattle.oim_pieces.specs.state.PiecesUnderWay.{GivesJoined};
 
-use crate::flight::Flight;
-use crate::helpers::Helpers;
+use crate::at_work::AtWork;
+use crate::pieces_under_way::PiecesUnderWay;
 use oim_decode::{JoinedPiece, open_pieces};
 use oim_json::Block;
 use oim_report::{Limits, Report};
@@ -21,49 +21,53 @@ use std::marker::Model;
 use std::sync::Wait;
 use std::thread::{Scope, Threads};
 
-/// About how many bytes a piece of a table has in a conversion: so many that decoding them takes far longer than handing them to a thread.
+/// About how many bytes a piece has in a conversion. Decoding that many takes far longer than
+/// handing them to a thread.
 pub const PIECE_SIZE: usize = 32_768;
 
-/// The facts of one table that are left, piece by piece, as blocks of text. It borrows the table's report. A contract sees the table's
-/// place, what is answered again once the table is settled, how many pieces are under way, and, where the reader tells its bytes, the stream
-/// that is left and the bytes that are not cut yet.
+/// The remaining facts of one table, piece by piece, as blocks of text.
+///
+/// Contracts see the table's place, the stream that is left, the answer of a settled table, the
+/// count of pieces under way, and the bytes that are not cut yet. The stream and the bytes are
+/// known only for a reader whose bytes are known.
 #[derive(Drop)]
 pub struct TablePieces<'a, R: Read + Drop> {
     alloc: Global,
-    flight: Flight<'a, R>,
-    // the end or the fault that was found behind all that was given
+    pieces_under_way: PiecesUnderWay<'a, R>,
+    // The end or the fault of the table, once it was found.
     settled: Option<Option<TableFault>>,
 }
 
 impl<'a, R: Read + Drop> Model for TablePieces<'a, R> {
     ghost use Rattle.std.specs.Prelude.{length};
     ghost use Rattle.oim_decode.specs.state.Blocks.{end_or_left};
-    ghost use Rattle.oim_pieces.specs.Flights.{PiecesLeft};
-    ghost use Rattle.oim_pieces.specs.state.Flights.{stream_in};
+    ghost use Rattle.oim_pieces.specs.PiecesLeft.{PiecesLeft};
+    ghost use Rattle.oim_pieces.specs.state.PiecesUnderWay.{stream_in};
 
     ghost Value = { PiecesLeft };
 
     ghost view = { λ a. record {
-      table = a.flight.cutter.table;
-      left = end_or_left a.settled (stream_in a.flight);
+      table = a.pieces_under_way.cutter.table;
+      left = end_or_left a.settled (stream_in a.pieces_under_way);
       answered = a.settled;
-      under_way = length a.flight.pieces;
-      unread = a.flight.cutter.unread;
+      under_way = length a.pieces_under_way.pieces;
+      unread = a.pieces_under_way.cutter.unread;
     } };
 }
 
 impl<'a, R: Read + Drop> TablePieces<'a, R> {
-    /// Reads the header of the table at this place of a report, past one byte-order mark, and the rows that were read with it. The rows
-    /// are at most `limits.rows`, itself at most 4,294,967,294. A piece has about as many bytes as `helpers` says, and fewer where the reader gives fewer at a
-    /// time; the facts are the same for each size, and whoever decodes them.
+    /// Opens the table at place `table` of the report: reads its header, after an optional
+    /// byte-order mark.
+    ///
+    /// The table may have at most `limits.rows` rows. A piece has about as many bytes as `at_work`
+    /// sets, and fewer if the reader gives fewer at a time. The facts are the same for each size.
     ///
     /// Fails with the header's first fault, in this order: NoHeader, UnknownHeader, RepeatedHeader,
-    /// NoRowIdColumn. Fails with Read where the reader failed, and with Memory where memory is
-    /// short.
+    /// NoRowIdColumn. Fails with Read if the reader failed, and with Memory if memory runs out.
     #[tactic(auto, using(crate::proofs::Openings::file_fault, crate::proofs::Openings::file_stream, crate::proofs::Openings::file_unread))]
     pub fn open(
         alloc: Global,
-        helpers: &'a Helpers,
+        at_work: &'a AtWork,
         report: &'a Report,
         table: usize,
         reader: R,
@@ -72,13 +76,13 @@ impl<'a, R: Read + Drop> TablePieces<'a, R> {
         requires place { table < length report.now.tables }
         requires rows { limits.rows ≤ 4294967294 }
 
-        // The facts of the table, where its header has no fault.
+        // The facts of the table, if its header has no fault.
         ensures start { IfOk result (λ pieces. (pieces.table ≡ table) × (pieces.answered ≡ None)) }
         ensures unread { OnSome (R.remaining reader) (IfOk result (λ pieces. IsSome pieces.unread)) }
         ensures stream { IfSome (R.remaining reader) (λ bytes.
             IfOk result (λ pieces. pieces.left ≡ Some (stream_of report.now table limits.rows (grid bytes)))) }
 
-        // Its fault, unless the reader failed or memory was refused.
+        // Its fault, unless the reader failed or memory ran out.
         ensures fault { IfSome (R.remaining reader) (λ bytes.
             IfErr result (λ e. IsOutside table e ⊎ (file_header_fault report.now table (grid bytes) ≡ Some e))) }
     {
@@ -87,24 +91,28 @@ impl<'a, R: Read + Drop> TablePieces<'a, R> {
             Ok(None) => return Err(whole_fault(table, TableKind::NoHeader)),
             Err(fault) => return Err(fault_of_read(table, fault)),
         };
-        match Flight::behind(alloc, helpers, report, table, limits.rows, head, pieces) {
-            Ok(flight) => Ok(TablePieces {
+        match PiecesUnderWay::after_head(alloc, at_work, report, table, limits.rows, head, pieces) {
+            Ok(pieces_under_way) => Ok(TablePieces {
                 alloc,
-                flight,
+                pieces_under_way,
                 settled: None,
             }),
             Err(fault) => Err(fault),
         }
     }
 
-    /// The facts of the next piece in blocks of 1 to 256, in header order and row by row, or None at the end. Where there are
-    /// places for them, threads of the scope decode pieces that come later. After the end or a fault it answers the same again, and cuts
-    /// nothing. The caller is to count as at work (`Helpers::start`): it rests while it waits for an answer. Where the reader tells its bytes, blocks come at most once for each piece under way and each byte behind them, and once more.
+    /// Returns the facts of the next piece, or None at the end of the table.
     ///
-    /// Fails, where the facts of all rows before were given, with the first fault of the first bad
-    /// row, in this order: Ragged, NotUtf8, TooManyRows, MissingRowId, BadRowId, RepeatedRowId, then
-    /// the faults of its cells from left to right. Fails with Read where the reader failed, and with
-    /// Memory where memory is short.
+    /// The facts are in header order, row by row, in blocks of 1 to 256 facts. Threads of the scope
+    /// decode later pieces if they have places. The caller must be counted as at work
+    /// (`AtWork::start`): it rests while it waits for an answer. After the end or a fault, each
+    /// call answers the same and cuts nothing. For a reader whose bytes are known, the calls that
+    /// give blocks are at most one for each piece under way and each byte after them, and one more.
+    ///
+    /// After the facts of all earlier rows, fails with the first fault of the first bad row, in
+    /// this order: Ragged, NotUtf8, TooManyRows, MissingRowId, BadRowId, RepeatedRowId, then the
+    /// faults of its cells from left to right. Fails with Read if the reader failed, and with
+    /// Memory if memory runs out.
     #[tactic(auto, using(crate::proofs::Gives::piece_given, crate::proofs::Gives::short_given, crate::proofs::Gives::end_given, crate::proofs::Gives::fault_given, crate::proofs::Gives::again_ended, crate::proofs::Gives::again_failed, crate::proofs::Gives::end_kept, crate::proofs::Gives::given_kept, crate::proofs::Gives::none_given, crate::proofs::Gives::moved, crate::proofs::StepLaws::steps_fewer))]
     pub fn next_blocks<E, T: Threads + Wait + Sync + 'a>(
         &mut self,
@@ -119,7 +127,7 @@ impl<'a, R: Read + Drop> TablePieces<'a, R> {
         ensures kept { KeepsAnswer result self.new.answered }
         ensures again { IfSome self.old.answered (λ end. (result ≡ answer_at_end end) × (self.new ≡ self.old)) }
 
-        // The blocks are those of a piece, of which there is none without a byte, or the last.
+        // The blocks are those of a piece, which has a byte at least, or they are the last.
         ensures moves { IfOk result (λ o. OnSome o (IsSome self.new.answered ⊎ FewerSteps (steps_left self.old) (steps_left self.new))) }
 
         ensures same { self.new.table ≡ self.old.table }
@@ -128,54 +136,59 @@ impl<'a, R: Read + Drop> TablePieces<'a, R> {
             Some(end) => return answer_of(end),
             None => {}
         }
-        self.flight.go_ahead(scope, rt);
-        match self.flight.join_front(rt) {
+        self.pieces_under_way.cut_ahead(scope, rt);
+        match self.pieces_under_way.join_front(rt) {
             Some(joined) => self.give(rt, joined),
             None => {
-                let end = self.flight.end();
+                let end = self.pieces_under_way.end();
                 self.settled = Some(end);
                 answer_of(end)
             }
         }
     }
 
-    /// Notes whether what is given is wanted at once. Until it is, no thread decodes a piece, and each is decoded when it is asked for, so that
-    /// they take little memory.
+    /// Records whether the writer has reached the table.
+    ///
+    /// Before that, no helper thread decodes a piece, and each piece is decoded when it is asked
+    /// for, so that waiting tables take little memory.
     pub fn want(&mut self, is_wanted: bool)
         ensures { self.new ≡ self.old }
     {
-        self.flight.want(is_wanted);
+        self.pieces_under_way.want(is_wanted);
     }
 
-    /// Keeps the memory of a block that was written, for texts that are decoded later, or drops it where much is kept. Once the table is
-    /// written, its own blocks are to come in the order in which they were given.
-    pub fn keep_room<T: Wait>(&mut self, rt: &T, room: Vec<u8>)
+    /// Keeps the vector of a written block as a spare, or drops it if enough are kept.
+    ///
+    /// Once the writer has reached the table, its own blocks must return in the order they were
+    /// given.
+    pub fn keep_spare<T: Wait>(&mut self, rt: &T, spare: Vec<u8>)
         ensures { self.new ≡ self.old }
     {
-        self.flight.keep_room(rt, room);
+        self.pieces_under_way.keep_spare(rt, spare);
     }
 
-    /// Notes that the vectors of all blocks that were given but the last `left` have come back, so that those of these are known for theirs.
+    /// Records that the vectors of all given blocks have returned, except those of the last `left`.
+    /// The next vectors to return are then matched with the threads that wrote them.
     pub fn note_left(&mut self, left: usize)
         ensures { self.new ≡ self.old }
     {
-        self.flight.note_left(left);
+        self.pieces_under_way.note_left(left);
     }
 
-    /// How many vectors more are to be taken for the texts of the next pieces: all that came back, once the table is written. No
-    /// contract says so.
-    pub fn wanted_rooms(&self) -> usize {
-        self.flight.wanted_rooms()
+    /// Returns how many more spare vectors to take for the next pieces: every one that has
+    /// returned, once the writer has reached the table.
+    pub fn wanted_spares(&self) -> usize {
+        self.pieces_under_way.wanted_spares()
     }
 
-    /// Gives back the vectors whose memory was kept for texts.
-    pub fn free_rooms<T: Wait>(&mut self, rt: &T) -> Vec<Vec<u8>>
+    /// Returns all spare vectors for texts.
+    pub fn free_spares<T: Wait>(&mut self, rt: &T) -> Vec<Vec<u8>>
         ensures { self.new ≡ self.old }
     {
-        self.flight.free_rooms(rt)
+        self.pieces_under_way.free_spares(rt)
     }
 
-    /// The facts of a piece that was joined. Where it has a fault, the table is settled.
+    /// Returns the facts of a joined piece, and settles the table if the piece has a fault.
     fn give<T: Wait>(
         &mut self,
         rt: &T,
@@ -193,27 +206,27 @@ impl<'a, R: Read + Drop> TablePieces<'a, R> {
         }
         match joined.into_blocks(self.alloc) {
             Ok(blocks) => {
-                self.flight.expect(blocks.len());
+                self.pieces_under_way.expect(blocks.len());
                 Ok(Some(blocks))
             }
             Err(_) => {
-                let fault = whole_fault(self.flight.table(), TableKind::Memory);
+                let fault = whole_fault(self.pieces_under_way.table(), TableKind::Memory);
                 self.settle(rt, fault);
                 Err(fault)
             }
         }
     }
 
-    /// Settles the table with this fault. Nobody needs the pieces that are under way.
+    /// Settles the table with a fault, and drops the pieces under way.
     fn settle<T: Wait>(&mut self, rt: &T, fault: TableFault)
         ensures { (self.new.table ≡ self.old.table) × (self.new.left ≡ Some (ending (Some fault))) × (self.new.answered ≡ Some (Some fault)) }
     {
-        self.flight.drain(rt);
+        self.pieces_under_way.drain(rt);
         self.settled = Some(Some(fault));
     }
 }
 
-/// The answer of a settled table.
+/// Returns the answer of a settled table.
 fn answer_of(end: Option<TableFault>) -> Result<Option<Vec<Block>>, TableFault>
     ensures ok { IfOk result (λ o. IfNone o (end ≡ None) × IfSome o (λ _. ⊥)) }
     ensures err { IfErr result (λ e. end ≡ Some e) }

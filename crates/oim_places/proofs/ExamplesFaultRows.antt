@@ -1,4 +1,5 @@
--- Worked cases of the file of faults: its header, its records, and what stands at the place of a fault.
+-- Examples of the rules for the file of faults: its header, its records, and what is at the place
+-- of a fault.
 use Rattle.std.proofs.Common.{◌≡◌, ℕ, List, [], ◌∷◌, ◌++◌, Some, refl}
 use Rattle.std.specs.Prelude.{codes}
 use Rattle.std.specs.Fmt.{digits}
@@ -29,56 +30,57 @@ header : row_text default_writer fault_names ≡ codes "table,row,column,number,
 unfolding is_blank fields_text escaped
 header = refl
 
--- the third line of a file: the second row, whose first cell is no number
+-- The third line of a file: the second row, whose first cell is not a number.
 plain_record : row_text default_writer
     (fault_fields (codes "t1") (fault_at 0 2 1 (table.Cell cell.BadNumber)) (record { line = Some 3; header = codes "cash"; cell = codes "1x0" }))
     ≡ codes "t1,2,1,40,BadNumber,3,cash,1x0," ++ lf
 unfolding is_blank fields_text escaped digits
 plain_record = refl
 
--- a file that is not there
+-- A file that is not there.
 nothing_known : row_text default_writer (fault_fields (codes "t1") (fault_at 0 0 0 table.NoFile) unknown_place) ≡ codes "t1,0,0,20,NoFile,,,," ++ lf
 unfolding is_blank fields_text escaped digits
 nothing_known = refl
 
--- RFC 4180, section 2: a comma, a line feed and a quote call for quotes
+-- RFC 4180, section 2: a comma, a line feed and a quote call for quotes.
 quoted_fields : row_text default_writer
     (fault_fields (codes "t1") (fault_at 0 2 1 (table.Cell cell.BadNumber)) (record { line = Some 3; header = codes "a" ++ lf; cell = codes "1," ++ quote ++ codes "2" }))
     ≡ codes "t1,2,1,40,BadNumber,3," ++ quote ++ codes "a" ++ lf ++ quote ++ codes "," ++ quote ++ codes "1," ++ quote ++ quote ++ codes "2" ++ quote ++ codes "," ++ lf
 unfolding is_blank fields_text escaped digits
 quoted_fields = refl
 
--- a blank and a backslash do not
+-- A blank and a backslash do not.
 plain_fields : row_text default_writer (fault_fields (codes "t1") (fault_at 0 1 1 table.BadRowId) (record { line = Some 2; header = codes "k"; cell = codes " a\\b " }))
     ≡ codes "t1,1,1,29,BadRowId,2,k, a\\b ," ++ lf
 unfolding is_blank fields_text escaped digits
 plain_fields = refl
 
--- a dimension of the metadata that the types table does not have: its place is a JSON pointer, and what stands there is JSON
+-- A dimension of the metadata that the types table does not have. Its place is a JSON pointer, and
+-- what is there is JSON.
 of_the_metadata : row_text default_writer (report_fault_fields meta.BadDimension (codes "/dimensions/eg:Regoin") (quote ++ codes "eg:North" ++ quote))
     ≡ codes ",0,0,11,BadDimension,,," ++ quote ++ quote ++ quote ++ codes "eg:North" ++ quote ++ quote ++ quote ++ codes ",/dimensions/eg:Regoin" ++ lf
 unfolding is_blank fields_text escaped digits
 of_the_metadata = refl
 
--- a record of the types table
+-- A record of the types table.
 of_the_types : row_text default_writer (report_fault_fields meta.BadTypes (codes "t.csv, line 2, cell 3") (codes "integr"))
     ≡ codes ",0,0,14,BadTypes,,,integr," ++ quote ++ codes "t.csv, line 2, cell 3" ++ quote ++ lf
 unfolding is_blank fields_text escaped digits
 of_the_types = refl
 
--- ---- what stands at a place
+-- ---- what is at a place
 
--- é in Latin 1, a control character, a letter
+-- é in Latin 1, a control character, a letter.
 no_utf8 : as_text (233 ∷ 1 ∷ 122 ∷ []) ≡ codes "\\xe9\\x01z"
 unfolding is_utf8 chars encode
 no_utf8 = refl
 
--- é in UTF-8 and a control character
+-- é in UTF-8 and a control character.
 utf8 : as_text (195 ∷ 169 ∷ 1 ∷ []) ≡ 195 ∷ 169 ∷ 1 ∷ []
 unfolding is_utf8 chars encode
 utf8 = refl
 
--- a header, an empty line and two records
+-- A header, an empty line and two records.
 abbrev file : List ℕ
 file = codes "a,b" ++ lf ++ lf ++ codes "1,2" ++ lf ++ codes "3,4"
 
@@ -86,12 +88,12 @@ second_row : stands_at file 2 1 ≡ record { line = Some 4; header = codes "a"; 
 unfolding records_left records_from strip_bom next_record is_utf8 chars encode field_at
 second_row = refl
 
--- a fault of the header: no row has a cell there
+-- A fault of the header: no row has a cell there.
 of_the_header : stands_at file 0 2 ≡ record { line = Some 1; header = codes "b"; cell = [] }
 unfolding records_left records_from strip_bom next_record is_utf8 chars encode field_at
 of_the_header = refl
 
--- a fault of a whole row
+-- A fault of a whole row.
 of_a_row : stands_at file 1 0 ≡ record { line = Some 3; header = []; cell = [] }
 unfolding records_left records_from strip_bom next_record is_utf8 chars encode field_at
 of_a_row = refl

@@ -1,4 +1,5 @@
--- Worked cases of places in a table's file: which faults have none, and the text that names a line and a cell.
+-- Examples of the rules for places in a table's file: which faults have none, and the text that
+-- names a line and a cell.
 use Rattle.std.proofs.Common.{◌≡◌, true, false, ◌∷◌, ◌++◌, [], Some, None, refl}
 use Rattle.std.specs.Prelude.{codes}
 use Rattle.std.specs.Fmt.{digits}
@@ -11,7 +12,7 @@ use Rattle.oim_places.specs.FilePlaces.{cell_part, line_part, place_text}
 
 -- ---- faults of a file as a whole: 20, 21, 22, 42, 43
 
--- 20: there is no file
+-- 20: the file does not exist
 no_file : is_of_file table.NoFile ≡ true
 no_file = refl
 
@@ -19,7 +20,7 @@ no_file = refl
 unread : is_of_file table.Read ≡ true
 unread = refl
 
--- 22: the file has no record at all
+-- 22: the file has no record
 no_header : is_of_file table.NoHeader ≡ true
 no_header = refl
 
@@ -65,7 +66,7 @@ bad_row_id = refl
 repeated_row_id : is_of_file table.RepeatedRowId ≡ false
 repeated_row_id = refl
 
--- 40: the cell of a number is no numeral
+-- 40: the cell of a number is not a numeral
 cell_of_a_number : is_of_file (table.Cell cell.BadNumber) ≡ false
 cell_of_a_number = refl
 
@@ -75,16 +76,16 @@ too_many_rows = refl
 
 -- ---- the text of a place
 
--- the third line of a file
+-- The third line of a file.
 line_three : line_part (Some 3) ≡ codes ", line 3"
 unfolding digits
 line_three = refl
 
--- no line is known
+-- No line is known.
 no_line : line_part None ≡ []
 no_line = refl
 
--- the first cell of a record, at the place 0, is told as cell 1
+-- The first cell of a record, at place 0, is shown as cell 1.
 first_cell : cell_part (Some 0) ≡ codes ", cell 1"
 unfolding digits
 first_cell = refl
@@ -93,11 +94,11 @@ tenth_cell : cell_part (Some 9) ≡ codes ", cell 10"
 unfolding digits
 tenth_cell = refl
 
--- a fault of a whole record is in no cell
+-- A fault of a whole record is in no cell.
 no_cell : cell_part None ≡ []
 no_cell = refl
 
--- the greatest number of 64 bits is the last that is counted to
+-- The greatest number of 64 bits is the last that is counted to.
 last_number : cell_part (Some 18446744073709551614) ≡ codes ", cell 18446744073709551615"
 unfolding digits
 last_number = refl
@@ -106,27 +107,27 @@ behind_the_last_number : cell_part (Some 18446744073709551615) ≡ codes ", cell
 unfolding digits
 behind_the_last_number = refl
 
--- the second row, whose first cell is no number
+-- The second row, whose first cell is not a number.
 line_and_cell : place_text (codes "t1.csv") (Some 3) (Some 0) ≡ codes "t1.csv, line 3, cell 1"
 unfolding chars encode digits
 line_and_cell = refl
 
--- a record of another length than the header
+-- A record of another length than the header.
 line_alone : place_text (codes "q3/claims.csv") (Some 12) None ≡ codes "q3/claims.csv, line 12"
 unfolding chars encode digits
 line_alone = refl
 
--- the line cannot be found again
+-- The line cannot be found again.
 cell_alone : place_text (codes "t1.csv") None (Some 1) ≡ codes "t1.csv, cell 2"
 unfolding chars encode digits
 cell_alone = refl
 
--- neither is known
+-- Neither is known.
 file_alone : place_text (codes "t1.csv") None None ≡ codes "t1.csv"
 unfolding chars encode digits
 file_alone = refl
 
--- a path with a line feed in it stays on one line
+-- A path with a line feed in it stays on one line.
 path_of_two_lines : place_text (codes "a" ++ 10 ∷ codes "b") (Some 2) (Some 4) ≡ codes "a\\x0ab, line 2, cell 5"
 unfolding chars encode digits
 path_of_two_lines = refl

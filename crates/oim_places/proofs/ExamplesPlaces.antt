@@ -1,4 +1,5 @@
--- Worked cases of places: texts that are cut, JSON pointers, the lines of records, the files of a folder.
+-- Examples of the rules for places: texts that are cut, JSON pointers, the lines of records, the
+-- files of a folder.
 use Rattle.std.proofs.Common.{◌≡◌, List, ℕ, [], ◌∷◌, ◌++◌, Some, None, map, true, false, refl, replicate, ap, arith, inl, inr}
 use Rattle.std.specs.Prelude.{⊤, codes, if◌then◌else◌}
 use Rattle.std.specs.Str.{bytes_eq, chars}
@@ -16,7 +17,7 @@ use Rattle.oim_places.specs.LineNumbers.{IsLineOf, line_of_record}
 use Rattle.oim_places.specs.Pointers.{pointer_of}
 use Rattle.oim_places.specs.Shown.{excerpt_of, is_unseen, shown}
 
--- 80 characters are shown whole, of 81 two points stand for the last
+-- 80 characters are shown whole; of 81, two dots replace the last.
 eighty : excerpt_of (replicate 80 97) ≡ replicate 80 97
 unfolding chars encode
 eighty = refl
@@ -25,17 +26,17 @@ eighty_one : excerpt_of (replicate 81 97) ≡ replicate 80 97 ++ codes ".."
 unfolding chars encode
 eighty_one = refl
 
--- 81 letters of two bytes each are cut between letters
+-- 81 letters of two bytes each are cut between letters.
 letters_of_two_bytes : excerpt_of (195 ∷ 169 ∷ codes "" ++ replicate 79 97) ≡ 195 ∷ 169 ∷ replicate 79 97
 unfolding chars encode
 letters_of_two_bytes = refl
 
--- a line feed and the order to clear a terminal
+-- A line feed and the order to clear a terminal.
 control_characters : excerpt_of (codes "a" ++ 10 ∷ 27 ∷ codes "[2J") ≡ codes "a\\x0a\\x1b[2J"
 unfolding chars encode
 control_characters = refl
 
--- RFC 6901, section 5: the keys a/b, m~n, the empty key
+-- RFC 6901, section 5: the keys a/b, m~n, the empty key.
 slash : pointer_of (codes "a/b" ∷ []) ≡ codes "/a~1b"
 unfolding chars encode
 slash = refl
@@ -87,12 +88,12 @@ behind_lf_and_cr : line_of_record 1 (codes "a" ++ lf ++ cr ++ codes "1") ≡ Som
 unfolding strip_bom
 behind_lf_and_cr = refl
 
--- empty lines are no records, and are counted
+-- Empty lines are not records, and are counted.
 behind_empty_lines : line_of_record 1 (lf ++ codes "a" ++ cr ++ lf ++ cr ++ lf ++ lf ++ codes "1") ≡ Some 5
 unfolding strip_bom
 behind_empty_lines = refl
 
--- a line feed inside quotes ends a line and no record
+-- A line feed inside quotes ends a line and no record.
 quoted_line_feed : line_of_record 1 (quote ++ codes "a" ++ lf ++ codes "b" ++ quote ++ lf ++ codes "1") ≡ Some 3
 unfolding strip_bom
 quoted_line_feed = refl
@@ -101,7 +102,7 @@ doubled_quote : line_of_record 1 (quote ++ codes "a" ++ quote ++ quote ++ lf ++ 
 unfolding strip_bom
 doubled_quote = refl
 
--- a quote inside a field is a character, also behind the quotes of one
+-- A quote inside a field is a character, also after the closing quote.
 quote_in_a_field : line_of_record 1 (codes "a" ++ quote ++ lf ++ codes "1") ≡ Some 2
 unfolding strip_bom
 quote_in_a_field = refl
@@ -114,7 +115,7 @@ quote_behind_a_comma : line_of_record 1 (codes "a," ++ quote ++ lf ++ quote ++ l
 unfolding strip_bom
 quote_behind_a_comma = refl
 
--- a byte-order mark is passed over, so that the quote behind it begins a quoted field
+-- A byte-order mark is skipped, so that the quote after it begins a quoted field.
 behind_a_mark : line_of_record 1 (239 ∷ 187 ∷ 191 ∷ quote ++ lf ++ quote ++ lf ++ codes "1") ≡ Some 3
 unfolding strip_bom
 behind_a_mark = refl
@@ -123,7 +124,7 @@ no_such_record : line_of_record 2 (codes "a" ++ lf ++ codes "1" ++ lf) ≡ None
 unfolding strip_bom
 no_such_record = refl
 
--- a line that is told is that of the record, where there is one, and none may be told
+-- A line that is returned is that of the record, if the record exists. No line may be returned.
 line_told : IsLineOf 1 (codes "a" ++ lf ++ codes "1") (Some 2) × IsLineOf 1 (codes "a" ++ lf ++ codes "1") None × (IsLineOf 2 (codes "a" ++ lf ++ codes "1") (Some 2) → ⊥)
 unfolding strip_bom
 line_told = (refl, tt, λ h. absurd (cc h))
@@ -133,14 +134,15 @@ line_told = (refl, tt, λ h. absurd (cc h))
 abbrev folder : Files
 folder path = if bytes_eq path (codes "t.csv") then Some (codes "a") else None
 
--- what is found in a file is found where the file is there, and only there
+-- What is found in a file is found only if the file exists.
 found_in_the_file : FoundAt (Some folder) (codes "t.csv") (λ bytes. bytes ≡ codes "a")
 found_in_the_file = (codes "a", refl, refl)
 
 found_in_no_file : FoundAt (Some folder) (codes "u.csv") (λ _. ⊤) → ⊥
 found_in_no_file h = absurd (cc h.1)
 
--- what holds of a file holds where the file is there, and is nothing where it is not, or where the folder does not tell
+-- What holds of a file holds if the file exists. It is empty if the file does not exist or the
+-- folder's files are not known.
 holds_of_the_file : HoldsAt (Some folder) (codes "t.csv") (λ bytes. bytes ≡ codes "a") × HoldsAt (Some folder) (codes "u.csv") (λ _. ⊥) × HoldsAt None (codes "t.csv") (λ _. ⊥)
 holds_of_the_file = (refl, tt, tt)
 
@@ -149,7 +151,7 @@ holds_of_the_file = (refl, tt, tt)
 abbrev twice : TableFault
 twice = fault_at 0 2 1 kind.RepeatedRowId
 
--- reading a table may end by the fault of its stream, or by one from outside, and by no other
+-- Reading a table may end by the fault of its stream, or by one from outside, and by no other.
 fault_of_a_stream : EndsStream 0 (ending (Some twice)) twice × EndsStream 0 (ending (Some twice)) (file_fault 0 kind.Read) × (EndsStream 0 (ending None) twice → ⊥)
 fault_of_a_stream = (inr refl, inl (inl refl), none)
   where
@@ -158,20 +160,20 @@ fault_of_a_stream = (inr refl, inl (inl refl), none)
     none (inl (inr e)) = let numbers : 30 ≡ 42 = ap (λ (f : TableFault). number_of f.kind) e in absurd (omega (arith, numbers))
     none (inr e) = absurd (cc e)
 
--- a letter of two bytes, and U+00A1, which are seen
+-- A letter of two bytes, and U+00A1, which are visible.
 shown_letters : shown (codes "a \\ z" ++ 195 ∷ 169 ∷ 194 ∷ 161 ∷ []) ≡ codes "a \\ z" ++ 195 ∷ 169 ∷ 194 ∷ 161 ∷ []
 unfolding chars encode
 shown_letters = refl
 
--- a blank that is none, a byte-order mark and a change of direction, by their codes
+-- A no-break space, a byte-order mark and a change of direction, by their codes.
 shown_unseen : shown (codes "1" ++ 194 ∷ 160 ∷ codes "000" ++ 239 ∷ 187 ∷ 191 ∷ 226 ∷ 128 ∷ 174 ∷ []) ≡ codes "1\\u00a0000\\ufeff\\u202e"
 unfolding chars encode
 shown_unseen = refl
 
--- the first and the last of each run of characters that are not seen
+-- The first and the last of each run of characters that are not seen.
 unseen_characters : map is_unseen (160 ∷ 173 ∷ 1564 ∷ 5760 ∷ 6158 ∷ 8192 ∷ 8207 ∷ 8232 ∷ 8239 ∷ 8287 ∷ 8303 ∷ 12288 ∷ 65279 ∷ []) ≡ replicate 13 true
 unseen_characters = refl
 
--- those before and behind them
+-- Those before and after them.
 seen_characters : map is_unseen (32 ∷ 159 ∷ 161 ∷ 172 ∷ 174 ∷ 1563 ∷ 1565 ∷ 5759 ∷ 5761 ∷ 6157 ∷ 6159 ∷ 8191 ∷ 8208 ∷ 8231 ∷ 8240 ∷ 8286 ∷ 8304 ∷ 12287 ∷ 12289 ∷ 65278 ∷ 65280 ∷ []) ≡ replicate 21 false
 seen_characters = refl

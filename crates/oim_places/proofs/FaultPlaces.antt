@@ -1,4 +1,4 @@
--- The fault of a table whose file is read again, and what stands at its place.
+-- The fault of a table whose file is read again, and what is at its place.
 use Rattle.std.proofs.Common.{◌≡◌, ◌∙◌, ◌⊎◌, ℕ, zero, suc, List, [], ◌∷◌, Option, Some, None, Result, Ok, Err, IfOk, IfSome, true, false, ap, inl, inr, refl, subst, sym, unwrap_or}
 use Rattle.std.specs.Prelude.{⊤}
 use Rattle.csv.specs.Records.{fields_of}
@@ -21,7 +21,7 @@ use Rattle.oim_places.specs.declared.records.RowAgain.{RowAgain}
 
 -- ---- the fault
 
--- the stream that is left has the fault of this one, or one from outside the table
+-- The stream that is left has the fault of this one, or one from outside the table.
 abbrev pub IsFaultKept : ℕ → Stream → Option TableFault → Type 0
 IsFaultKept table s fault = (fault ≡ s.fault) ⊎ ((e : TableFault) × IsOutside table e × (fault ≡ Some e))
 
@@ -62,7 +62,7 @@ keeps_found table at (Some s) None after before pending e same keeps gives = abs
 keeps_found table at (Some s) (Some rest) after before pending e same keeps gives =
     found_after table s after e gives.answers.1 (keeps_reads table at s rest gives.rows after same keeps gives.reads)
 
--- the fault behind the blocks of a file that was opened
+-- The fault after the blocks of a file that was opened.
 pub found_behind : (report : ReportValue) (table at limit : ℕ) (known : Option (List ℕ)) (left : Option Stream) (o : Option TableFault) → at ≡ table → limit ≡ profile.rows
     → IfSome known (λ bytes. left ≡ Some (stream_of report table limit (grid bytes))) → IfSome left (λ s. IfSome o (EndsStream at s))
     → IfSome known (λ bytes. IfSome o (IsTableFault report table bytes))
@@ -83,7 +83,7 @@ header_found report table None e is = tt
 header_found report table (Some bytes) e (inl outside) = inl outside
 header_found report table (Some bytes) e (inr is) = inr (ap (λ (x : Stream). x.fault) (refused report table profile.rows (grid bytes) e is))
 
--- ---- what stands there
+-- ---- what is there
 
 row_is : (records : List Record) (number : ℕ) (row : Record) → IsRowAt records number row → row_or_empty records number ≡ row
 row_is records zero row is = sym is
@@ -118,7 +118,7 @@ place_found (Some files) path report f a p is found h c l =
       ),
     )
 
--- the same of an answer, where the folder's files are those before the record was read
+-- The same for an answer, if the folder's files are those before the record was read.
 pub places_found : {E : Type 0} (known before : Option Files) (path : List ℕ) (report : ReportValue) (f : TableFault) (found : Option RowAgain) (a : RowAgain) (r : Result FaultPlace E)
     → found ≡ Some a → is_of_file f.kind ≡ false → before ≡ known
     → IfSome found (λ a. FoundAt known path (HasRecordOf report f a))

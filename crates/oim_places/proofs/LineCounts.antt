@@ -7,7 +7,7 @@ use Rattle.oim_records.specs.PieceTaking.{StripsMark, TakesBytes}
 use Rattle.oim_places.specs.LineNumbers.{after_byte, counter_for, line_in, line_of_record}
 use Rattle.oim_places.specs.declared.line_number.LineCounter.{LineCounter}
 
--- the counter has passed the bytes of a file that are not left, behind its byte-order mark
+-- The counter has passed the bytes of a file that are not left, after its byte-order mark.
 abbrev pub CountsOn : ℕ → Option (List ℕ) → Option (List ℕ) → LineCounter → Type 0
 CountsOn number None left c = ⊤
 CountsOn number (Some bytes) None c = ⊥
@@ -29,7 +29,7 @@ counts_more number (Some bytes) (Some left) (Some after) piece c counts takes = 
   ap (λ (d : LineCounter). fold after_byte d piece) counts.2 ∙ sym (fold-append after_byte (counter_for number) counts.0 piece),
 )
 
--- once the record has begun nothing changes
+-- Once the record has begun nothing changes.
 stays : (c : LineCounter) (xs : List ℕ) → c.has_begun ≡ true → fold after_byte c xs ≡ c
 stays c [] e = refl
 stays c (x ∷ xs) e = ap (λ (d : LineCounter). fold after_byte d xs) (rw e refl) ∙ stays c xs e

@@ -15,7 +15,7 @@ use Rattle.oim_places.specs.declared.line_number.LineCounter.{LineCounter}
 use Rattle.oim_places.specs.declared.line_number.Spot.{Spot}
 use Rattle.oim_places.specs.declared.line_number.Spot.TheVariants.{Between, Start, Field as InField, Quoted, Quote}
 
--- what a counter keeps of the machine that reads records
+-- What a counter keeps of the machine that reads records.
 abbrev spot_of : State → Spot
 spot_of state.StartRecord = Between
 spot_of state.AfterCr = Between
@@ -26,7 +26,7 @@ spot_of state.AfterQuote = Quote
 spot_of state.InEscape = InField
 spot_of state.InComment = InField
 
--- the machine has neither escapes nor comments
+-- The machine has neither escapes nor comments.
 abbrev is_met : State → Bool
 is_met state.StartRecord = true
 is_met state.AfterCr = true
@@ -39,21 +39,21 @@ is_met state.InComment = false
 
 -- ---- what a byte does
 
--- inside a record, that goes on
+-- Inside a record, that goes on.
 record Inside (s : State) (b : ℕ) : Type 0 where
   begun : begins (spot_of s) b ≡ false
   old : is_between s ≡ false
   goes : is_end (step default_config s b).1 ≡ false
   new : is_between (step default_config s b).0 ≡ false
 
--- inside a record, that ends
+-- Inside a record, that ends.
 record Ends (s : State) (b : ℕ) : Type 0 where
   begun : begins (spot_of s) b ≡ false
   old : is_between s ≡ false
   goes : is_end (step default_config s b).1 ≡ true
   new : is_between (step default_config s b).0 ≡ true
 
--- between records, that it does not begin
+-- Between records, that it does not begin.
 record Blank (s : State) (b : ℕ) (fields : List Field) (field : Field) : Type 0 where
   begun : begins (spot_of s) b ≡ false
   old : is_between s ≡ true
@@ -61,7 +61,7 @@ record Blank (s : State) (b : ℕ) (fields : List Field) (field : Field) : Type 
   new : is_between (step default_config s b).0 ≡ true
   holds : Holds s fields field → Holds (step default_config s b).0 (fields_after (step default_config s b).1 fields field) (field_after (step default_config s b).1 b field)
 
--- between records, and begins one
+-- Between records, and begins one.
 record Starts (s : State) (b : ℕ) : Type 0 where
   begun : begins (spot_of s) b ≡ true
   old : is_between s ≡ true
@@ -74,7 +74,7 @@ record Moves (s : State) (b : ℕ) (fields : List Field) (field : Field) : Type 
   met : is_met (step default_config s b).0 ≡ true
   kind : Inside s b ⊎ (Ends s b ⊎ (Blank s b fields field ⊎ Starts s b))
 
--- a byte is a quote, a comma, CR, LF or another
+-- A byte is a quote, a comma, CR, LF or another.
 bytes : (P : ℕ → Type 0) (b : ℕ) → P 34 → P 44 → P 13 → P 10
     → ((b == 34) ≡ false → (b == 44) ≡ false → (b == 13) ≡ false → (b == 10) ≡ false → P b) → P b
 bytes P b quote comma cr lf other = at34 (b == 34) refl
@@ -164,7 +164,7 @@ moves state.AfterQuote b fields field met = bytes (λ b. Moves state.AfterQuote 
 
 -- ---- the counter
 
--- a counter at a line that looks for the record behind n others
+-- A counter at a line, searching the record after n others.
 abbrev counter : Spot → ℕ × Bool → ℕ → LineCounter
 counter spot at n = record { spot = spot; after_cr = at.1; line = at.0; before = n; has_begun = false }
 
@@ -184,7 +184,7 @@ one_less m = omega arith
 counts : (spot : Spot) (at : ℕ × Bool) (m b : ℕ) → begins spot b ≡ true → after_byte (counter spot at (suc m)) b ≡ counter (after_spot spot b) (next_line at b) m
 counts spot at m b e = rw (e, apart m, one_less m) refl
 
--- the counter that has found its record
+-- The counter that has found its record.
 abbrev found_at : Spot → ℕ × Bool → ℕ → LineCounter
 found_at spot at b = record { spot = after_spot spot b; after_cr = nat_eq b 13; line = at.0; before = 0; has_begun = true }
 
@@ -210,7 +210,7 @@ abbrev Found : ℕ × Bool → List ℕ → List Record → ℕ → Option ℕ �
 Found at xs records n None = length records ≤ n
 Found at xs records n (Some line) = Begins at xs records n line
 
--- one byte further on
+-- One byte further on.
 further : (at : ℕ × Bool) (b : ℕ) (xs : List ℕ) (records : List Record) (n : ℕ) (o : Option ℕ) → Found (next_line at b) xs records n o → Found at (b ∷ xs) records n o
 further at b xs records n None h = h
 further at b xs records n (Some line) h = record { front = b ∷ h.front; first = h.first; rest = h.rest; split = ap (λ (t : List ℕ). b ∷ t) h.split; text = h.text; left = h.left; counted = h.counted }
@@ -218,7 +218,7 @@ further at b xs records n (Some line) h = record { front = b ∷ h.front; first 
 abbrev no_records : List Record
 no_records = []
 
--- one record further on
+-- One record further on.
 behind : (at : ℕ × Bool) (xs : List ℕ) (records : List Record) (n : ℕ) (o : Option ℕ) → Found at xs (drop 1 records) n o → Found at xs records (suc n) o
 behind at xs [] n None h = omega arith
 behind at xs (x ∷ records) n None h = omega arith
@@ -229,7 +229,7 @@ behind at xs [] n (Some line) h = record { front = h.front; first = h.first; res
     none (suc n) = refl
 behind at xs (x ∷ records) n (Some line) h = record { front = h.front; first = h.first; rest = h.rest; split = h.split; text = h.text; left = h.left; counted = h.counted }
 
--- the records of which none has begun
+-- The records that have not begun.
 abbrev ahead : Bool → List Record → List Record
 ahead true records = records
 ahead false records = drop 1 records
@@ -249,7 +249,7 @@ at_end state.AfterQuote fields field n at = omega arith
 at_end state.InEscape fields field n at = omega arith
 at_end state.InComment fields field n at = omega arith
 
--- between records nothing is at hand
+-- Between records nothing is at hand.
 fresh : (s : State) (fields : List Field) (field : Field) (xs : List ℕ) → is_between s ≡ true → Holds s fields field
     → all_records s fields field xs ≡ records_left state.StartRecord xs
 fresh state.StartRecord fields field xs e h = rw (h.0, h.1) (sym (left-all state.StartRecord xs))
@@ -261,7 +261,7 @@ fresh state.AfterQuote fields field xs e h = cc e
 fresh state.InEscape fields field xs e h = cc e
 fresh state.InComment fields field xs e h = cc e
 
--- inside a record anything may be at hand
+-- Inside a record anything may be at hand.
 any : (s : State) (fields : List Field) (field : Field) → is_met s ≡ true → is_between s ≡ false → Holds s fields field
 any state.StartRecord fields field met e = cc e
 any state.AfterCr fields field met e = cc e
@@ -299,7 +299,7 @@ lines (b ∷ xs) s fields field n at met holds = by (λ t fs f m here is has. li
     p₁ : Field
     p₁ = field_after (step default_config s b).1 b field
 
-    -- the counter and the machine go on together
+    -- The counter and the machine go on together.
     on : (m : ℕ) (recs : List Record) → Moves s b fields field → after_byte (counter (spot_of s) at n) b ≡ counter (after_spot (spot_of s) b) (next_line at b) m
         → Found (next_line at b) xs recs m (line_in (fold after_byte (counter (spot_of s₁) (next_line at b) m) xs))
         → Found (next_line at b) xs recs m (line_in (fold after_byte (after_byte (counter (spot_of s) at n) b) xs))

@@ -9,11 +9,11 @@ use Rattle.oim_places.specs.FaultPlaces.{HasRow}
 use Rattle.oim_places.specs.state.FaultPlaces.{TakesNth}
 use Rattle.oim_places.specs.FaultRows.{IsRecordText}
 
--- a record of at least two fields, as it is written
+-- A record of at least two fields, as it is written.
 pub text_of_record : (x y : Field) (more : Record) (text : List ℕ) → text ≡ row_text default_writer (x ∷ y ∷ more) → IsRecordText (x ∷ y ∷ more) text
 text_of_record x y more text is = record { written = is; reads = λ later. rw is (read-write-many x y more later) }
 
--- these are left behind n records
+-- These records are left after the first n.
 abbrev pub Behind : Option (List Record) → ℕ → Option (List Record) → Type 0
 Behind all n left = IfSome all (λ records. left ≡ Some (drop n records))
 
@@ -42,13 +42,13 @@ pub behind_takes : (all left after : Option (List Record)) (n : ℕ) (r : Record
     → IfSome all (λ records. TakesNth records n r after)
 behind_takes all left after n r behind given = IfSome_then all behind (λ records is. takes_nth records n r left after is given)
 
--- the read behind n others says whether there is a record
+-- The read after n others returns whether a record follows.
 pub behind_answers : {E : Type 0} (all left after : Option (List Record)) (n : ℕ) (r : Record) (o : Result Bool E) → Behind all n left
     → IfOk o (λ found. found ≡ true → TakesRecord left true r after) → IfOk o (λ found. found ≡ true → IfSome all (λ records. TakesNth records n r after))
 behind_answers all left after n r (Ok found) behind given = λ yes. behind_takes all left after n r behind (given yes)
 behind_answers all left after n r (Err e) behind given = tt
 
--- the header alone
+-- Only the header.
 pub has_header : (records after : Option (List Record)) (h : Record) (number : ℕ) → number ≡ 0
     → IfSome records (λ left. TakesNth left 0 h after) → IfSome records (λ left. HasRow left number h [])
 has_header None after h number none first = tt
@@ -61,7 +61,7 @@ further : (records : List Record) (m : ℕ) (r : Record) → slice_get (drop 1 r
 further [] m r e = cc (sym (slice_get_past no_records m (omega arith)) ∙ e)
 further (x ∷ records) m r e = e
 
--- the header and a row behind it
+-- The header and a row after it.
 has_row : (records after last : Option (List Record)) (h r : Record) (number : ℕ) → 1 ≤ number
     → IfSome records (λ left. TakesNth left 0 h after) → IfSome after (λ left. TakesNth left (number - 1) r last) → IfSome records (λ left. HasRow left number h r)
 has_row None after last h r number some first second = tt
@@ -71,14 +71,14 @@ has_row (Some left) after last h r (suc m) some first second =
     let row : TakesNth (drop 1 left) (suc m - 1) r last = subst (λ o. IfSome o (λ left. TakesNth left (suc m - 1) r last)) first.1 second in
     (first.0, further left m r (ap (λ k. slice_get (drop 1 left) k) (sym one) ∙ row.0))
 
--- the read of the row says whether it is there
+-- The read of the row returns whether it exists.
 pub row_answers : {E : Type 0} (records after last : Option (List Record)) (h r : Record) (number : ℕ) (o : Result Bool E) → 1 ≤ number
     → IfSome records (λ left. TakesNth left 0 h after) → IfOk o (λ found. found ≡ true → IfSome after (λ left. TakesNth left (number - 1) r last))
     → IfOk o (λ found. found ≡ true → IfSome records (λ left. HasRow left number h r))
 row_answers records after last h r number (Ok found) some first second = λ yes. has_row records after last h r number some first (second yes)
 row_answers records after last h r number (Err e) some first second = tt
 
--- the same of all records of a file
+-- The same of all records of a file.
 pub rows_of_file : {E : Type 0} (told : Option (List ℕ)) (records : Option (List Record)) (h r : Record) (number : ℕ) (o : Result Bool E) → records ≡ option_map grid told
     → IfOk o (λ found. found ≡ true → IfSome records (λ left. HasRow left number h r))
     → IfOk o (λ found. found ≡ true → IfSome told (λ bytes. HasRow (grid bytes) number h r))

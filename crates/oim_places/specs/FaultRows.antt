@@ -1,5 +1,5 @@
--- The file of faults: a header, and a record of nine fields for each fault. A field stands in quotes where it needs them (RFC 4180, section 2), and LF ends
--- each record.
+-- The file of faults: a header, and a record of nine fields for each fault. A field is in quotes if
+-- it needs them (RFC 4180, section 2), and LF ends each record.
 use Rattle.std.specs.Prelude.{◌≡◌, ℕ, List, [], ◌∷◌, ◌++◌, Option, Some, None, codes}
 use Rattle.std.specs.Fmt.{decimal}
 use Rattle.csv.specs.Machine.{next_record}
@@ -13,30 +13,32 @@ use Rattle.oim_rows.specs.FaultNames.{name_of, number_of}
 use Rattle.oim_rows.specs.declared.fault.TableFault.{TableFault}
 use Rattle.oim_places.specs.declared.fault_places.FaultPlace.{FaultPlace}
 
--- what the fields are
+-- What the fields are.
 abbrev pub fault_names : Record
 fault_names = codes "table" ∷ codes "row" ∷ codes "column" ∷ codes "number" ∷ codes "name" ∷ codes "line" ∷ codes "header" ∷ codes "cell" ∷ codes "place" ∷ []
 
--- a line's number, and nothing where it is not known
+-- A line's number, or nothing if it is not known.
 abbrev pub line_field : Option ℕ → Field
 line_field None = []
 line_field (Some line) = decimal line
 
--- the fields of a fault of the table with this identifier, at whose place this stands: row, line and column say the place
+-- The fields of a fault of the table with this identifier: row, line and column give its place, and
+-- `p` what is there.
 abbrev pub fault_fields : List ℕ → TableFault → FaultPlace → Record
 fault_fields id f p =
     id ∷ decimal f.row ∷ decimal f.column ∷ decimal (number_of f.kind) ∷ name_of f.kind ∷ line_field p.line ∷ p.header ∷ p.cell ∷ [] ∷ []
 
--- the fields of a fault of the metadata, the types table or the parameters file, which has no table, row or column: its place is a text, and so is what stands there
+-- The fields of a fault of the metadata, the types table or the parameters file. It has no table,
+-- row or column: its place and what is there are texts.
 abbrev pub report_fault_fields : MetaFault → List ℕ → List ℕ → Record
 report_fault_fields f place found =
     [] ∷ decimal 0 ∷ decimal 0 ∷ decimal (fault_number f) ∷ fault_name f ∷ [] ∷ [] ∷ found ∷ place ∷ []
 
--- the text is read as a record of these fields, whatever comes behind it
+-- The text is read as a record of these fields, whatever follows it.
 abbrev pub ReadsAs : List ℕ → Record → Type 0
 ReadsAs text fields = (later : List ℕ) → next_record default_config state.StartRecord [] [] (text ++ later) ≡ Some (fields, state.StartRecord, later)
 
--- the text that is written for a record, and that is read as it
+-- The text that is written for a record, and that is read as it.
 pub record IsRecordText (fields : Record) (text : List ℕ) : Type 0 where
   pub written : text ≡ row_text default_writer fields
   pub reads : ReadsAs text fields

@@ -17,7 +17,7 @@ use std::alloc::{AllocError, Global};
 /// How many bytes are shown of a cell that is not UTF-8.
 const MOST_BYTES: usize = 80;
 
-/// The cell of a record at a place, if it is text.
+/// Returns the cell of a record at a place, if it is text.
 pub fn text_at(row: &ByteRecord, place: usize) -> Option<&str>
     ensures { option_map (λ t. t.now) result ≡ text_field (fields_of row.now) place }
 {
@@ -30,8 +30,8 @@ pub fn text_at(row: &ByteRecord, place: usize) -> Option<&str>
     }
 }
 
-/// Puts a byte of a cell that is not UTF-8 behind a text: as `\x` and its two hexadecimal digits, unless it is a
-/// character of ASCII that is shown.
+/// Appends a byte of a cell that is not UTF-8: as itself if it is a printable ASCII character, else
+/// as `\x` and its two hexadecimal digits.
 fn put_byte(out: &mut String, byte: u8) -> Result<(), AllocError>
     ensures { IfOk result (λ u. string_bytes out.new ≡ string_bytes out.old ++ byte_shown byte) }
 {
@@ -42,7 +42,7 @@ fn put_byte(out: &mut String, byte: u8) -> Result<(), AllocError>
     }
 }
 
-/// The whole of a field that is not UTF-8, each byte as it is shown.
+/// Returns the whole of a field that is not UTF-8, each byte as it is shown.
 fn all_bytes(alloc: Global, field: &[u8]) -> Result<String, AllocError>
     ensures { IfOk result (λ s. string_bytes s ≡ flat_map byte_shown field.now) }
 {
@@ -53,7 +53,7 @@ fn all_bytes(alloc: Global, field: &[u8]) -> Result<String, AllocError>
     Ok(out)
 }
 
-/// The beginning of a field that is not UTF-8, each byte as it is shown, and two points if there are more.
+/// Returns the beginning of a field that is not UTF-8, with two dots if there is more.
 fn bytes_excerpt(alloc: Global, field: &[u8]) -> Result<String, AllocError>
     ensures { IfOk result (λ s. string_bytes s ≡ spec.bytes_excerpt field.now) }
 {
@@ -65,7 +65,7 @@ fn bytes_excerpt(alloc: Global, field: &[u8]) -> Result<String, AllocError>
     Ok(out)
 }
 
-/// The whole of a field as a text, without a cut: itself, or if it is not UTF-8 each of its bytes as it is shown.
+/// Returns a whole field as a text. If it is not UTF-8, each byte is shown as `put_byte` does.
 fn field_text(alloc: Global, field: &[u8]) -> Result<Text, AllocError>
     ensures { IfOk result (λ t. t ≡ as_text field.now) }
 {
@@ -75,7 +75,7 @@ fn field_text(alloc: Global, field: &[u8]) -> Result<Text, AllocError>
     }
 }
 
-/// The field of a record at a place; the empty one if there is none.
+/// Returns the field of a record at a place, or the empty field if it does not exist.
 fn field_of(row: &ByteRecord, place: Option<usize>) -> &[u8]
     ensures { result.now ≡ places.field_of (fields_of row.now) place }
 {
@@ -88,7 +88,7 @@ fn field_of(row: &ByteRecord, place: Option<usize>) -> &[u8]
     }
 }
 
-/// The field of a record at a place, as a text; the empty text if there is none.
+/// Returns the field of a record at a place, as a text, or the empty text if it does not exist.
 pub(crate) fn field_as_text(
     alloc: Global,
     row: &ByteRecord,
@@ -99,7 +99,7 @@ pub(crate) fn field_as_text(
     field_text(alloc, field_of(row, place))
 }
 
-/// The beginning of a field: its first 80 characters, or if it is not UTF-8 bytes.
+/// Returns the beginning of a field: its first 80 characters, or if it is not UTF-8 bytes.
 fn field_excerpt(alloc: Global, field: &[u8]) -> Result<String, AllocError>
     ensures { IfOk result (λ s. string_bytes s ≡ spec.field_excerpt field.now) }
 {
@@ -109,7 +109,7 @@ fn field_excerpt(alloc: Global, field: &[u8]) -> Result<String, AllocError>
     }
 }
 
-/// What stands in the cell of a record at a place, in quotes and cut. Fails if memory runs out.
+/// Returns what is in the cell of a record at a place, in quotes and cut.
 pub fn cell_shown(alloc: Global, row: &ByteRecord, place: usize) -> Result<String, AllocError>
     ensures { IfOk result (λ s. string_bytes s ≡ cell_text (field_at (fields_of row.now) place)) }
 {
@@ -119,7 +119,7 @@ pub fn cell_shown(alloc: Global, row: &ByteRecord, place: usize) -> Result<Strin
     }
 }
 
-/// What stands in a record as a whole: how many cells it has. Fails if memory runs out.
+/// Returns what a record has as a whole: how many cells.
 pub fn record_shown(alloc: Global, row: &ByteRecord) -> Result<String, AllocError>
     ensures { IfOk result (λ s. string_bytes s ≡ record_text (fields_of row.now)) }
 {

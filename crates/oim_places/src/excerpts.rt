@@ -10,8 +10,8 @@ use std::alloc::{AllocError, Global};
 /// How many characters of a text are shown.
 const MOST_CHARACTERS: usize = 80;
 
-/// The first 80 characters of a text, those that are not seen by their codes, as `shown` has them, and two
-/// points behind them if the text is longer. Fails if memory runs out.
+/// Returns the first 80 characters of a text, shown as `shown` does, and two dots after them if the
+/// text is longer.
 pub fn excerpt(alloc: Global, text: &str) -> Result<String, AllocError>
     ensures { IfOk result (λ s. string_bytes s ≡ excerpt_of text.now) }
 {
@@ -28,7 +28,7 @@ pub fn excerpt(alloc: Global, text: &str) -> Result<String, AllocError>
     Ok(out)
 }
 
-/// A text between quotes.
+/// Returns a text between quotes.
 pub(crate) fn in_quotes(alloc: Global, text: &str) -> Result<String, AllocError>
     ensures { IfOk result (λ s. string_bytes s ≡ spec.in_quotes text.now) }
 {

@@ -1,4 +1,4 @@
-//! What stands at the place of a fault of a table, whose file is read again.
+//! What is at the place of a table's fault, for which the table's file is read again.
 
 ghost use Rattle.std.specs.Prelude.{◌≡◌, ◌⊎◌, ◌<◌, IfOk, IfSome, false, length, string_bytes, true};
 ghost use Rattle.csv.specs.Records.{fields_of};
@@ -19,19 +19,19 @@ use oim_rows::{TableFault, TableKind};
 use std::alloc::{AllocError, Global};
 use std::io::Read;
 
-/// What stands at the place of a fault of a table.
+/// What is at the place of a table's fault.
 #[derive(Drop)]
 pub struct FaultPlace {
     /// The line of the table's file at which the fault's record begins, if it is known.
     pub line: Option<u64>,
-    /// The header's cell of the fault's column, empty if there is none.
+    /// The header's cell of the fault's column, empty if it does not exist.
     pub header: Text,
-    /// The row's cell in the fault's column, empty if there is none.
+    /// The row's cell in the fault's column, empty if it does not exist.
     pub cell: Text,
 }
 
 impl FaultPlace {
-    /// A place of which nothing is known. Fails if memory runs out.
+    /// Returns a place without any knowledge.
     pub fn unknown(alloc: Global) -> Result<FaultPlace, AllocError>
         ensures { IfOk result (λ p. p ≡ unknown_place) }
     {
@@ -43,7 +43,7 @@ impl FaultPlace {
     }
 }
 
-/// The place in a record that a fault names, if it names one.
+/// Returns the place in a record that a fault names, if it names one.
 pub fn place_in_record(fault: &TableFault) -> Option<usize>
     ensures { result ≡ column_place (fault.now).column }
 {
@@ -53,7 +53,7 @@ pub fn place_in_record(fault: &TableFault) -> Option<usize>
     }
 }
 
-/// Whether a table, whose file is read again, has this fault first.
+/// Returns whether a table, whose file is read again, has this fault first.
 fn has_fault<R: Read + Drop>(alloc: Global, report: &Report, fault: &TableFault, reader: R) -> bool
     requires { (fault.now).table < length report.now.tables }
     ensures { result ≡ true → IfSome (R.remaining reader) (λ bytes. IsTableFault report.now (fault.now).table bytes fault.now) }
@@ -64,7 +64,7 @@ fn has_fault<R: Read + Drop>(alloc: Global, report: &Report, fault: &TableFault,
     }
 }
 
-/// A reader of the file at a path, if its table still has the fault.
+/// Returns a reader of the file at a path, if its table still has the fault.
 fn with_fault<R: Read + Drop, F: Folder<R>>(
     alloc: Global,
     folder: &mut F,
@@ -86,7 +86,7 @@ fn with_fault<R: Read + Drop, F: Folder<R>>(
     }
 }
 
-/// The record of a fault, if the file still has the fault.
+/// Returns the record of a fault, if the file still has the fault.
 pub fn record_again<R: Read + Drop, F: Folder<R>>(
     alloc: Global,
     folder: &mut F,
@@ -104,7 +104,7 @@ pub fn record_again<R: Read + Drop, F: Folder<R>>(
     }
 }
 
-/// Whether a fault is of a file as a whole, of which nothing more can be said.
+/// Returns whether a fault is of a file as a whole, without a place in it.
 pub fn is_of_file(kind: TableKind) -> bool
     ensures { result ≡ spec.is_of_file kind }
 {
@@ -118,7 +118,7 @@ pub fn is_of_file(kind: TableKind) -> bool
     )
 }
 
-/// The path of the file of a table of the report whose metadata is at this path.
+/// Returns the path of the file of a table of the report whose metadata is at this path.
 pub fn table_path(
     alloc: Global,
     meta: &str,
@@ -131,7 +131,7 @@ pub fn table_path(
     path_in(alloc, folder_of(meta), report.table_url(table))
 }
 
-/// What stands in a record at the place of a fault, which is read again.
+/// Returns what is in a record at the place of a fault.
 fn place_again<R: Read + Drop, F: Folder<R>>(
     alloc: Global,
     folder: &mut F,
@@ -153,7 +153,8 @@ fn place_again<R: Read + Drop, F: Folder<R>>(
     })
 }
 
-/// What stands at the place of a fault in the table's file at this path, if it still has the fault.
+/// Returns what is at the place of a fault in the table's file at this path, if it still has the
+/// fault.
 fn place_at<R: Read + Drop, F: Folder<R>>(
     alloc: Global,
     folder: &mut F,
@@ -172,10 +173,12 @@ fn place_at<R: Read + Drop, F: Folder<R>>(
     }
 }
 
-/// What stands at the place of a fault of a table of this report, whose metadata is at this path and whose file is read
-/// again. Nothing is known of it where the report has no such table, the fault is of the whole file, or the file does not have
-/// it any more or cannot be read again. Where a place is known, over a folder that tells its files, the file has the fault
-/// there. The line alone may not be known either. Fails if memory runs out.
+/// Returns what is at the place of a fault of a table of this report, whose metadata is at `meta`.
+/// The table's file is read again.
+///
+/// Nothing is known if the report has no such table, if the fault is of the whole file, or if the
+/// file cannot be read again or no longer has the fault. If a place is known, over a folder whose
+/// files are known, the file has the fault there. The line may be unknown even then.
 pub fn fault_place<R: Read + Drop, F: Folder<R>>(
     alloc: Global,
     meta: &str,

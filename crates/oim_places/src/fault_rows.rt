@@ -13,14 +13,14 @@ use oim_meta::MetaFault;
 use oim_rows::TableFault;
 use std::alloc::{AllocError, Global};
 
-/// The first record of the file: the names of the fields, with its line feed.
+/// Returns the first record of the file: the names of the fields, with its line feed.
 pub fn fault_header() -> &'static str
     ensures { IsRecordText fault_names result.now }
 {
     "table,row,column,number,name,line,header,cell,place\n"
 }
 
-/// The text of a record.
+/// Returns the text of a record.
 fn record_text(alloc: Global, row: &ByteRecord) -> Result<Vec<u8>, AllocError>
     ensures { IfOk result (λ v. v.items ≡ row_text default_writer (fields_of row.now)) }
 {
@@ -34,7 +34,7 @@ fn record_text(alloc: Global, row: &ByteRecord) -> Result<Vec<u8>, AllocError>
     }
 }
 
-/// Puts a number's decimal digits behind the fields of a record.
+/// Appends a number in decimal digits to the fields of a record.
 fn put_number(alloc: Global, row: &mut ByteRecord, number: u64) -> Result<(), AllocError>
     requires { partial_of row.old ≡ [] }
     ensures { IfOk result (λ u. PutsField row.old row.new (decimal number)) }
@@ -43,7 +43,7 @@ fn put_number(alloc: Global, row: &mut ByteRecord, number: u64) -> Result<(), Al
     row.push_field(digits.as_bytes())
 }
 
-/// Puts a line's number behind the fields of a record, and an empty field if it is not known.
+/// Appends a line's number to the fields of a record, or an empty field if it is not known.
 fn put_line(alloc: Global, row: &mut ByteRecord, line: Option<u64>) -> Result<(), AllocError>
     requires { partial_of row.old ≡ [] }
     ensures { IfOk result (λ u. PutsField row.old row.new (line_field line)) }
@@ -98,10 +98,12 @@ fn put_report_fields(
     row.push_field(place.as_bytes())
 }
 
-/// The record of the file for a fault of the table with this identifier, at whose place this stands: the
-/// table's identifier, the row, the column, the fault's number and name, the line, the header's cell, the
-/// row's cell and an empty field, with its line feed. Commas separate fields, and one that has a comma, a quote,
-/// CR or LF stands in quotes, where a quote is doubled (RFC 4180). Fails if memory runs out.
+/// Returns the record of a table's fault: the table's identifier, the row, the column, the fault's
+/// number and name, the line, the header's cell, the row's cell and an empty field, with a line
+/// feed.
+///
+/// Commas separate fields. A field with a comma, a quote, CR or LF is in quotes, and a quote in it
+/// is doubled (RFC 4180).
 pub fn fault_row(
     alloc: Global,
     id: &str,
@@ -115,9 +117,9 @@ pub fn fault_row(
     record_text(alloc, &row)
 }
 
-/// The record of the file for a fault of the metadata, the types table or the parameters file, which is at this place
-/// and where this stands: an empty field, 0 and 0 for table, row and column, the fault's number and name, two empty
-/// fields, what stands there and the place, with its line feed, as `fault_row` writes them. Fails if memory runs out.
+/// Returns the record of a fault of the metadata, the types table or the parameters file: an empty
+/// field, 0 and 0 for table, row and column, the fault's number and name, two empty fields, what is
+/// at the place, and the place, with a line feed. It is written as `fault_row` writes it.
 pub fn report_fault_row(
     alloc: Global,
     fault: MetaFault,

@@ -11,7 +11,7 @@ use oim_files::Folder;
 use std::alloc::{AllocError, Global};
 use std::io::Read;
 
-/// What a text says with a cell behind it, which is counted from 1.
+/// Returns a text with a cell after it, which is counted from 1.
 fn with_cell(alloc: Global, text: &str, place: Option<usize>) -> Result<String, AllocError>
     ensures { IfOk result (λ s. string_bytes s ≡ text.now ++ cell_part place) }
 {
@@ -24,7 +24,7 @@ fn with_cell(alloc: Global, text: &str, place: Option<usize>) -> Result<String, 
     }
 }
 
-/// What a path says with a line behind it, and a cell of its record.
+/// Returns a path with a line after it, and a cell of its record.
 fn with_line(
     alloc: Global,
     path: &str,
@@ -42,7 +42,7 @@ fn with_line(
     }
 }
 
-/// The place of a cell or a record in a file, at this line if it is known.
+/// Returns the place of a cell or a record in a file, at this line if it is known.
 pub fn place_in_file(
     alloc: Global,
     path: &str,
@@ -55,8 +55,8 @@ pub fn place_in_file(
     with_line(alloc, path.as_str(), line, place)
 }
 
-/// The line of a file at which a record begins. `None` if there is no such record, the file cannot be read
-/// again, or memory runs out.
+/// Returns the line of a file at which a record begins. Returns `None` if the record does not
+/// exist, the file cannot be read again, or memory runs out.
 pub fn line_again<R: Read + Drop, F: Folder<R>>(
     alloc: Global,
     folder: &mut F,

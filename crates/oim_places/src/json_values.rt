@@ -1,4 +1,4 @@
-//! What stands at a place of a JSON value.
+//! What is at a place of a JSON value.
 
 ghost use Rattle.std.specs.Prelude.{◌≡◌, IfOk, string_bytes};
 ghost use Rattle.oim_places.specs.Shown.{excerpt_of, in_quotes};
@@ -7,25 +7,25 @@ use crate::excerpts::{excerpt, in_quotes};
 use serde_json::Value;
 use std::alloc::{AllocError, Global};
 
-/// A text in quotes, cut. Fails if memory runs out.
+/// Returns a text in quotes, cut.
 pub fn quoted(alloc: Global, text: &str) -> Result<String, AllocError>
     ensures { IfOk result (λ s. string_bytes s ≡ in_quotes (excerpt_of text.now)) }
 {
     in_quotes(alloc, excerpt(alloc, text)?.as_str())
 }
 
-/// What a number, a truth value or null is in JSON, cut.
+/// Returns what a number, a truth value or null is in JSON, cut.
 fn plain(alloc: Global, value: &Value) -> Result<String, AllocError> {
     excerpt(alloc, value.to_string(alloc)?.as_str())
 }
 
-/// A list or an object by its size.
+/// Returns a list or an object by its size.
 fn counted(alloc: Global, what: &str, count: usize) -> Result<String, AllocError> {
     format!(in alloc; "({what} of {count})")
 }
 
-/// What stands at a place: a text in quotes, a list or an object by its size, anything else as it is in
-/// JSON. Fails if memory runs out.
+/// Returns what is at a place: a text in quotes, the size of a list or an object, and anything else
+/// as JSON writes it.
 pub fn standing(alloc: Global, value: Option<&Value>) -> Result<String, AllocError> {
     match value {
         None => String::from_str(alloc, "(nothing)"),

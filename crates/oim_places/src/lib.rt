@@ -1,28 +1,32 @@
-//! Places in the files of a report, which are read again: where the fault of a table is, what stands there, and the record of it
-//! in the file of faults. Places and what stands at them are texts that a terminal can be shown.
+//! Places in the files of a report, which are read again: where the fault of a table is, what is
+//! there, and its record in the file of faults. Places and what is at them are texts that are safe
+//! to show on a terminal.
 //!
 //! What is proved:
 //!
-//! - over a folder that tells its files, `fault_place` names a place in a table's file only if the file has that fault, its
-//!   first, by the definition of the table's stream: the line of the fault's record, if that is known, and the cells of the header and of the row in its
-//!   column (`specs/FaultPlaces.antt`). So does `record_again`, which gives that record and the header;
+//! - over a folder whose files are known, `fault_place` names a place in a table's file only if the
+//!   file's first fault is that fault, by the definition of the table's stream. It gives the line
+//!   of the fault's record, if that is known, and the cells of the header and of the row in its
+//!   column (`specs/FaultPlaces.antt`). The same holds for `record_again`, which gives that record
+//!   and the header;
 //! - `report_again` gives the report that the files give (`specs/Reports.antt`);
-//! - the line of a record (`line_of_record`), which `line_again` gives, is that of its first byte (`lines_are_of_records`,
-//!   `specs/LineNumbers.antt`);
-//! - `fault_row` and `report_fault_row` give the record of a fault in the file of faults, which is read as its nine fields
-//!   whatever comes behind it (`specs/FaultRows.antt`);
-//! - `shown` gives a text with an escape for each control character, and `excerpt` its first 80 characters
-//!   (`specs/Shown.antt`); `pointer` gives the JSON pointer of keys (`specs/Pointers.antt`), `place_in_file` the text of a
-//!   line and a cell (`specs/FilePlaces.antt`), `cell_shown` and `record_shown` what stands in a cell and in a whole
+//! - the line of a record (`line_of_record`), which `line_again` gives, is that of its first byte
+//!   (`lines_are_of_records`, `specs/LineNumbers.antt`);
+//! - `fault_row` and `report_fault_row` give the record of a fault in the file of faults. It is
+//!   read as its nine fields, whatever follows it (`specs/FaultRows.antt`);
+//! - `shown` gives a text with an escape for each control character, and `excerpt` its first 80
+//!   characters (`specs/Shown.antt`). `pointer` gives the JSON pointer of keys
+//!   (`specs/Pointers.antt`), `place_in_file` the text of a line and a cell
+//!   (`specs/FilePlaces.antt`), `cell_shown` and `record_shown` what is in a cell and in a whole
 //!   record (`specs/Cells.antt`).
 //!
-//! What only tests show: what `standing` says of a JSON value, the part of a JSON text that `part_at` finds, and that
-//! `first_record_with` finds the first record.
+//! Not proved: the text of `standing` for a JSON value, the part of a JSON text that `part_at`
+//! finds, and that `first_record_with` finds the first record. Tests cover them.
 //!
-//! A call:
+//! A call, which returns whether the fault of a table's first row is in line 2 of its file, at a
+//! cell `x` under the header `cash`:
 //!
 //! ```
-//! /// Whether the fault of a table's first row is in the second line of its file, which has `x` under `cash` there.
 //! fn finds_the_cell(
 //!     alloc: Global,
 //!     folder: &mut Texts<'_>,
@@ -60,6 +64,6 @@ pub use json_values::{quoted, standing};
 pub use line_number::lines_are_of_records;
 pub use parts::part_at;
 pub use pointers::{pointer, pointer_to};
-pub use records::{RowAgain, first_record_with, next_record};
+pub use records::{RowAgain, first_record_with};
 pub use reread::{ReportAgain, report_again};
 pub use terminal::shown;

@@ -9,25 +9,25 @@ use oim_records::PieceReader;
 use std::alloc::Global;
 use std::io::Read;
 
-/// Where the next byte of a file of records stands.
+/// Where the next byte of a file of records is.
 #[derive(Clone, Copy)]
 pub(crate) enum Spot {
     /// Between records: the next byte begins one, unless it ends a line.
     Between,
-    /// At the start of a field behind a comma.
+    /// At the start of a field after a comma.
     Start,
-    /// In a field without quotes, or behind the quotes of one.
+    /// In a field without quotes, or after the closing quote of one.
     Field,
     /// Inside quotes.
     Quoted,
-    /// Behind a quote inside quotes, which ends them or is doubled.
+    /// After a quote inside quotes, which ends them or is doubled.
     Quote,
 }
 
 /// Counts lines until the record that is looked for begins.
 #[derive(Clone, Copy)]
 pub(crate) struct LineCounter {
-    /// Where the next byte stands.
+    /// Where the next byte is.
     spot: Spot,
     /// Whether the byte before it is a CR, so that an LF here ends no further line.
     after_cr: bool,
@@ -39,14 +39,14 @@ pub(crate) struct LineCounter {
     has_begun: bool,
 }
 
-/// Whether a byte ends a line: LF, CR.
+/// Returns whether a byte ends a line: LF, CR.
 fn is_end(byte: u8) -> bool
     ensures { result ≡ ends_line byte }
 {
     byte == b'\n' || byte == b'\r'
 }
 
-/// Where the byte behind this one stands, which is no quote and outside of quotes.
+/// Returns where the byte after this one is. This one is not a quote, and is outside of quotes.
 fn after_plain(byte: u8) -> Spot
     ensures { result ≡ spec.after_plain byte }
 {
@@ -59,7 +59,7 @@ fn after_plain(byte: u8) -> Spot
     }
 }
 
-/// Where the byte behind a quote stands.
+/// Returns where the byte after a quote is.
 fn after_quote(spot: Spot) -> Spot
     ensures { result ≡ spec.after_quote spot }
 {
@@ -70,7 +70,7 @@ fn after_quote(spot: Spot) -> Spot
     }
 }
 
-/// Where the byte behind this one stands.
+/// Returns where the byte after this one is.
 fn after(spot: Spot, byte: u8) -> Spot
     ensures { result ≡ after_spot spot byte }
 {
@@ -83,7 +83,7 @@ fn after(spot: Spot, byte: u8) -> Spot
     }
 }
 
-/// Whether a record begins with this byte.
+/// Returns whether a record begins with this byte.
 fn begins(spot: Spot, byte: u8) -> bool
     ensures { result ≡ spec.begins spot byte }
 {
@@ -107,7 +107,7 @@ impl LineCounter {
         }
     }
 
-    /// The line of the byte behind this one.
+    /// Returns the line of the byte after this one.
     fn line_after(self, byte: u8) -> u64
         ensures { result ≡ spec.line_after self byte }
     {
@@ -118,7 +118,7 @@ impl LineCounter {
         }
     }
 
-    /// The counter behind one more byte, before the record begins.
+    /// Returns the counter after one more byte, before the record begins.
     fn moved(self, byte: u8) -> LineCounter
         ensures { result ≡ spec.one_byte_on self byte }
     {
@@ -135,7 +135,7 @@ impl LineCounter {
         }
     }
 
-    /// The counter behind one more byte.
+    /// Returns the counter after one more byte.
     fn next(self, byte: u8) -> LineCounter
         ensures { result ≡ after_byte self byte }
     {
@@ -155,7 +155,7 @@ impl LineCounter {
         }
     }
 
-    /// The line at which the record begins, if it has begun.
+    /// Returns the line at which the record begins, if it has begun.
     pub(crate) fn line(&self) -> Option<u64>
         ensures { result ≡ spec.line_in self.now }
     {
@@ -170,8 +170,8 @@ impl LineCounter {
 /// How many bytes of a file are looked at once, or some thousand more, up to the end of a record.
 const PIECE: usize = 65_536;
 
-/// The line at which the record with this number begins, the header being 0. `None` if there is no such
-/// record, the reader fails, or memory runs out.
+/// Returns the line at which the record with this number begins. The header has number 0. Returns
+/// `None` if the record does not exist, the reader fails, or memory runs out.
 pub(crate) fn line_of<R: Read + Drop>(alloc: Global, reader: R, number: usize) -> Option<u64>
     ensures { IfSome (R.remaining reader) (λ bytes. IsLineOf number bytes result) }
 {
@@ -192,9 +192,10 @@ pub(crate) fn line_of<R: Read + Drop>(alloc: Global, reader: R, number: usize) -
     None
 }
 
-/// The line of a record (`line_of_record`) is that of its first byte: behind the bytes before it, which end the lines
-/// before it, the file's text has the records that are left from this one on. A number without a line is that of
-/// no record. The call does nothing.
+/// Proves that the line of a record (`line_of_record`) is that of its first byte.
+///
+/// After the bytes before it, which end the lines before it, the file's text has the records that
+/// are left from this one on. A number without a line belongs to no record. The call does nothing.
 pub fn lines_are_of_records()
     ensures { spec.LineLaw }
 {}

@@ -1,10 +1,10 @@
-//! The text of a part of a JSON text, which is found without making values of the members beside it.
+//! The text of a part of a JSON text, found without building values of the other members.
 
 use oim_names::Text;
 use serde_json::Value;
 use std::alloc::{AllocError, Global};
 
-/// The bytes of a JSON text behind a byte-order mark, if there is one.
+/// Returns the bytes of a JSON text after its byte-order mark, if it has one.
 pub(crate) fn after_mark(bytes: &[u8]) -> &[u8] {
     bytes.strip_prefix(b"\xef\xbb\xbf").unwrap_or(bytes)
 }
@@ -16,17 +16,17 @@ struct Members {
     depth: usize,
     /// Whether the next byte is inside a text.
     in_text: bool,
-    /// Whether it stands behind a backslash there.
+    /// Whether it follows a backslash there.
     is_escaped: bool,
-    /// Where the last text begins that is no part of a member's value.
+    /// Where the last text begins that is not part of a member's value.
     name: usize,
-    /// Where the value of the member begins that is passed, if it has the name that is looked for.
+    /// Where the value of the current member begins, if it has the name that is searched.
     value: Option<usize>,
-    /// From where to where the value of the last such member goes.
+    /// The range of the value of the last such member.
     found: Option<(usize, usize)>,
 }
 
-/// Whether a text between quotes, with blanks behind it, is the name.
+/// Returns whether a text in quotes, perhaps with blanks after it, is the name.
 fn is_name(alloc: Global, text: &[u8], name: &str) -> Result<bool, AllocError> {
     match Value::from_slice(alloc, text) {
         Ok(value) => Ok(value.as_str() == Some(name)),
@@ -35,7 +35,7 @@ fn is_name(alloc: Global, text: &[u8], name: &str) -> Result<bool, AllocError> {
     }
 }
 
-/// The bytes from one place to another.
+/// Returns the bytes from one place to another.
 fn between(text: &[u8], from: usize, to: usize) -> &[u8] {
     if from <= to && to <= text.len() {
         &text[from..to]
@@ -75,7 +75,7 @@ impl Members {
         }
     }
 
-    /// Passes a byte outside of texts which is no colon.
+    /// Passes a byte outside of texts that is not a colon.
     fn pass_outside(&mut self, at: usize, byte: u8) {
         match byte {
             b'"' => {
@@ -97,8 +97,8 @@ impl Members {
     }
 }
 
-/// The text of the last member of an object that has this name. `None` if there is none, or the text is of no
-/// object. Fails if memory runs out.
+/// Returns the text of the last member of an object with this name. Returns `None` if no member has
+/// it, or the text is not an object.
 fn member<'t>(alloc: Global, text: &'t [u8], name: &str) -> Result<Option<&'t [u8]>, AllocError> {
     let mut members = Members::new();
     for (at, byte) in text.iter().enumerate() {
@@ -121,8 +121,8 @@ fn member<'t>(alloc: Global, text: &'t [u8], name: &str) -> Result<Option<&'t [u
     }
 }
 
-/// The text of the part of a JSON text, which may have a byte-order mark, to which keys lead from object to object.
-/// `None` if there is no such part. Fails if memory runs out.
+/// Returns the text of the part of a JSON text to which the keys lead from object to object, or
+/// `None` if it does not exist. The text may begin with a byte-order mark.
 pub fn part_at<'t>(
     alloc: Global,
     text: &'t [u8],

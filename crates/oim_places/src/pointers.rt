@@ -7,7 +7,7 @@ use crate::terminal::put_text;
 use oim_names::Text;
 use std::alloc::{AllocError, Global};
 
-/// Puts a key behind a pointer.
+/// Appends a key to a pointer.
 fn put_key(out: &mut String, key: &str) -> Result<(), AllocError>
     ensures { IfOk result (λ u. string_bytes out.new ≡ string_bytes out.old ++ pointer_key key.now) }
 {
@@ -15,7 +15,7 @@ fn put_key(out: &mut String, key: &str) -> Result<(), AllocError>
     put_text(out, key, true)
 }
 
-/// The same pointer for keys of which no list of texts is at hand.
+/// Returns the same pointer for keys that are borrowed strings.
 pub fn pointer_to(alloc: Global, keys: &[&str]) -> Result<String, AllocError>
     ensures { IfOk result (λ s. string_bytes s ≡ pointer_of (map (λ k. k.now) keys.now)) }
 {
@@ -26,8 +26,8 @@ pub fn pointer_to(alloc: Global, keys: &[&str]) -> Result<String, AllocError>
     Ok(out)
 }
 
-/// The JSON pointer (RFC 6901) to which these keys lead, with each control character as `\x` and its two
-/// hexadecimal digits, so that it is one line. Fails if memory runs out.
+/// Returns the JSON pointer (RFC 6901) of these keys, with each control character as `\x` and its
+/// two hexadecimal digits, so that it is one line.
 pub fn pointer(alloc: Global, keys: &[Text]) -> Result<String, AllocError>
     ensures { IfOk result (λ s. string_bytes s ≡ pointer_of keys.now) }
 {

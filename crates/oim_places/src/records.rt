@@ -14,11 +14,8 @@ use oim_rows::TableFault;
 use std::alloc::{AllocError, Global};
 use std::io::Read;
 
-/// Reads the next record, and says whether there is one. A reader that fails has none.
-pub fn next_record<R: Read>(
-    records: &mut Records<R>,
-    row: &mut ByteRecord,
-) -> Result<bool, AllocError>
+/// Reads the next record, and returns whether it exists. A reader that fails has none.
+fn next_record<R: Read>(records: &mut Records<R>, row: &mut ByteRecord) -> Result<bool, AllocError>
     ensures { IfOk result (λ found. found ≡ true → TakesRecord records.old true (fields_of row.new) records.new) }
 {
     match records.read(row) {
@@ -33,11 +30,11 @@ pub fn next_record<R: Read>(
 pub struct RowAgain {
     /// The header.
     pub header: ByteRecord,
-    /// The record, which is empty where the header itself was asked for.
+    /// The record, which is empty if the header itself was asked for.
     pub row: ByteRecord,
 }
 
-/// Reads the record that stands so many places behind the next one, and says whether it is there.
+/// Reads the record `before` places after the next one, and returns whether it exists.
 fn read_nth<R: Read>(
     records: &mut Records<R>,
     row: &mut ByteRecord,
@@ -53,8 +50,8 @@ fn read_nth<R: Read>(
     next_record(records, row)
 }
 
-/// Reads the next record as the header and the one with this number behind it, which stays empty for the header itself, and says
-/// whether it is there.
+/// Reads the next record as the header, and the one with this number, which stays empty for the
+/// header itself. Returns whether they exist.
 fn read_row<R: Read>(
     records: &mut Records<R>,
     again: &mut RowAgain,
@@ -86,8 +83,8 @@ fn read_file<R: Read + Drop>(
     read_row(&mut records, again, number)
 }
 
-/// The header of a file and the record with this number, which is empty for the header itself. `None` if there
-/// is no such record, or the reader fails.
+/// Returns the header of a file and the record with this number, which is empty for the header
+/// itself. Returns `None` if the record does not exist or the reader fails.
 pub(crate) fn row_again<R: Read + Drop>(
     alloc: Global,
     reader: R,
@@ -106,7 +103,8 @@ pub(crate) fn row_again<R: Read + Drop>(
     }
 }
 
-/// The number of the first of these records behind their header that has this text at a place.
+/// Returns the number of the first of these records after their header that has this text at a
+/// place.
 fn number_with<R: Read>(
     records: &mut Records<R>,
     row: &mut ByteRecord,
@@ -125,7 +123,8 @@ fn number_with<R: Read>(
     Ok(None)
 }
 
-/// The number of the first record behind the header that has this text at a place. `None` if there is none.
+/// Returns the number of the first record after the header that has this text at a place, or
+/// `None`.
 pub fn first_record_with<R: Read + Drop>(
     alloc: Global,
     reader: R,
@@ -137,18 +136,19 @@ pub fn first_record_with<R: Read + Drop>(
     number_with(&mut records, &mut row, place, text)
 }
 
-/// The fault behind the blocks of a table that are left. `None` if none is found; the clause speaks of a fault alone.
+/// Returns the fault after the remaining blocks of a table, or `None` if none is found. The
+/// contract only speaks of a fault.
 fn fault_behind<R: Read + Drop>(
     alloc: Global,
     blocks: &mut TableBlocks<'_, R>,
 ) -> Option<TableFault>
     ensures { IfSome blocks.old.left (λ s. IfSome result (EndsStream blocks.old.table s)) }
 {
-    let mut room = Vec::new(alloc);
+    let mut spare = Vec::new(alloc);
     // The bound is never reached: a table has fewer blocks.
     for _ in 0..u64::MAX {
-        match blocks.next_block(room) {
-            Ok(Some(block)) => room = block.into_room(),
+        match blocks.next_block(spare) {
+            Ok(Some(block)) => spare = block.into_spare(),
             Ok(None) => return None,
             Err(fault) => return Some(fault),
         }
@@ -156,7 +156,8 @@ fn fault_behind<R: Read + Drop>(
     None
 }
 
-/// The first fault of a table, whose file is read again. `None` if none is found; the clause speaks of a fault alone.
+/// Returns the first fault of a table, whose file is read again, or `None` if none is found. The
+/// contract only speaks of a fault.
 pub(crate) fn fault_again<R: Read + Drop>(
     alloc: Global,
     report: &Report,

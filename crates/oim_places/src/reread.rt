@@ -1,4 +1,6 @@
 //! The report of a run, read again.
+//!
+//! Not proved: `ReportAgain::metadata`, and the early fault that `report_again` returns.
 
 ghost use Rattle.std.specs.Prelude.{◌≡◌, IfOk, IfSome};
 ghost use Rattle.oim_places.specs.Reports.{IsReportOf};
@@ -10,7 +12,7 @@ use serde_json::Value;
 use std::alloc::Global;
 use std::io::Read;
 
-/// The value to which keys lead, if there is one.
+/// Returns the value to which keys lead, if it exists.
 fn value_under<'v>(value: &'v Value, keys: &[&str]) -> Option<&'v Value> {
     let mut here = value;
     for key in keys {
@@ -26,11 +28,11 @@ fn value_under<'v>(value: &'v Value, keys: &[&str]) -> Option<&'v Value> {
 pub struct ReportAgain {
     /// The report.
     pub report: Report,
-    /// What its metadata file has; no clause says so.
+    /// The value in its metadata file.
     pub metadata: Value,
 }
 
-// By hand, so that who lets one go elsewhere makes one call.
+// Written by hand so that dropping one elsewhere compiles to a single call.
 impl Drop for ReportAgain {
     fn drop(self) {
         let Self {
@@ -41,13 +43,13 @@ impl Drop for ReportAgain {
 }
 
 impl ReportAgain {
-    /// What stands at a place of the metadata to which these keys lead.
+    /// Returns what is at the place of the metadata to which these keys lead.
     pub fn written_at(&self, keys: &[&str]) -> Option<&Value> {
         value_under(&self.metadata, keys)
     }
 }
 
-/// The value that a metadata of these bytes is, as it is written.
+/// Returns the value that a metadata of these bytes is, as it is written.
 fn value_of(alloc: Global, bytes: &[u8]) -> Result<Value, EarlyFault> {
     match Value::from_slice(alloc, after_mark(bytes)) {
         Ok(value) => Ok(value),
@@ -56,7 +58,7 @@ fn value_of(alloc: Global, bytes: &[u8]) -> Result<Value, EarlyFault> {
     }
 }
 
-/// The metadata of a run as it is written.
+/// Returns the metadata of a run as it is written.
 fn metadata_again<R: Read + Drop, F: Folder<R>>(
     alloc: Global,
     path: &str,
@@ -70,7 +72,7 @@ fn metadata_again<R: Read + Drop, F: Folder<R>>(
     }
 }
 
-/// The report, whose metadata is this value.
+/// Returns the report, whose metadata is this value.
 fn with_metadata<R: Read + Drop, F: Folder<R>>(
     alloc: Global,
     meta: &str,
@@ -87,8 +89,8 @@ fn with_metadata<R: Read + Drop, F: Folder<R>>(
     }
 }
 
-/// The report whose metadata and types table are at these paths, read again. May fail with an early
-/// fault, which names the file: no clause says with which.
+/// Reads the report whose metadata and types table are at these paths again. May fail with an early
+/// fault, which names the file.
 pub fn report_again<R: Read + Drop, F: Folder<R>>(
     alloc: Global,
     meta: &str,

@@ -1,4 +1,5 @@
-//! Texts of files and words as a terminal is shown them: control characters, and blanks and marks that nobody sees, by their codes.
+//! Texts of files and of arguments as a terminal shows them: control characters, special blanks and
+//! invisible marks by their codes.
 
 ghost use Rattle.std.specs.Prelude.{◌≡◌, ◌<◌, ◌++◌, IfOk, chars, flat_map, string_bytes};
 ghost use Rattle.oim_places.specs.Pointers.{pointer_char};
@@ -8,7 +9,7 @@ ghost use Rattle.oim_places.specs.Shown.{escape_of, hex_digit, is_unseen, long_e
 use oim_names::Text;
 use std::alloc::{AllocError, Global};
 
-/// The hexadecimal digit of a number.
+/// Returns the hexadecimal digit of a number.
 fn digit(n: u32) -> char
     requires { n < 16 }
     ensures { result ≡ hex_digit n }
@@ -19,7 +20,7 @@ fn digit(n: u32) -> char
     }
 }
 
-/// Puts a control character behind a text, as `\x` and two hexadecimal digits.
+/// Appends a control character, as `\x` and two hexadecimal digits.
 pub(crate) fn put_control(out: &mut String, c: char) -> Result<(), AllocError>
     requires { c < 256 }
     ensures { IfOk result (λ u. string_bytes out.new ≡ string_bytes out.old ++ escape_of c) }
@@ -30,7 +31,7 @@ pub(crate) fn put_control(out: &mut String, c: char) -> Result<(), AllocError>
     out.push(digit(code % 16))
 }
 
-/// Puts a character that is not seen behind a text, as `\u` and four hexadecimal digits.
+/// Appends an invisible character, as `\u` and four hexadecimal digits.
 fn put_unseen(out: &mut String, c: char) -> Result<(), AllocError>
     ensures { IfOk result (λ u. string_bytes out.new ≡ string_bytes out.old ++ long_escape_of c) }
 {
@@ -42,7 +43,7 @@ fn put_unseen(out: &mut String, c: char) -> Result<(), AllocError>
     out.push(digit(code % 16))
 }
 
-/// Whether a character looks like a blank and is none, or is not seen at all.
+/// Returns whether a character resembles a blank or is invisible.
 fn is_unseen(c: char) -> bool
     ensures { result ≡ is_unseen c }
 {
@@ -61,7 +62,7 @@ fn is_unseen(c: char) -> bool
     )
 }
 
-/// Puts a character behind a text, as a terminal is shown it.
+/// Appends a character as a terminal shows it.
 pub(crate) fn put_shown(out: &mut String, c: char) -> Result<(), AllocError>
     ensures { IfOk result (λ u. string_bytes out.new ≡ string_bytes out.old ++ shown_char c) }
 {
@@ -74,7 +75,7 @@ pub(crate) fn put_shown(out: &mut String, c: char) -> Result<(), AllocError>
     }
 }
 
-/// Puts a character of a JSON pointer's key behind a text.
+/// Appends a character of a JSON pointer's key.
 fn put_char(out: &mut String, c: char) -> Result<(), AllocError>
     ensures { IfOk result (λ u. string_bytes out.new ≡ string_bytes out.old ++ pointer_char c) }
 {
@@ -85,7 +86,7 @@ fn put_char(out: &mut String, c: char) -> Result<(), AllocError>
     }
 }
 
-/// Puts the characters of a text behind another, as those of a JSON pointer's key or as a terminal is shown them.
+/// Appends the characters of a text, as those of a JSON pointer's key or as a terminal shows them.
 pub(crate) fn put_text(out: &mut String, text: &str, is_key: bool) -> Result<(), AllocError>
     ensures { IfOk result (λ u. string_bytes out.new ≡ string_bytes out.old ++ flat_map (char_of is_key) (chars text.now)) }
 {
@@ -99,9 +100,9 @@ pub(crate) fn put_text(out: &mut String, text: &str, is_key: bool) -> Result<(),
     Ok(())
 }
 
-/// A text with each control character (U+0000 to U+001F, U+007F to U+009F) as `\x` and its two hexadecimal digits, and each
-/// that looks like a blank or is not seen (no-break blank, byte-order mark, change of direction) as `\u` and four. Fails if
-/// memory runs out.
+/// Returns a text with each control character (U+0000 to U+001F, U+007F to U+009F) as `\x` and its
+/// two hexadecimal digits, and each special blank or invisible mark (no-break space, byte-order
+/// mark, change of direction) as `\u` and four.
 pub fn shown(alloc: Global, text: &str) -> Result<Text, AllocError>
     ensures { IfOk result (λ t. t ≡ shown text.now) }
 {

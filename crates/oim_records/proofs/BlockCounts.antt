@@ -1,4 +1,4 @@
--- The rows and the cut behind a block, by the mask of the ends of its lines.
+-- The rows and the cut after a block, by the mask of its line ends.
 use Rattle.std.proofs.Common.{◌≡◌, ℕ, zero, suc, ◌+◌, ◌-◌, ◌*◌, ◌^◌, ◌<◌, ◌≤◌, Bool, true, false, cond, List, [], ◌∷◌, length, refl, sym, ap, subst, ◌∙◌, arith, pow-suc}
 use Rattle.std.specs.Prelude.{if◌then◌else◌}
 use Rattle.std.specs.Int.RustNames.{count_ones}
@@ -9,7 +9,7 @@ use Rattle.std.specs.Int.Count.{count_leading_zeros}
 use Rattle.std.proofs.lemmas.Simd.{ones-mask_l_cons}
 use Rattle.oim_records.specs.state.Blocks.{block_scanned, but, cut_behind, cut_rows_behind, firsts, rows_behind}
 use Rattle.oim_records.specs.state.Places.{is_between}
-use Rattle.oim_records.specs.declared.place.Place.{Place}
+use Rattle.oim_records.specs.declared.csv_state.CsvState.{CsvState}
 use Rattle.oim_records.specs.declared.scan.Scan.{Scan}
 
 pub rows-counted : (rows : ℕ) (before : Bool) (es : List Bool) → rows_behind rows before es ≡ rows + count_ones (mask_l (firsts before es))
@@ -19,7 +19,7 @@ rows-counted rows before (e ∷ es) =
     let all = ones-mask_l_cons (but e before) (firsts e es) in
     rows-counted (rows + (if but e before then 1 else 0)) e es ∙ omega arith
 
--- no line ends
+-- No line ends.
 abbrev Stands : ℕ → ℕ → ℕ → ℕ → Bool → List Bool → Type 0
 Stands cut seen cut_rows rows before es = (rows_behind rows before es ≡ rows) × (cut_behind cut seen es ≡ cut) × (cut_rows_behind cut_rows rows before es ≡ cut_rows)
 
@@ -35,7 +35,7 @@ no-end cut seen cut_rows rows before (false ∷ es) none =
     let same : rows + 0 ≡ rows = omega arith in
     (more.0 ∙ same, more.1, more.2)
 
--- the last end of a line ends the last record
+-- The last line end ends the last record.
 pub rows-at-cut : (cut_rows rows : ℕ) (before : Bool) (es : List Bool) → 0 < mask_l es → cut_rows_behind cut_rows rows before es ≡ rows_behind rows before es
 unfolding rows_behind cut_rows_behind
 rows-at-cut cut_rows rows before [] some = absurd (omega arith)
@@ -52,7 +52,7 @@ halved : (e : Bool) (j m : ℕ) → 2 ^ suc j ≤ cond e 1 0 + 2 * m → cond e 
 halved true j m low high = (omega (arith, pow-suc 2 j), omega (arith, pow-suc 2 (suc j), pow-suc 2 j))
 halved false j m low high = (omega (arith, pow-suc 2 j), omega (arith, pow-suc 2 (suc j), pow-suc 2 j))
 
--- the cut is behind the highest bit
+-- The cut is after the highest bit.
 pub cut-at : (cut seen j : ℕ) (es : List Bool) → 2 ^ j ≤ mask_l es → mask_l es < 2 ^ suc j → cut_behind cut seen es ≡ seen + suc j
 unfolding cut_behind
 cut-at cut seen j [] low high = absurd (omega (arith, one-le-pow j 2))
@@ -68,16 +68,16 @@ cut-at cut seen j (e ∷ es) low high = at e j (mask_l es) refl low high (λ i. 
     at e zero (suc m) some low high rest = absurd (omega arith)
     at e (suc j) (suc m) some low high rest = let half = halved e j (mask_l es) low high in rest j half.0 half.1 ∙ omega arith
 
--- the scan behind a block in which no line ends outside quotes
-pub block-none : (s : Scan) (p : Place) (es : List Bool) (ends rows : ℕ) → length es ≡ 64 → ends ≡ mask_l es → ends ≡ 0 → rows ≡ count_ones (mask_l (firsts (is_between s.place) es))
+-- The scan after a block in which no line ends outside quotes.
+pub block-none : (s : Scan) (p : CsvState) (es : List Bool) (ends rows : ℕ) → length es ≡ 64 → ends ≡ mask_l es → ends ≡ 0 → rows ≡ count_ones (mask_l (firsts (is_between s.place) es))
     → ◌≡◌ {A = Scan} (record { place = p; seen = s.seen + 64; rows = s.rows + rows; cut = s.cut; cut_rows = s.cut_rows }) (block_scanned s p es)
 block-none s p es ends rows long is none counted =
     let stands = no-end s.cut s.seen s.cut_rows s.rows (is_between s.place) es (sym is ∙ none) in
     let all : rows_behind s.rows (is_between s.place) es ≡ s.rows + rows = rows-counted s.rows (is_between s.place) es ∙ ap (λ n. s.rows + n) (sym counted) in
     rw (long, all, stands.1, stands.2) refl
 
--- and behind one in which some do
-pub block-some : (s : Scan) (p : Place) (es : List Bool) (ends rows before : ℕ) → length es ≡ 64 → ends ≡ mask_l es → 0 < ends → ends < 2 ^ 64
+-- The scan after a block in which some do.
+pub block-some : (s : Scan) (p : CsvState) (es : List Bool) (ends rows before : ℕ) → length es ≡ 64 → ends ≡ mask_l es → 0 < ends → ends < 2 ^ 64
     → rows ≡ count_ones (mask_l (firsts (is_between s.place) es)) → before ≡ count_leading_zeros 64 ends
     → ◌≡◌ {A = Scan} (record { place = p; seen = s.seen + 64; rows = s.rows + rows; cut = s.seen + 64 - before; cut_rows = s.rows + rows }) (block_scanned s p es)
 block-some s p es ends rows before long is some small counted leads =

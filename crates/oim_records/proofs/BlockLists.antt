@@ -5,7 +5,7 @@ use Rattle.oim_records.specs.state.Bits.{differ}
 use Rattle.oim_records.specs.state.Blocks.{but, firsts, is_opener, led}
 use Rattle.oim_records.specs.Lines.{ends_line}
 use Rattle.oim_records.specs.state.Bytes.{is_quote}
-use Rattle.oim_records.specs.declared.place.Place.{Place}
+use Rattle.oim_records.specs.declared.csv_state.CsvState.{CsvState}
 use Rattle.oim_records.proofs.BlockWalks.{insides, led_behind, line_ends, strays}
 
 pub first-at : (before : Bool) (es : List Bool) (k : ℕ) → get_or (firsts before es) k false ≡ but (get_or es k false) (get_or (before ∷ es) k false)
@@ -42,8 +42,8 @@ unfolding firsts
 length-firsts before [] = refl
 length-firsts before (e ∷ es) = ap suc (length-firsts e es)
 
--- only the last byte tells where a block leads
-pub led-last : (p : Place) (inside : Bool) (xs : List ℕ) (n : ℕ) → length xs ≡ suc n → led_behind p inside xs ≡ led (get_or (insides inside xs) n false) (get_or xs n 0)
+-- The place after a block depends only on its last byte.
+pub led-last : (p : CsvState) (inside : Bool) (xs : List ℕ) (n : ℕ) → length xs ≡ suc n → led_behind p inside xs ≡ led (get_or (insides inside xs) n false) (get_or xs n 0)
 unfolding led_behind insides
 led-last p inside [] n long = absurd (omega arith)
 led-last p inside (c ∷ []) zero long = refl
@@ -51,7 +51,7 @@ led-last p inside (c ∷ []) (suc n) long = absurd (omega arith)
 led-last p inside (c ∷ d ∷ xs) zero long = absurd (omega arith)
 led-last p inside (c ∷ d ∷ xs) (suc n) long = led-last (led (differ inside (is_quote c)) c) (differ inside (is_quote c)) (d ∷ xs) n (omega arith)
 
--- what is inside quotes changes at each quote
+-- Each quote toggles whether the bytes are inside quotes.
 pub inside-along : (inside : Bool) (xs : List ℕ) (f q : ℕ → Bool) → ((k : ℕ) → k < length xs → q k ≡ is_quote (get_or xs k 0))
     → (0 < length xs → f 0 ≡ differ inside (q 0)) → ((k : ℕ) → suc k < length xs → f (suc k) ≡ differ (f k) (q (suc k)))
     → (k : ℕ) → k < length xs → f k ≡ get_or (insides inside xs) k false

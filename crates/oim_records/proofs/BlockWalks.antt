@@ -1,4 +1,4 @@
--- A scan of a block by which of its bytes stand inside quotes.
+-- A scan of a block by which of its bytes are inside quotes.
 use Rattle.std.proofs.Common.{◌≡◌, ℕ, ◌+◌, ◌*◌, ◌⊎◌, inl, inr, Bool, true, false, cond, List, [], ◌∷◌, length, refl, sym, ap, subst, ◌∙◌, arith, add-zero}
 use Rattle.std.specs.Prelude.{◌==◌, ◌&&◌}
 use Rattle.std.specs.Simd.Lanes.{mask_l}
@@ -8,34 +8,34 @@ use Rattle.oim_records.specs.state.Blocks.{block_scanned, but, cut_behind, cut_r
 use Rattle.oim_records.specs.Lines.{ends_line}
 use Rattle.oim_records.specs.state.Bytes.{is_quote}
 use Rattle.oim_records.specs.state.Places.{ends_record, is_between, place_after}
-use Rattle.oim_records.specs.state.Runs.{is_quoted}
+use Rattle.oim_records.specs.state.Places.{is_quoted}
 use Rattle.oim_records.specs.state.Scans.{scan_after, scanned}
-use Rattle.oim_records.specs.declared.place.Place.{Place}
-use Rattle.oim_records.specs.declared.place.Place.TheVariants as place
+use Rattle.oim_records.specs.declared.csv_state.CsvState.{CsvState}
+use Rattle.oim_records.specs.declared.csv_state.CsvState.TheVariants as place
 use Rattle.oim_records.specs.declared.scan.Scan.{Scan}
 
--- whether a scan stands inside quotes behind each byte
+-- Whether a scan is inside quotes after each byte.
 unfoldable pub insides : Bool → List ℕ → List Bool
 insides inside [] = []
 insides inside (c ∷ xs) = differ inside (is_quote c) ∷ insides (differ inside (is_quote c)) xs
 
--- which bytes end a line outside quotes
+-- The bytes that end a line outside quotes.
 unfoldable pub line_ends : Bool → List ℕ → List Bool
 line_ends inside [] = []
 line_ends inside (c ∷ xs) = but (ends_line c) (differ inside (is_quote c)) ∷ line_ends (differ inside (is_quote c)) xs
 
--- which bytes are a quote that would open quotes where none can
+-- The quotes that would open quotes where a quote cannot.
 unfoldable pub strays : Bool → Bool → List ℕ → List Bool
 strays inside ready [] = []
 strays inside ready (c ∷ xs) = but (is_quote c && differ inside (is_quote c)) ready ∷ strays (differ inside (is_quote c)) (is_opener c) xs
 
--- where the bytes lead
-unfoldable pub led_behind : Place → Bool → List ℕ → Place
+-- The place after these bytes.
+unfoldable pub led_behind : CsvState → Bool → List ℕ → CsvState
 led_behind p inside [] = p
 led_behind p inside (c ∷ xs) = led_behind (led (differ inside (is_quote c)) c) (differ inside (is_quote c)) xs
 
--- one byte that is no stray quote
-abbrev Steps : Bool → Place → ℕ → Type 0
+-- One byte that is not a stray quote.
+abbrev Steps : Bool → CsvState → ℕ → Type 0
 Steps ready p c = (is_quoted p ≡ false → ready ≡ may_open p) → but (is_quote c && differ (is_quoted p) (is_quote c)) ready ≡ false
     → (place_after p c ≡ led (differ (is_quoted p) (is_quote c)) c)
     × (is_between (place_after p c) ≡ but (ends_line c) (differ (is_quoted p) (is_quote c)))
@@ -54,7 +54,7 @@ by-byte P q m n r rest c = at (c == 34) (c == 44) (c == 10) (c == 13) refl refl 
     at a b d e f g h i (inr x) (inr y) (inr z) (inl w) = subst P (sym w.1) r
     at a b d e f g h i (inr x) (inr y) (inr z) (inr w) = rest c x.0 y.0 z.0 w.0
 
-at-quote : (ready : Bool) (p : Place) → Steps ready p 34
+at-quote : (ready : Bool) (p : CsvState) → Steps ready p 34
 at-quote ready place.Between h none = (refl, refl, refl)
 at-quote ready place.FieldStart h none = (refl, refl, refl)
 at-quote true place.Field h none = let e = h refl in cc
@@ -62,35 +62,35 @@ at-quote false place.Field h none = cc
 at-quote ready place.Quoted h none = (refl, refl, refl)
 at-quote ready place.QuoteSeen h none = (refl, refl, refl)
 
-at-comma : (ready : Bool) (p : Place) → Steps ready p 44
+at-comma : (ready : Bool) (p : CsvState) → Steps ready p 44
 at-comma ready place.Between h none = (refl, refl, refl)
 at-comma ready place.FieldStart h none = (refl, refl, refl)
 at-comma ready place.Field h none = (refl, refl, refl)
 at-comma ready place.Quoted h none = (refl, refl, refl)
 at-comma ready place.QuoteSeen h none = (refl, refl, refl)
 
-at-lf : (ready : Bool) (p : Place) → Steps ready p 10
+at-lf : (ready : Bool) (p : CsvState) → Steps ready p 10
 at-lf ready place.Between h none = (refl, refl, refl)
 at-lf ready place.FieldStart h none = (refl, refl, refl)
 at-lf ready place.Field h none = (refl, refl, refl)
 at-lf ready place.Quoted h none = (refl, refl, refl)
 at-lf ready place.QuoteSeen h none = (refl, refl, refl)
 
-at-cr : (ready : Bool) (p : Place) → Steps ready p 13
+at-cr : (ready : Bool) (p : CsvState) → Steps ready p 13
 at-cr ready place.Between h none = (refl, refl, refl)
 at-cr ready place.FieldStart h none = (refl, refl, refl)
 at-cr ready place.Field h none = (refl, refl, refl)
 at-cr ready place.Quoted h none = (refl, refl, refl)
 at-cr ready place.QuoteSeen h none = (refl, refl, refl)
 
-at-other : (ready : Bool) (p : Place) (c : ℕ) → (c == 34) ≡ false → (c == 44) ≡ false → (c == 10) ≡ false → (c == 13) ≡ false → Steps ready p c
+at-other : (ready : Bool) (p : CsvState) (c : ℕ) → (c == 34) ≡ false → (c == 44) ≡ false → (c == 10) ≡ false → (c == 13) ≡ false → Steps ready p c
 at-other ready place.Between c q m n r h none = simp (q, m, n, r) (refl, refl, refl)
 at-other ready place.FieldStart c q m n r h none = simp (q, m, n, r) (refl, refl, refl)
 at-other ready place.Field c q m n r h none = simp (q, m, n, r) (refl, refl, refl)
 at-other ready place.Quoted c q m n r h none = simp (q, n, r) (refl, refl, refl)
 at-other ready place.QuoteSeen c q m n r h none = simp (q, m, n, r) (refl, refl, refl)
 
-byte-steps : (ready : Bool) (p : Place) (c : ℕ) → Steps ready p c
+byte-steps : (ready : Bool) (p : CsvState) (c : ℕ) → Steps ready p c
 byte-steps ready p = by-byte (Steps ready p) (at-quote ready p) (at-comma ready p) (at-lf ready p) (at-cr ready p) (at-other ready p)
 
 led-quoted : (inside : Bool) (c : ℕ) → inside ≡ is_quoted (led inside c)
@@ -105,7 +105,7 @@ head-none : (b : Bool) (m : ℕ) → cond b 1 0 + 2 * m ≡ 0 → (b ≡ false) 
 head-none true m e = absurd (omega arith)
 head-none false m e = (refl, omega arith)
 
-stepped : (inside ready : Bool) (p : Place) (c : ℕ) → inside ≡ is_quoted p → (inside ≡ false → ready ≡ may_open p) → but (is_quote c && differ inside (is_quote c)) ready ≡ false
+stepped : (inside ready : Bool) (p : CsvState) (c : ℕ) → inside ≡ is_quoted p → (inside ≡ false → ready ≡ may_open p) → but (is_quote c && differ inside (is_quote c)) ready ≡ false
     → (place_after p c ≡ led (differ inside (is_quote c)) c)
     × (is_between (place_after p c) ≡ but (ends_line c) (differ inside (is_quote c)))
     × (ends_record p c ≡ but (but (ends_line c) (differ inside (is_quote c))) (is_between p))
@@ -113,7 +113,7 @@ stepped inside ready p c same known none =
     let step = byte-steps ready p c (λ e. known (same ∙ e)) (subst (λ b. but (is_quote c && differ b (is_quote c)) ready ≡ false) same none) in
     rw same step
 
--- a block without a stray quote
+-- A block without a stray quote.
 pub block-walks : (s : Scan) (inside ready : Bool) (xs : List ℕ) → inside ≡ is_quoted s.place → (inside ≡ false → ready ≡ may_open s.place) → mask_l (strays inside ready xs) ≡ 0
     → scanned s xs ≡ block_scanned s (led_behind s.place inside xs) (line_ends inside xs)
 unfolding scanned strays led_behind line_ends rows_behind cut_behind cut_rows_behind

@@ -1,4 +1,4 @@
--- Bytes that are read to a place of a buffer.
+-- Bytes that are read into a part of a buffer.
 use Rattle.std.proofs.Common.{◌≡◌, ℕ, ◌+◌, ◌≤◌, List, ◌++◌, length, take, drop, Option, Some, None, Result, Ok, Err, sym, ap, ◌∙◌, append_assoc}
 use Rattle.std.proofs.Math.Seq.{take-append-add}
 use Rattle.std.proofs.lemmas.List.{length-take-le, take-append-le, take_at}
@@ -7,17 +7,17 @@ use borrow.Rule.Slice.PartMut.{post_of, put_mid}
 use Rattle.std.specs.Io.KnownBytes.{Consumes, Keeps, ReadConsumes, prepend_known}
 use Rattle.oim_records.specs.state.PieceTaking.{IsReadBehind}
 
--- a vector whose elements were written, with as many as before
+-- A vector with its elements overwritten, and its length unchanged.
 pub written-back : (n : ℕ) (new old : List ℕ) → length old ≡ n → length new ≡ length old → take n (new ++ drop (length new) old) ≡ new
 written-back n new old long same = take_at new (drop (length new) old) n (same ∙ long)
 
--- bytes that were taken stand behind those before them
+-- Bytes that were taken follow those before them.
 pub keeps-taken : (front taken whole : List ℕ) (before after : Option (List ℕ)) → whole ≡ front ++ taken → Consumes before after taken → Keeps (prepend_known front before) (prepend_known whole after)
 keeps-taken front taken whole None after e h = tt
 keeps-taken front taken whole (Some xs) None e h = absurd h
 keeps-taken front taken whole (Some xs) (Some ys) e h = ap (λ w. w ++ ys) e ∙ append_assoc front taken ys ∙ ap (λ t. front ++ t) (sym h)
 
--- what was read to a part of a buffer stands behind what is before the part
+-- What was read into a part of a buffer follows the bytes before the part.
 part-read : (from k n : ℕ) (xs buf : List ℕ) → from ≤ length xs → n ≤ length buf → take (from + n) (put_mid from k xs buf) ≡ take from xs ++ take n buf
 part-read from k n xs buf low most =
     let rest = post_of from k xs in

@@ -1,4 +1,4 @@
--- Fields without quotes, by marks of the bytes that end a field.
+-- Unquoted fields, by marks of the bytes that end a field.
 use Rattle.std.proofs.Common.{◌≡◌, ◌≢◌, ◌+◌, ◌-◌, ◌≤◌, ◌<◌, ℕ, List, [], ◌∷◌, ◌++◌, drop, get_or, length, Bool, true, false, not, refl, ap, ◌∙◌, arith}
 use Rattle.std.specs.Int.{bit_at}
 use Rattle.std.specs.List.{prefix_len}
@@ -11,7 +11,8 @@ use Rattle.oim_records.specs.declared.field.FieldRange.{FieldRange}
 use Rattle.oim_records.proofs.FieldReads.{plain-field}
 use Rattle.oim_records.proofs.RecordReads.{comma-reads, field-pushed}
 
--- bit k marks the byte k places on from a place; of the bytes from another place on each that ends a field is marked, and no other before it
+-- Bit k marks byte `at + k`. From `done` on each byte that ends a field is marked, and no byte
+-- before `done` is.
 pub record AreEnds (xs : List ℕ) (at done m : ℕ) : Type 0 where
   pub set : (k : ℕ) → k < 64 → done ≤ at + k → ends_field (get_or xs (at + k) 0) ≡ true → bit_at m k ≡ 1
   pub within : (k : ℕ) → bit_at m k ≡ 1 → (k < 64) × (done ≤ at + k)
@@ -44,7 +45,7 @@ ends-next xs at behind m n mark marks one cleared below kept more =
           ]
         ]
 
--- the field that ends at the first mark
+-- The field that ends at the first mark.
 pub ends-first : (xs : List ℕ) (at start m mark : ℕ) → AreEnds xs at start m → at ≤ start → bit_at m mark ≡ 1 → ((k : ℕ) → k < mark → bit_at m k ≡ 0)
     → at + 64 ≤ length xs → ends_field (get_or xs (at + mark) 0) ≡ true → at + mark ≡ start + prefix_len joins_field (drop start xs)
 ends-first xs at start m mark marks low one below room end =
@@ -71,7 +72,7 @@ ends-first xs at start m mark marks low one below room end =
         let same : start + k ≡ at + (start + k - at) = omega arith in
         ap joins_field (get_or-drop start xs k 0 ∙ ap (λ i. get_or xs i 0) same) ∙ by (start + k - at) (omega arith) (omega arith) (ends_field (get_or xs (at + (start + k - at)) 0)) refl
 
--- one field more that has no quotes and ends with a comma
+-- One more field that has no quotes and ends with a comma.
 pub plain-read : (old now : List ℕ) (ranges pushed : List FieldRange) (first start stop : ℕ) → get_or now start 0 ≢ 34 → stop ≡ start + prefix_len joins_field (drop start now) → stop < length now
     → get_or now stop 0 ≡ 44 → pushed ≡ ranges ++ (record { start = start; end = stop } ∷ []) → IsReadTo old now ranges first start → IsReadTo old now pushed first (stop + 1)
 plain-read old now ranges pushed first start stop other e lt comma p h =

@@ -1,5 +1,6 @@
--- The definitions on small texts that show each rule. The answers come from RFC 4180; where a text is no RFC 4180, and for lines without a
--- character, they are those of the `csv` crate of Rust with headers off and records of any length.
+-- The definitions on small texts, one for each rule. The expected values are those of RFC 4180. For
+-- a text that RFC 4180 does not allow, and for empty lines, they are those of Rust's `csv` crate
+-- with headers off and records of any length.
 use Rattle.std.proofs.Common.{◌≡◌, ◌++◌, ℕ, zero, suc, List, [], ◌∷◌, Bool, true, false, Some, None, codes, map, refl, arith}
 use Rattle.std.specs.List.{All, list_all, list_any}
 use Rattle.std.specs.Str.{chars, is_utf8}
@@ -16,16 +17,16 @@ use Rattle.oim_records.specs.Grids.{Record, grid, records_left}
 use Rattle.oim_records.specs.PieceTaking.{bytes_left}
 use Rattle.oim_records.specs.Pieces.{unread}
 use Rattle.oim_records.specs.state.Places as places
-use Rattle.oim_records.specs.state.Places.{at_field, ends_record, in_text, is_line_end, place_after, place_of}
+use Rattle.oim_records.specs.state.Places.{at_field, ends_record, in_text, is_line_end, is_quoted, place_after, place_of}
 use Rattle.oim_records.specs.state.Reads.{left_in}
-use Rattle.oim_records.specs.state.Runs.{behind, is_quoted, moved, skipped, stops}
 use Rattle.oim_records.specs.state.Scans.{fresh, scanned}
 use Rattle.oim_records.specs.Texts.{is_not_text}
 use Rattle.oim_records.specs.declared.field.FieldRange.{FieldRange}
-use Rattle.oim_records.specs.declared.place.Place.TheVariants as place
+use Rattle.oim_records.specs.declared.csv_state.CsvState.TheVariants as place
 use Rattle.oim_records.specs.declared.scan.Scan.{Scan}
 
--- LINES (RFC 4180, 2.1 and 2.2): CR LF ends a record, and so do LF alone and CR alone; the last record needs no line end
+-- LINES (RFC 4180, 2.1 and 2.2): CR LF ends a record, and so do LF and CR on their own. The last
+-- record needs no line end.
 abbrev two_rows : List Record
 two_rows = (codes "a" ∷ codes "b" ∷ []) ∷ (codes "c" ∷ codes "d" ∷ []) ∷ []
 
@@ -53,7 +54,7 @@ no_records : (grid [] ≡ []) × (grid (codes "\r\n\n\r") ≡ [])
 unfolding records_left records_from next_record strip_bom
 no_records = (refl, refl)
 
--- THE FIRST RECORD: none is left behind the ends of lines; else the place is the one behind its line
+-- THE FIRST RECORD: none is left after line ends. Otherwise the position is the one after its line.
 none_first : ReadsFirst (codes "\r\n\n") [] (codes "\r\n\n") None
 unfolding records_left records_from next_record
 none_first = refl
@@ -62,7 +63,8 @@ one_first : ReadsFirst (codes "\na,b\nc") (codes "a" ∷ codes "b" ∷ []) (code
 unfolding records_left records_from next_record
 one_first = refl
 
--- FIELDS (2.3 and 2.4): spaces are part of a field; records may differ in length; an empty field is one
+-- FIELDS (2.3 and 2.4): spaces are part of a field, records may differ in length, and an empty
+-- field counts.
 spaces : grid (codes " a , b\n") ≡ (codes " a " ∷ codes " b" ∷ []) ∷ []
 unfolding records_left records_from next_record strip_bom
 spaces = refl
@@ -71,7 +73,7 @@ lengths : grid (codes "a\nb,c\n,\n,,") ≡ (codes "a" ∷ []) ∷ (codes "b" ∷
 unfolding records_left records_from next_record strip_bom
 lengths = refl
 
--- QUOTES (2.5 to 2.7): commas and line ends stand inside quotes, and a quote is doubled there
+-- QUOTES (2.5 to 2.7): commas and line ends may be inside quotes, and a quote is doubled there.
 quoted : grid (codes "\"a\",\"b,c\"\r\n\"d\r\ne\"\r\n") ≡ (codes "a" ∷ codes "b,c" ∷ []) ∷ (codes "d\r\ne" ∷ []) ∷ []
 unfolding records_left records_from next_record strip_bom
 quoted = refl
@@ -80,8 +82,8 @@ doubled : grid (codes "\"a\"\"b\",\"\"\"\",\"\",x\n") ≡ (codes "a\"b" ∷ code
 unfolding records_left records_from next_record strip_bom
 doubled = refl
 
--- what RFC 4180 does not allow: a quote in the middle of a field is a byte like others, text behind a closing quote joins the field,
--- and quotes that stay open reach to the end
+-- What RFC 4180 does not allow: a quote in the middle of a field is an ordinary byte, text after a
+-- closing quote joins the field, and quotes that stay open reach to the end.
 quote_in_the_middle : grid (codes "a\"b\"\"c,\"\nd") ≡ (codes "a\"b\"\"c" ∷ codes "\nd" ∷ []) ∷ []
 unfolding records_left records_from next_record strip_bom
 quote_in_the_middle = refl
@@ -94,7 +96,8 @@ open_quotes : (grid (codes "a\n\"b,c\nd") ≡ (codes "a" ∷ []) ∷ (codes "b,c
 unfolding records_left records_from next_record strip_bom
 open_quotes = (refl, refl)
 
--- A BYTE-ORDER MARK: one at the start is skipped, also before a quote; a second one, and one further on, is text
+-- A BYTE-ORDER MARK: one at the start is skipped, even before a quote. A second or later one is
+-- text.
 abbrev mark : List ℕ
 mark = 0xEF ∷ 0xBB ∷ 0xBF ∷ []
 
@@ -106,7 +109,8 @@ kept_marks : (grid (mark ++ mark ++ codes "a") ≡ ((mark ++ codes "a") ∷ []) 
 unfolding records_left records_from next_record strip_bom
 kept_marks = (refl, refl)
 
--- CUTS: a text can be cut behind a line's end, between its CR and LF too, and at its start; not inside quotes, and not inside a record
+-- CUTS: a text can be cut after a line's end, between its CR and LF too, and at its start, but not
+-- inside quotes or inside a record.
 abbrev can_cut : List ℕ → Bool
 can_cut text = is_between (state_after state.StartRecord text)
 
@@ -122,7 +126,7 @@ ended_records : map (ended state.StartRecord) ([] ∷ codes "a" ∷ codes "a\nb\
 unfolding ended
 ended_records = refl
 
--- where the last whole record ends, and how many end before it
+-- Where the last whole record ends, and how many end before it.
 abbrev after_all : List ℕ → Scan
 after_all text = scanned fresh text
 
@@ -146,12 +150,12 @@ whole_text : after_all (codes "a\r\"b\"\n") ≡ record { place = place.Between; 
 unfolding scanned
 whole_text = refl
 
--- THE SCAN'S PLACES, one for each of the machine's states that the usual settings reach
+-- THE SCAN'S PLACES, one for each of the machine's states that the default settings reach.
 places_of_states : map place_of (state.StartRecord ∷ state.AfterCr ∷ state.StartField ∷ state.InField ∷ state.InQuoted ∷ state.AfterQuote ∷ state.InEscape ∷ state.InComment ∷ [])
     ≡ place.Between ∷ place.Between ∷ place.FieldStart ∷ place.Field ∷ place.Quoted ∷ place.QuoteSeen ∷ place.Field ∷ place.Field ∷ []
 places_of_states = refl
 
--- a comma, a quote, LF, CR and an `a` in each place
+-- A comma, a quote, LF, CR and an `a` in each place.
 abbrev letters : List ℕ
 letters = codes ",\"\n\ra"
 
@@ -171,25 +175,10 @@ ends = refl
 between_places : map places.is_between (place.Between ∷ place.FieldStart ∷ place.Field ∷ place.Quoted ∷ place.QuoteSeen ∷ []) ≡ true ∷ false ∷ false ∷ false ∷ false ∷ []
 between_places = refl
 
--- RUNS: outside quotes up to a quote or a line's end, inside them up to a quote
-stopped : map (λ p. map (stops p) letters) (place.Field ∷ place.Quoted ∷ []) ≡ (false ∷ true ∷ true ∷ true ∷ false ∷ []) ∷ (false ∷ true ∷ false ∷ false ∷ false ∷ []) ∷ []
-stopped = refl
-
 quoted_places : map is_quoted (place.Between ∷ place.FieldStart ∷ place.Field ∷ place.Quoted ∷ place.QuoteSeen ∷ []) ≡ false ∷ false ∷ false ∷ true ∷ false ∷ []
 quoted_places = refl
 
-moves : (map (moved place.Between) (codes ",a") ≡ place.FieldStart ∷ place.Field ∷ []) × (map (moved place.Quoted) (codes ",\n") ≡ place.Quoted ∷ place.Quoted ∷ [])
-moves = (refl, refl)
-
-behind_runs : (behind place.Between (codes "ab,") ≡ place.FieldStart) × (behind place.Between (codes ",b") ≡ place.Field) × (behind place.Quoted (codes "a,\n") ≡ place.Quoted) × (behind place.QuoteSeen [] ≡ place.QuoteSeen)
-unfolding behind
-behind_runs = (refl, refl, refl, refl)
-
-skipped_run : skipped (record { place = place.Field; seen = 4; rows = 1; cut = 2; cut_rows = 1 }) (codes "ab,") ≡ record { place = place.FieldStart; seen = 7; rows = 1; cut = 2; cut_rows = 1 }
-unfolding behind
-skipped_run = refl
-
--- BITS: 5 has the lowest bit and the one two places above
+-- BITS: 5 has the lowest bit and the bit two above it.
 bits : (map (is_set 5) (0 ∷ 1 ∷ 2 ∷ 3 ∷ []) ≡ true ∷ false ∷ true ∷ false ∷ []) × (map (is_odd_below 5) (0 ∷ 1 ∷ 2 ∷ 3 ∷ []) ≡ false ∷ true ∷ true ∷ false ∷ [])
 unfolding is_odd_below is_set
 bits = (refl, refl)
@@ -208,7 +197,7 @@ openings = (refl, refl)
 led_by_letters : (map (led false) letters ≡ place.FieldStart ∷ place.QuoteSeen ∷ place.Between ∷ place.Between ∷ place.Field ∷ []) × (map (led true) (codes ",a") ≡ place.Quoted ∷ place.Quoted ∷ [])
 led_by_letters = (refl, refl)
 
--- of line ends that follow each other the first ends a record, if the one before the block does not
+-- The first of consecutive line ends ends a record, unless another one directly precedes the block.
 first_ends : (firsts false (true ∷ true ∷ false ∷ true ∷ []) ≡ true ∷ false ∷ false ∷ true ∷ []) × (firsts true (true ∷ true ∷ false ∷ true ∷ []) ≡ false ∷ false ∷ false ∷ true ∷ [])
 unfolding firsts
 first_ends = (refl, refl)
@@ -232,11 +221,11 @@ quotes = (refl, refl)
 commas : map is_comma letters ≡ true ∷ false ∷ false ∷ false ∷ false ∷ []
 commas = refl
 
--- UTF-8: bytes above 127 are no ASCII
+-- UTF-8: bytes above 127 are not ASCII.
 high_bytes : (map is_high (0 ∷ 127 ∷ 128 ∷ 255 ∷ []) ≡ false ∷ false ∷ true ∷ true ∷ []) × (map is_ascii (0 ∷ 127 ∷ 128 ∷ 255 ∷ []) ≡ true ∷ true ∷ false ∷ false ∷ [])
 high_bytes = (refl, refl)
 
--- UTF-8 (RFC 3629, 4): a character of two bytes is %xC2-DF and one of %x80-BF
+-- UTF-8 (RFC 3629, 4): a two-byte character is %xC2-DF and one of %x80-BF.
 character_bytes :
     (map begins_pair (0 ∷ 0xC1 ∷ 0xC2 ∷ 0xDF ∷ 0xE0 ∷ []) ≡ false ∷ false ∷ true ∷ true ∷ false ∷ [])
     × (map begins_none (0 ∷ 0x7F ∷ 0x80 ∷ 0xBF ∷ 0xC0 ∷ []) ≡ false ∷ false ∷ true ∷ true ∷ false ∷ [])
@@ -246,11 +235,11 @@ texts : map is_not_text ([] ∷ codes "a" ∷ (0xC3 ∷ 0xA9 ∷ []) ∷ (0xC3 �
 unfolding chars is_utf8 lib.Utf8.encode
 texts = refl
 
--- PLACES OF FIELDS, and what is left of a text, a piece and a file
+-- RANGES OF FIELDS, and what is left of a text, a piece and a file.
 field_places : fields_in (codes "ab,cd") (record { start = 0; end = 2 } ∷ record { start = 3; end = 5 } ∷ record { start = 5; end = 5 } ∷ []) ≡ codes "ab" ∷ codes "cd" ∷ [] ∷ []
 field_places = refl
 
--- two fields of a record are read, and the third begins
+-- Two fields of a record are read, and the third begins.
 abbrev two_places : List FieldRange
 two_places = record { start = 0; end = 2 } ∷ record { start = 3; end = 5 } ∷ []
 

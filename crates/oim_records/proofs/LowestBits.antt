@@ -3,7 +3,7 @@ use Rattle.std.proofs.Common.{◌≡◌, ℕ, zero, suc, ◌-◌, ◌/◌, ◌%�
 use Rattle.std.specs.Int.{bit_at}
 use Rattle.std.proofs.lemmas.Nat.Bits.{bit_at-suc, bit_at_lowest}
 
--- the number before it has no lowest bit, and the same higher ones
+-- The number before it lacks the lowest bit and has the same higher bits.
 pub one-less : (bit m : ℕ) → bit_at m bit ≡ 1 → ((k : ℕ) → k < bit → bit_at m k ≡ 0) → (bit_at (m - 1) bit ≡ 0) × ((k : ℕ) → bit < k → bit_at (m - 1) k ≡ bit_at m k)
 one-less zero m one below = (omega (arith, bit_at_lowest (m - 1), bit_at_lowest m, one), above)
   where

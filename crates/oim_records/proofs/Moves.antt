@@ -1,4 +1,4 @@
--- Bytes that are moved to a place before them, sixteen at a time.
+-- Bytes moved back, sixteen at a time.
 use Rattle.std.proofs.Common.{◌≡◌, ℕ, zero, suc, ◌+◌, ◌-◌, ◌≤◌, List, [], ◌∷◌, ◌++◌, cond, map, length, take, drop, refl, sym, ap, ◌∙◌, arith, append_assoc, take-add, take_at, drop_at, drop-drop, length-take-le, length-drop, length-append, replicate, take-take, ◌^◌}
 use Rattle.std.specs.Prelude.{slice_range}
 use Rattle.std.specs.List.{prefix_len, range_with_len}
@@ -13,7 +13,7 @@ use native.Mathlib.Decide.{dec_lt}
 use Rattle.oim_records.specs.state.Bytes.{is_unquoted}
 use Rattle.oim_records.proofs.Ranges.{same-behind, same-part}
 
--- a vector is stored that begins with some bytes and ends with what stood there behind them
+-- A vector is stored that begins with some bytes and ends with the bytes that were already there.
 module _ (xs ys t : List ℕ) (place n : ℕ) (fits : place + length ys ≤ length xs) (long : length t ≡ n) (is : ys ++ drop (length ys) (drop place xs) ≡ t ++ drop n (drop place xs)) where
   whole : put_chunk place xs ys ≡ take place xs ++ (t ++ drop n (drop place xs))
   whole = put_chunk_is place xs ys fits ∙ ap (λ l. take place xs ++ l) is
@@ -34,13 +34,13 @@ module _ (xs ys t : List ℕ) (place n : ℕ) (fits : place + length ys ≤ leng
       sym (drop-drop n place (put_chunk place xs ys)) ∙ ap (λ l. drop n (drop place l)) whole
       ∙ ap (drop n) (drop_at (take place xs) rest place front) ∙ drop_at t (drop n (drop place xs)) n long ∙ drop-drop n place xs
 
--- what a merged vector leaves with the bytes behind it
+-- What a merged vector leaves, with the bytes after it.
 pub merged-rest : (a d : List ℕ) (n m : ℕ) → n ≤ length (take m d) → (take n a ++ drop n (take m d)) ++ drop m d ≡ take n a ++ drop n d
 merged-rest a d n m few =
     append_assoc (take n a) (drop n (take m d)) (drop m d)
     ∙ ap (λ l. take n a ++ l) (sym (drop-append-le n (take m d) (drop m d) few) ∙ ap (drop n) (take-append-drop m d))
 
--- a vector that was loaded further behind is stored
+-- A vector that was loaded from further on is stored.
 module _ (xs : List ℕ) (from place m : ℕ) (before : place ≤ from) (within : from + m ≤ length xs) where
   loaded : length (take m (drop from xs)) ≡ m
   loaded = length-take-le m (drop from xs) (omega (arith, length-drop from xs))
@@ -56,7 +56,8 @@ module _ (xs : List ℕ) (from place m : ℕ) (before : place ≤ from) (within 
   pub chunk-behind : drop (place + m) (put_chunk place xs (take m (drop from xs))) ≡ drop (place + m) xs
   chunk-behind = stored-behind xs (take m (drop from xs)) (take m (drop from xs)) place m (omega (arith, loaded)) loaded tail
 
--- a vector is stored whose first n lanes were loaded further behind, and the others at its own place
+-- A vector is stored whose first n lanes were loaded from further on, and the others from its own
+-- position.
 module _ (xs ys : List ℕ) (from place n m : ℕ) (before : place ≤ from) (few : n ≤ m) (within : from + m ≤ length xs) (is : ys ≡ take n (take m (drop from xs)) ++ drop n (take m (drop place xs))) where
   there : length (take m (drop place xs)) ≡ m
   there = length-take-le m (drop place xs) (omega (arith, length-drop place xs))
@@ -84,7 +85,7 @@ module _ (xs ys : List ℕ) (from place n m : ℕ) (before : place ≤ from) (fe
   pub merged-behind : drop (place + n) (put_chunk place xs ys) ≡ drop (place + n) xs
   merged-behind = stored-behind xs ys (take n (drop from xs)) place n (omega (arith, lanes)) counted behind
 
--- lanes are chosen by their numbers
+-- Lanes are selected by their indexes.
 pub chosen : (count i n : ℕ) (xs ys : List ℕ) → length xs ≡ n → length ys ≡ n → sel_l (map (λ k. ltb k count) (range_with_len i n)) xs ys ≡ take (count - i) xs ++ drop (count - i) ys
 chosen count i zero [] [] ex ey = none (count - i)
   where
@@ -113,7 +114,7 @@ lanes-chosen count xs ys ex ey =
     ap (λ ms. sel_l ms xs ys) (tops_compared w8 ltb (range_with_len 0 16) (replicate 16 count) ∙ zip2_splat ltb (range_with_len 0 16) 16 count refl)
     ∙ chosen count 0 16 xs ys ex ey ∙ ap (λ k. take k xs ++ drop k ys) (let same : count - 0 ≡ count = omega arith in same)
 
--- one move behind another
+-- One move after another.
 pub moved-on : (old mid new : List ℕ) (place from at to : ℕ) → from ≤ at → at ≤ to → place ≤ from → to ≤ length old
     → take (place + (at - from)) mid ≡ take place old ++ slice_range old from at → drop (place + (at - from)) mid ≡ drop (place + (at - from)) old
     → take (place + (at - from) + (to - at)) new ≡ take (place + (at - from)) mid ++ slice_range mid at to
@@ -136,7 +137,7 @@ behind-on old mid new place from at to low high first second =
     let later = same-behind mid old (place + (at - from)) (place + (at - from) + (to - at)) first (omega arith) in
     ap (λ k. drop k new) (sym sum) ∙ second ∙ later ∙ ap (λ k. drop k old) sum
 
--- the run up to the next quote goes on behind the bytes of it that were moved
+-- The run up to the next quote continues after the bytes of it that were moved.
 pub run-on : (old mid : List ℕ) (place from at : ℕ) → place ≤ from → from ≤ at → from + prefix_len is_unquoted (drop from old) ≡ at + prefix_len is_unquoted (drop at old)
     → drop (place + (at - from)) mid ≡ drop (place + (at - from)) old → from + prefix_len is_unquoted (drop from old) ≡ at + prefix_len is_unquoted (drop at mid)
 run-on old mid place from at before low run behind =

@@ -1,4 +1,4 @@
--- Where no place in a text is between two records, no record ends in it.
+-- If no position of a text is between two records, no record ends in it.
 use Rattle.std.proofs.Common.{◌≡◌, ◌<◌, ◌≤◌, ◌+◌, ℕ, suc, List, [], ◌∷◌, length, take, Bool, true, false, refl, sym, arith, ◌∙◌}
 use Rattle.std.specs.Prelude.{if◌then◌else◌, ◌==◌}
 use Rattle.csv.specs.Machine.{after_end, ends_with, in_field, is_end, start_field, start_record, step}
@@ -10,7 +10,7 @@ use Rattle.csv.specs.declared.parser.State.TheVariants as state
 use Rattle.csv.specs.declared.parser.Terminator.TheVariants as term
 use Rattle.oim_records.specs.Cuts.{EndsNoRecord, NoLaterCut, ended, is_between, state_after}
 
--- a byte that ends a record leads between two
+-- A byte that ends a record leads between two.
 abbrev EndsBetween : State × Action → Type 0
 EndsBetween p = is_end p.1 ≡ true → is_between p.0 ≡ true
 
@@ -80,6 +80,6 @@ none-ends s (c ∷ xs) none =
     at true e between here more = let wrong : true ≡ false = sym (between e) ∙ here in cc wrong
     at false e between here more = omega (arith, more)
 
--- what holds no cut holds no whole record
+-- A text without a cut has no whole record.
 pub no-cut : (xs : List ℕ) (at : ℕ) → at ≡ 0 → NoLaterCut xs at → EndsNoRecord xs
 no-cut xs at e last = none-ends state.StartRecord xs (λ k low high. last k (omega arith) high)

@@ -1,4 +1,4 @@
--- A block of characters of one byte and of two is UTF-8, as its marks show.
+-- A block of one-byte and two-byte characters is UTF-8, as its marks show.
 use Rattle.std.proofs.Common.{◌≡◌, ℕ, zero, suc, ◌+◌, ◌-◌, ◌<◌, ◌≤◌, List, [], ◌∷◌, Bool, true, false, not, cond, length, take, drop, map, get_or, refl, sym, ap, ap₂, ◌∙◌, subst, arith}
 use Rattle.std.specs.Prelude.{◌&&◌, ◌||◌}
 use Rattle.std.specs.Simd.Lanes.{mask_l}
@@ -24,7 +24,7 @@ between a b c e = at (leb a c) (leb b c) refl refl e
     at true true low high h = cc h
     at false q low high h = cc h
 
--- whether the byte before a place begins a character of two
+-- Whether the byte before a position begins a two-byte character.
 abbrev pub begun : ℕ → List ℕ → Bool
 begun zero xs = false
 begun (suc k) xs = begins_pair (get_or xs k 0)
@@ -67,7 +67,7 @@ module _ (xs : List ℕ)
   whole zero le = IsUtf8-nil
   whole (suc k) le = step k (begun k xs) (begins_pair (get_or xs k 0)) (omega arith) refl refl (whole k (omega arith))
 
--- where the marks show it
+-- If the marks show it.
 pub marked-whole : (xs : List ℕ) (high firsts later : ℕ) → length xs ≡ 64 → high ≡ mask_l (map is_high xs) → firsts ≡ mask_l (map begins_pair xs) → later ≡ mask_l (map begins_none xs)
     → bit_or firsts later ≡ high → shl 1 firsts ≡ later → IsUtf8 (take (64 - cond (begins_pair (get_or xs 63 0)) 1 0) xs)
 marked-whole xs high firsts later long hs fs ls all pairs = whole xs highs lates 64 (omega arith)
@@ -86,7 +86,7 @@ marked-whole xs high firsts later long hs fs ls all pairs = whole xs highs lates
     lates : (k : ℕ) → k < length xs → begins_none (get_or xs k 0) ≡ begun k xs
     lates k lt = sym (marked begins_none refl xs later k ls) ∙ ap (λ n. is_set n k) (sym pairs) ∙ moved k (omega arith)
 
--- and where they show that all is of ASCII
+-- If the marks show that all is ASCII.
 pub none-high : (xs : List ℕ) (high : ℕ) → length xs ≡ 64 → high ≡ mask_l (map is_high xs) → high ≡ 0 → IsUtf8 (take 64 xs)
 none-high xs high long hs none = IsUtf8-from_ascii (take 64 xs) each
   where

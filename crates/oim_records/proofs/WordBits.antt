@@ -33,7 +33,7 @@ pub set-xor : (a b i : ℕ) → is_set (bit_xor a b) i ≡ differ (is_set a i) (
 unfolding is_set
 set-xor a b i = ap (λ n. n == 1) (bit_at_xor a b i) ∙ two_bits (λ x y. ((x + y) % 2 == 1) ≡ differ (x == 1) (y == 1)) refl refl refl refl a b i
 
--- the bits of a word changed, and those of another without its own
+-- The complement of a word, and a word without the bits of another.
 abbrev pub flip : ℕ → ℕ
 flip a = 2 ^ 64 - 1 - a
 
@@ -78,11 +78,11 @@ set-mask_l ms i = ap (λ x. x == 1) (bit_mask_l ms i) ∙ back (get_or ms i fals
     back true = refl
     back false = refl
 
--- the bits of a word are these
+-- The bits of a word are these.
 abbrev pub Shows : ℕ → List Bool → Type 0
 Shows m ms = (k : ℕ) → k < 64 → is_set m k ≡ get_or ms k false
 
--- a word is the mask of its bits
+-- A word is the mask of its bits.
 pub mask-shown : (m : ℕ) (ms : List Bool) → m < 2 ^ 64 → length ms ≡ 64 → Shows m ms → m ≡ mask_l ms
 unfolding is_set
 mask-shown m ms small long shows =
@@ -92,7 +92,7 @@ mask-shown m ms small long shows =
     one : (i : ℕ) → (bit_at m i == 1) ≡ (bit_at (mask_l ms) i == 1) → bit_at m i ≡ bit_at (mask_l ms) i
     one i = two_bits (λ x y. (x == 1) ≡ (y == 1) → x ≡ y) (λ e. refl) (λ e. cc) (λ e. cc) (λ e. refl) m (mask_l ms) i
 
--- a Bool as the lowest bit of a word
+-- A Bool as the lowest bit of a word.
 set-first : (b : Bool) → is_set (cond b 1 0) 0 ≡ b
 unfolding is_set
 set-first true = refl
@@ -103,12 +103,12 @@ unfolding is_set
 set-other true i h = same_is _ _ (upto_sound (λ j. same (is_set 1 (suc j)) false) 64 tt i h)
 set-other false i h = same_is _ _ (upto_sound (λ j. same (is_set 0 (suc j)) false) 64 tt i h)
 
--- whether a word is not 0 behind a shift that leaves its highest bit
+-- Whether a word is not 0 after a shift that leaves only its highest bit.
 pub set-highest : (m : ℕ) → m < 2 ^ 64 → not (m / 2 ^ 63 == 0) ≡ is_set m 63
 unfolding is_set
 set-highest m small = bit_cases (λ x. not (x == 0) ≡ (x % 2 == 1)) refl refl (m / 2 ^ 63) (omega arith)
 
--- all bits, and none
+-- All bits, and none.
 pub set-all : (i : ℕ) → i < 64 → is_set 18446744073709551615 i ≡ true
 unfolding is_set
 set-all i h = same_is _ _ (upto_sound (λ j. same (is_set 18446744073709551615 j) true) 64 tt i h)
@@ -117,7 +117,7 @@ pub set-none : (i : ℕ) → i < 64 → is_set 0 i ≡ false
 unfolding is_set
 set-none i h = same_is _ _ (upto_sound (λ j. same (is_set 0 j) false) 64 tt i h)
 
--- the bits of a word moved up by one, and one moved in
+-- The bits of a word moved up by one, and one moved in.
 pub moved-in : (m : ℕ) (b : Bool) (ms : List Bool) → Shows m ms → Shows (bit_or (shl 1 m) (cond b 1 0)) (b ∷ ms)
 moved-in m b ms shows zero h = set-or (shl 1 m) (cond b 1 0) 0 ∙ ap₂ (λ x y. x || y) (set-shl_low 1 0 m (omega arith) h) (set-first b)
 moved-in m b ms shows (suc k) h =
@@ -130,7 +130,7 @@ moved-in m b ms shows (suc k) h =
     at true = refl
     at false = refl
 
--- ---- six shifts and xors
+-- ---- Six shifts and xors.
 
 differ-false : (a : Bool) → differ a false ≡ a
 differ-false true = refl
@@ -162,7 +162,7 @@ differ_swap true true false = refl
 differ_swap true false true = refl
 differ_swap true false false = refl
 
--- each bit of y tells of the k bits of x that end there
+-- Each bit of y depends on the k bits of x that end there.
 abbrev Window : ℕ → ℕ → ℕ → Type 0
 Window x k y = (i : ℕ) → i < 64 → is_set y i ≡ differ (is_odd_below x (suc i)) (is_odd_below x (suc i - k))
 

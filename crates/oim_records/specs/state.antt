@@ -1,6 +1,5 @@
 pub mod Places
 pub mod Scans
-pub mod Runs
 pub mod Bits
 pub mod Blocks
 pub mod Bytes

@@ -1,4 +1,4 @@
-//! Bytes that are read to the room of a vector.
+//! Reading into a vector that may be longer than its data.
 
 ghost use Rattle.std.specs.Prelude.{◌≡◌, ◌≤◌, ◌+◌, ◌<◌, IfOk, OnOk, length, take};
 ghost use Rattle.std.specs.Io.KnownBytes.{IsAtEnd};
@@ -8,7 +8,7 @@ use std::alloc::AllocError;
 use std::io;
 use std::io::Read;
 
-/// Makes room for `more` bytes behind the first `filled`, which stay. Fails where memory is short.
+/// Makes `bytes` at least `filled + more` long and keeps its first `filled` bytes.
 pub(crate) fn make_room(bytes: &mut Vec<u8>, filled: usize, more: usize) -> Result<(), AllocError>
     requires { filled ≤ length bytes.old.items }
     ensures stays { take filled bytes.new.items ≡ take filled bytes.old.items }
@@ -23,7 +23,8 @@ pub(crate) fn make_room(bytes: &mut Vec<u8>, filled: usize, more: usize) -> Resu
     bytes.resize(filled + more, 0)
 }
 
-/// Reads up to `most` bytes to a place of others, behind those that stand before it.
+/// Reads up to `most` bytes into `bytes` from index `from` on, and leaves the bytes before it
+/// unchanged.
 fn read_part<R: Read>(
     reader: &mut R,
     bytes: &mut [u8],
@@ -40,7 +41,7 @@ fn read_part<R: Read>(
     reader.read(&mut bytes[from..from + most])
 }
 
-/// The same, to a vector.
+/// Reads up to `most` bytes into a vector from index `from` on, as `read_part` does.
 pub(crate) fn read_to<R: Read>(
     reader: &mut R,
     bytes: &mut Vec<u8>,
@@ -58,7 +59,7 @@ pub(crate) fn read_to<R: Read>(
     read_part(reader, bytes, from, most)
 }
 
-/// Puts bytes to the front of others.
+/// Copies `bytes` over the first bytes of `room`.
 fn put_front(room: &mut [u8], bytes: &[u8])
     requires { length bytes.now ≤ length room.old }
     ensures { take (length bytes.now) room.new ≡ bytes.now }
@@ -66,7 +67,7 @@ fn put_front(room: &mut [u8], bytes: &[u8])
     room[..bytes.len()].copy_from_slice(bytes);
 }
 
-/// Copies bytes to the front of a vector, and says how many they are. Fails where memory is short.
+/// Copies `bytes` to the start of `room`, a spare vector, and returns it with their count.
 pub(crate) fn moved_front(room: Vec<u8>, bytes: &[u8]) -> Result<(Vec<u8>, usize), AllocError>
     ensures front { IfOk result (λ moved. take moved.1 moved.0.items ≡ bytes.now) }
     ensures within { IfOk result (λ moved. moved.1 ≤ length moved.0.items) }

@@ -1,12 +1,13 @@
-//! A field that is lent with what stands behind it.
+//! A field that is lent together with the bytes after it.
 
 ghost use Rattle.std.specs.Prelude.{◌≡◌, ◌≤◌, length, take};
 ghost use Rattle.std.specs.Str.{IsUtf8};
 
 use std::marker::Model;
 
-/// The text of a field, lent with the bytes behind it, so that it can be copied many bytes at once. A contract sees
-/// the field's bytes.
+/// The text of a field, lent with the bytes after it so that it can be copied in large chunks.
+///
+/// A contract sees the field's bytes.
 #[derive(Drop)]
 pub struct FieldText<'a> {
     rest: &'a [u8],
@@ -26,7 +27,7 @@ impl<'a> Model for FieldText<'a> {
 }
 
 impl<'a> FieldText<'a> {
-    /// The first `len` of some bytes, which are text.
+    /// Makes a field of the first `len` bytes of `rest`, which must be text.
     #[inline(always)]
     pub(crate) fn new(rest: &'a [u8], len: usize) -> FieldText<'a>
         requires within { len ≤ length rest.now }
@@ -36,7 +37,7 @@ impl<'a> FieldText<'a> {
         FieldText { rest, len }
     }
 
-    /// How many bytes the field has.
+    /// Returns the field's length in bytes.
     #[inline(always)]
     pub fn len(&self) -> usize
         ensures { result ≡ length self.now }
@@ -44,7 +45,7 @@ impl<'a> FieldText<'a> {
         self.len
     }
 
-    /// The text of the field.
+    /// Returns the field's text.
     #[inline(always)]
     pub fn as_str(&self) -> &'a str
         ensures { result.now ≡ self.now }
@@ -52,7 +53,8 @@ impl<'a> FieldText<'a> {
         unsafe { str::from_utf8_unchecked(&self.rest[..self.len]) }
     }
 
-    /// The bytes of the field, and then those that stand behind it. No contract says which these are, or how many.
+    /// Returns the field's bytes and the bytes after them. No contract fixes the bytes after the
+    /// field, or their number.
     #[inline(always)]
     pub fn rest(&self) -> &'a [u8]
         ensures field { take (length self.now) result.now ≡ self.now }

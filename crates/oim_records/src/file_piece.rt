@@ -1,6 +1,6 @@
 //! A piece of a file that holds whole records.
 
-/// A piece of a file, and how many records it has.
+/// A piece of a file, and the number of records in it.
 #[derive(Drop)]
 pub struct FilePiece {
     pub bytes: Vec<u8>,

@@ -1,6 +1,6 @@
 //! Why a file could not be read on.
 
-/// Why there is no next piece or record.
+/// Why no next piece or record could be read.
 #[derive(Clone, Copy, PartialEq, Eq, Debug, Drop)]
 pub enum ReadFault {
     /// The reader failed.

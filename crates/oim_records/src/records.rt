@@ -1,4 +1,5 @@
-//! The records of a CSV file, one at a time, by the `csv` crate's reader: small, for files of which few are read or none is large.
+//! The records of a CSV file, one at a time, by the `csv` crate's reader. It is small, for files
+//! that are small or of which few are read.
 
 ghost use Rattle.std.specs.Prelude.{◌≡◌, [], option_map, MatchResult, Some, true};
 ghost use Rattle.csv.specs.Reading.{stops_reader};
@@ -13,7 +14,7 @@ use std::alloc::Global;
 use std::io::Read;
 use std::marker::Model;
 
-/// The fault of an error that stops a reader.
+/// Returns the fault of an error that stops a reader.
 fn fault_of(kind: &ErrorKind) -> ReadFault
     requires { stops_reader kind.now ≡ true }
     ensures { result ≡ fault_of_kind kind.now }
@@ -25,14 +26,17 @@ fn fault_of(kind: &ErrorKind) -> ReadFault
     }
 }
 
-/// The records that are left in a CSV file (RFC 4180). Commas separate fields, and inside quotes a quote is
-/// doubled. LF, CR or CRLF ends a record. Records can differ in length, and an empty line is not a record.
-/// A contract sees the list of the records left, if it knows the bytes of the reader; after the end or a fault
-/// the list is empty for any reader.
+/// The records left in a CSV file (RFC 4180).
+///
+/// Commas separate fields, and inside quotes a quote is doubled. LF, CR or CRLF ends a record.
+/// Records can differ in length, and an empty line is not a record.
+///
+/// A contract sees the list of the records left, if the reader's contract gives its bytes. After
+/// the end or a fault the list is empty for any reader.
 #[derive(Drop)]
 pub struct Records<R: Read> {
     reader: Reader<R>,
-    // kept here, since `csv` does not say what follows the last record
+    // kept here because `csv` does not specify what a read after the last record returns
     has_ended: bool,
 }
 
@@ -50,8 +54,9 @@ impl<R: Read> Model for Records<R> {
 }
 
 impl<R: Read> Records<R> {
-    /// The records of a file, with the header. One byte-order mark (EF BB BF) at its start is skipped.
-    /// Nothing is read yet, and no memory is taken.
+    /// Opens the records of a file, with the header.
+    ///
+    /// Skips one byte-order mark (EF BB BF) at the start. Reads nothing yet and takes no memory.
     pub fn new(alloc: Global, reader: R) -> Records<R>
         ensures { result ≡ option_map grid (R.remaining reader) }
     {
@@ -64,10 +69,11 @@ impl<R: Read> Records<R> {
         }
     }
 
-    /// Reads the next record into `row`, and says whether there was one. After the end or a fault there are
-    /// no more records, and nothing is read.
+    /// Reads the next record into `row`, and returns whether there was one.
     ///
-    /// - `Read`: the reader failed;
+    /// After the end or a fault there are no more records, and nothing is read.
+    ///
+    /// - `Read`: the reader failed.
     /// - `Memory`: memory ran out.
     pub fn read(&mut self, row: &mut ByteRecord) -> Result<bool, ReadFault>
         ensures { MatchResult result (λ found. TakesRecord self.old found (fields_of row.new) self.new) (λ _. self.new ≡ Some []) }

@@ -1,4 +1,4 @@
-//! How much of a block of 64 bytes is known to be UTF-8.
+//! The length of a UTF-8 prefix of a block of 64 bytes.
 
 ghost use Rattle.std.specs.Prelude.{◌≡◌, ◌≤◌, take, map};
 ghost use Rattle.std.specs.Simd.Lanes.{mask_l};
@@ -7,7 +7,7 @@ ghost use Rattle.oim_records.specs.state.Bytes.{begins_none, begins_pair, is_hig
 
 use std::simd::prelude::*;
 
-/// Marks the bytes that are not of ASCII: bit k is set for byte k.
+/// Marks the non-ASCII bytes: bit k is set for byte k.
 #[inline(always)]
 fn high_marks(v: u8x64) -> u64
     ensures { result ≡ mask_l (map is_high v) }
@@ -15,7 +15,7 @@ fn high_marks(v: u8x64) -> u64
     v.simd_ge(u8x64::splat(0x80)).to_bitmask()
 }
 
-/// Marks the bytes that begin a character of two bytes: bit k is set for byte k.
+/// Marks the bytes that begin a two-byte character: bit k is set for byte k.
 #[inline(always)]
 fn first_marks(v: u8x64) -> u64
     ensures { result ≡ mask_l (map begins_pair v) }
@@ -31,8 +31,9 @@ fn later_marks(v: u8x64) -> u64
     (v.simd_ge(u8x64::splat(0x80)) & v.simd_lt(u8x64::splat(0xc0))).to_bitmask()
 }
 
-/// How many bytes in front of a block are known to be UTF-8, of characters of one byte and of two: all, all but the last, which begins a
-/// character, or 0 where it is not known of any.
+/// Returns the length of a prefix that is UTF-8 of one-byte and two-byte characters.
+///
+/// That is 64, or 63 if the last byte begins a character, or 0 if nothing is known.
 #[inline(always)]
 pub(crate) fn text_len(v: u8x64) -> usize
     ensures within { result ≤ 64 }

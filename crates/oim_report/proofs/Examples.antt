@@ -1,4 +1,4 @@
--- The definitions, executed on worked cases.
+-- The definitions on worked cases. The rule is xBRL-CSV 1.0, parameters.
 use Rattle.std.proofs.Common.{◌≡◌, ℕ, List, [], ◌∷◌, Some, None, codes, map, refl, false}
 use Rattle.oim_report.specs.Parameters.{ParametersValue}
 use Rattle.oim_report.specs.Readers.{column_named, no_level, parameter_of}
@@ -9,7 +9,8 @@ use Rattle.oim_report.specs.declared.data.ColumnKind.TheVariants as column
 abbrev plain : List ℕ → Column
 plain id = record { id = id; kind = column.Plain; level = no_level; groups = []; from = [] }
 
--- a report of one table with the columns a and b, and of parameters that its metadata has or that are given beside it
+-- A report of one table with the columns a and b, and of parameters from its metadata and from the
+-- parameters file.
 abbrev report : (own given : ParametersValue) → ReportValue
 report own given =
     report_with (record { base_url = None; taxonomy = [] }) [] [] no_level
@@ -20,7 +21,7 @@ report own given =
 columns_by_name : map (column_named (report [] []) 0) (codes "a" ∷ codes "b" ∷ codes "c" ∷ []) ≡ Some 0 ∷ Some 1 ∷ None ∷ []
 columns_by_name = refl
 
--- the table's before the metadata's, and the metadata's before those that are given
+-- The table's value hides the metadata's, and the metadata's hides that of the parameters file.
 parameters_in_order : map (parameter_of (report ((codes "y", codes "2") ∷ []) ((codes "x", codes "3") ∷ (codes "y", codes "4") ∷ (codes "z", codes "5") ∷ [])) 0)
     (codes "z" ∷ codes "y" ∷ codes "x" ∷ codes "w" ∷ []) ≡ Some (codes "1") ∷ Some (codes "2") ∷ Some (codes "3") ∷ None ∷ []
 parameters_in_order = refl

@@ -1,4 +1,5 @@
--- The columns of a template of a report rise by name, and so do the groups of a column, the dimensions of its levels and the parameters of a table.
+-- Parts that are in byte order of name: the columns of a template, the groups of a column, the
+-- dimensions of its levels and the parameters of a table.
 use Rattle.std.proofs.Common.{ℕ, zero, suc, List, [], ◌∷◌}
 use Rattle.std.specs.Prelude.{map, slice_index_or}
 use Rattle.std.specs.List.{AllByRecursion}
@@ -11,13 +12,13 @@ use Rattle.oim_report.specs.ReportValue.{ReportValue}
 use Rattle.oim_report.specs.declared.data.Column.{Column}
 use Rattle.oim_report.specs.declared.data.Table.{Table}
 
--- what is so of all is so at each place, where it is so of what stands for a place out of range
+-- A property of all items holds at each place, if it holds for the default of a place out of range.
 each_at : {X : Type 0} (P : X → Type 0) (xs : List X) (d : X) → AllByRecursion P xs → P d → (k : ℕ) → P (slice_index_or xs k d)
 each_at P [] d all other k = other
 each_at P (x ∷ xs) d all other zero = all.0
 each_at P (x ∷ xs) d all other (suc k) = each_at P xs d all.1 other k
 
--- what stands for a template and a column out of range has nothing that could fall
+-- The default template and the default column have no names that could be out of order.
 nothing_rises : TemplateRises no_template
 unfolding IsStrictlySortedBy
 nothing_rises = (tt, tt, tt)

@@ -1,4 +1,4 @@
--- Values by name: looking one up, adding one, and adding one to a group.
+-- Values by name: a lookup, an addition, and an addition to a group.
 use Rattle.std.proofs.Common.{◌≡◌, ◌<◌, ◌+◌, ℕ, zero, suc, List, [], ◌∷◌, ◌++◌, Option, Some, None, Bool, true, false, ◌&&◌, nat_lt, if◌then◌else◌, refl, sym, ◌∙◌, ap, arith, length, slice_get}
 use Rattle.std.proofs.lemmas.Cmp.{nat_list_eq_equiv}
 use Rattle.std.proofs.lemmas.Slice.Eq.{bytes_eq-Decides}
@@ -11,7 +11,7 @@ use Rattle.oim_names.specs.Lookup.{value_at}
 use Rattle.oim_report.specs.Named.{ExtendsUnder, value_under}
 use Rattle.oim_report.specs.state.Named.{renamed}
 
--- a look-up by bytes is one in the entries that a contract sees
+-- A lookup by bytes is a lookup in the entries that contracts see.
 pub lookup-renamed : {K V : Type 0} (bytes : K → List ℕ) (name : List ℕ) (entries : List (K × V)) → lookup (λ k. bytes_eq name (bytes k)) entries ≡ value_at name (renamed bytes entries)
 lookup-renamed bytes name [] = refl
 lookup-renamed {K} {V} bytes name (e ∷ es) =
@@ -21,7 +21,7 @@ pub none-found : {A : Type 0} (o : Option A) → false ≡ is_some o → o ≡ N
 none-found None e = refl
 none-found (Some x) e = cc e
 
--- clones of the entries are clones of what a contract sees
+-- Clones of the entries are clones of what contracts see.
 pub clone-renamed : {K V : Type 0} (bytes : K → List ℕ) (is_clone : V → V → Type 0) (xs ys : List (K × V)) → AllZip (λ p q. (bytes q.0 ≡ bytes p.0) × is_clone p.1 q.1) xs ys
     → AllZip (λ p q. (q.0 ≡ p.0) × is_clone p.1 q.1) (renamed bytes xs) (renamed bytes ys)
 clone-renamed bytes is_clone [] [] h = h
@@ -29,7 +29,7 @@ clone-renamed bytes is_clone [] (y ∷ ys) h = h
 clone-renamed bytes is_clone (x ∷ xs) [] h = h
 clone-renamed bytes is_clone (x ∷ xs) (y ∷ ys) h = (h.0, clone-renamed bytes is_clone xs ys h.1)
 
--- the key at a place is the first that passes
+-- The key at a place is the first that passes.
 FirstAt : {K X : Type 0} → (K → Bool) → List (K × X) → ℕ → Type 0
 FirstAt t [] i = ⊥
 FirstAt t (e ∷ es) zero = t e.0 ≡ true
@@ -59,7 +59,7 @@ at-place n len i e = by (nat_lt n len) refl
 pub same-bytes : (a b : List ℕ) → bytes_eq a b ≡ true → a ≡ b
 same-bytes a b e = (bytes_eq-Decides a b).0 e
 
--- a text that is equal to one and not to the other
+-- A text that is equal to one and not to the other.
 apart-bytes : (e u v : List ℕ) → bytes_eq e u ≡ false → bytes_eq e v ≡ true → bytes_eq u v ≡ false
 apart-bytes e u v unlike like = by (bytes_eq u v) refl
   where
@@ -71,7 +71,7 @@ apart-bytes e u v unlike like = by (bytes_eq u v) refl
         cc (wrong, right)
     by false h = h
 
--- looking up after one more entry with a new name
+-- A lookup after an addition of a new name.
 value-extended : {V : Type 0} (name : List ℕ) (v : V) (es : List (List ℕ × V)) (n : List ℕ) → value_at name es ≡ None
     → value_at n (es ++ (name, v) ∷ []) ≡ (if bytes_eq name n then Some v else value_at n es)
 value-extended name v [] n none = refl
@@ -84,7 +84,7 @@ value-extended {V} name v (e ∷ es) n none = by (bytes_eq e.0 name) (bytes_eq e
     by false true h i more = let apart : bytes_eq name n ≡ false = apart-bytes e.0 name n h i in rw (i, apart) refl
     by false false h i more = rw i (more (rw h at none))
 
--- one more entry in the group at a place
+-- An addition to the group at a place.
 under-first : {K V : Type 0} (bytes : K → List ℕ) (group name : List ℕ) (v : V) (es : List (K × List (List ℕ × V))) (i : ℕ) (old : List (List ℕ × V))
     → FirstAt (λ k. bytes_eq group (bytes k)) es i → slice_get (values_of es) i ≡ Some old → value_at name old ≡ None
     → ExtendsUnder (renamed bytes es) group name v (renamed bytes (set_value_at es i (old ++ (name, v) ∷ [])))
@@ -119,7 +119,7 @@ under-first {K} {V} bytes group name v (e ∷ es) (suc i) old f at none = λ g n
         rw (h, apart) refl
     by g n false h more = rw h more
 
--- one more entry in a group that is there
+-- An addition to a group that exists.
 pub under-found : {K V : Type 0} (bytes : K → List ℕ) (group name : List ℕ) (v : V) (es : List (K × List (List ℕ × V))) (i : ℕ) (old : List (List ℕ × V))
     → Some i ≡ position (λ k. bytes_eq group (bytes k)) (keys_of es) → i < length es → slice_get (values_of es) i ≡ Some old → value_at name old ≡ None
     → ExtendsUnder (renamed bytes es) group name v (renamed bytes (set_value_at es i (old ++ (name, v) ∷ [])))
@@ -127,7 +127,7 @@ under-found {K} bytes group name v es i old found within at none =
     let test : K → Bool = λ k. bytes_eq group (bytes k) in
     under-first bytes group name v es i old (first-at test es i (at-place (position_or_len test (keys_of es)) (length (keys_of es)) i found) within) at none
 
--- one more entry in a new group
+-- An addition to a new group.
 pub under-new : {V : Type 0} (group name : List ℕ) (v : V) (es new : List (List ℕ × List (List ℕ × V))) → value_at group es ≡ None
     → new ≡ es ++ (group, (name, v) ∷ []) ∷ [] → ExtendsUnder es group name v new
 under-new {V} group name v es new none e = λ g n. rw (e, value-extended group ((name, v) ∷ []) es g none) (by g n (bytes_eq group g) refl)
@@ -137,13 +137,13 @@ under-new {V} group name v es new none e = λ g n. rw (e, value-extended group (
     by g n true h = let absent : value_at g es ≡ None = rw (← same-bytes group g h) none in rw absent refl
     by g n false h = refl
 
--- a name that is not under a group is not among its entries
+-- A name that is not under a group is not among its entries.
 pub lacks-under : {V : Type 0} (group name : List ℕ) (es : List (List ℕ × List (List ℕ × V))) (old : List (List ℕ × V))
     → value_under es group name ≡ None → value_at group es ≡ Some old
     → value_at name old ≡ None
 lacks-under group name es old none there = rw there at none
 
--- clones that are equal make equal entries
+-- Clones that are equal make equal entries.
 pub same-clones : {V : Type 0} (is_clone : V → V → Type 0) → ((v w : V) → is_clone v w → w ≡ v) → (xs ys : List (List ℕ × V)) → AllZip (λ p q. (q.0 ≡ p.0) × is_clone p.1 q.1) xs ys → ys ≡ xs
 same-clones is_clone same [] [] h = refl
 same-clones is_clone same [] (y ∷ ys) h = absurd h

@@ -29,7 +29,7 @@ pub row_id_is_there : (t : Template) → HasColumns t → IfSome t.row_id_column
 unfolding HasColumns
 row_id_is_there t h = h.1
 
--- the parts of a report are in order
+-- The parts of a report are in order.
 pub parts_rise : (level : Level) (templates : List Template) (tables : List Table) (own : List (List ℕ × List ℕ)) → IsReport level templates tables own → PartsRise level templates tables
 unfolding IsReport
 parts_rise level templates tables own h = h.2
@@ -38,7 +38,7 @@ pub have_identifiers : (level : Level) (templates : List Template) (tables : Lis
 unfolding IsReport
 have_identifiers level templates tables own h = h.3
 
--- the metadata's own parameters are in order
+-- The metadata's own parameters are in order.
 pub own_parameters_rise : (level : Level) (templates : List Template) (tables : List Table) (own : List (List ℕ × List ℕ)) → IsReport level templates tables own → IsRising (keys_of own)
 unfolding IsReport
 own_parameters_rise level templates tables own h = h.4

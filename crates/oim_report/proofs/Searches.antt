@@ -1,4 +1,4 @@
--- The place of a name among things whose names rise.
+-- The place of a name among things whose names are in strict byte order.
 use Rattle.std.proofs.Common.{◌≡◌, ℕ, zero, suc, ◌+◌, ◌<◌, List, [], ◌∷◌, length, map, get_or, Bool, Some, None, Result, Ok, Err, false, true, cond, refl, sym, ap, subst, ◌∙◌, inl, inr, arith, Ordering, ltb}
 use Rattle.std.specs.Prelude.{MatchResult}
 use Rattle.std.specs.List.{position, position_or_len}
@@ -20,15 +20,15 @@ use Rattle.oim_report.specs.Rising.{IsRising}
 abbrev order : List ℕ → List ℕ → Ordering
 order = slice_cmp nat_cmp
 
--- names that the order tells apart are different bytes
+-- Names that are not equal in the order are different bytes.
 differ : (k n : List ℕ) → is_eq (order k n) ≡ false → bytes_eq k n ≡ false
 differ k n h = sym (is_eq-slice_cmp k n) ∙ h
 
--- a name that is below another is another
+-- A name that is below another differs from it.
 pub below-differs : (k l : List ℕ) → slice_cmp nat_cmp k l ≡ Less → bytes_eq k l ≡ false
 below-differs k l h = sym (is_eq-slice_cmp k l) ∙ ap is_eq h
 
--- the first place, where it is known
+-- The first place, if it is known.
 is_at : (n len i : ℕ) → n ≡ i → i < len → cond (ltb n len) (Some n) None ≡ Some i
 is_at n len i same within = by (ltb i len) refl
   where
@@ -44,7 +44,7 @@ is_nowhere n len same = by (ltb len len) refl
     by false h = rw (same, h) refl
 
 module _ {X : Type 0} (name : X → List ℕ) where
-  -- a name at one place is below a name at a later place
+  -- A name at one place is below a name at a later place.
   below : (xs : List X) (i j : ℕ) (d : X) → IsRising (map name xs) → i < j → j < length xs → order (name (get_or xs i d)) (name (get_or xs j d)) ≡ Less
   below xs i j d rise lt within =
       let long : length (map name xs) ≡ length xs = length-map xs name in
@@ -52,7 +52,7 @@ module _ {X : Type 0} (name : X → List ℕ) where
       let second : get_or (map name xs) j (name d) ≡ name (get_or xs j d) = get_or-map name xs j d (name d) within in
       rw (← first, ← second) (Less-from_sorted order (map name xs) i j (name d) rise lt (rw long within))
 
-  -- the place of a name that stands there is the first
+  -- The place of a name that occurs is the first.
   there : (xs : List X) (n : List ℕ) (i : ℕ) (d : X) → IsRising (map name xs) → i < length xs → name (get_or xs i d) ≡ n → position_or_len (λ x. bytes_eq (name x) n) xs ≡ i
   there [] n i d rise within same = absurd (omega (arith, within))
   there (x ∷ xs) n zero d rise within same =
@@ -63,19 +63,19 @@ module _ {X : Type 0} (name : X → List ℕ) where
       let more : position_or_len (λ y. bytes_eq (name y) n) xs ≡ i = there xs n i d (sorted_tail order (name x) (map name xs) rise) (omega (arith, within)) same in
       rw apart (omega (arith, more))
 
-  -- a name that stands at no place
+  -- A name that is at no place.
   nowhere : (xs : List X) (n : List ℕ) → ((i : ℕ) (d : X) → i < length xs → bytes_eq (name (get_or xs i d)) n ≡ false) → position_or_len (λ x. bytes_eq (name x) n) xs ≡ length xs
   nowhere [] n none = refl
   nowhere (x ∷ xs) n none =
       let more : position_or_len (λ y. bytes_eq (name y) n) xs ≡ length xs = nowhere xs n (λ i d within. none (suc i) d (omega (arith, within))) in
       rw (none 0 x (omega arith)) (omega (arith, more))
 
-  -- the comparisons with a name rise along the list, as a binary search asks
+  -- The comparisons with a name rise along the list, as a binary search requires.
   comparisons_rise : (xs : List X) (n : List ℕ) → IsRising (map name xs) → IsNonDecreasingBy (λ x. ordering_index (order (name x) n)) xs
   comparisons_rise xs n rise = searchable_from_sorted nat_list_cmp_total name xs n
       (λ k d low within. ap is_lt (nat_list_cmp_total.antisymm (name (get_or xs (k + 1) d)) (name (get_or xs k d)) ∙ ap ordering_reverse (below xs k (k + 1) d rise (omega arith) within)))
 
-  -- a binary search answers the first place of the name, or that it stands nowhere
+  -- A binary search returns the first place of the name, or that it is at no place.
   pub searched : (xs : List X) (n : List ℕ) (r : Result ℕ ℕ) → IsRising (map name xs) → IsSearchInRange r (length xs) → IsBinarySearchResult (λ x. order (name x) n) xs r
       → MatchResult r (λ i. X → position_or_len (λ x. bytes_eq (name x) n) xs ≡ i) (λ _. position_or_len (λ x. bytes_eq (name x) n) xs ≡ length xs)
   searched xs n (Ok i) rise within equal = λ d. there xs n i d rise within (exact_bytes _ _ (equal d))
@@ -90,7 +90,7 @@ module _ {X : Type 0} (name : X → List ℕ) where
         | inr le ↦ ap is_eq (sides.1 k d le inside)
       ]
 
-  -- the same as a place that may be missing
+  -- The same as an optional place.
   pub place_found : (xs : List X) (n : List ℕ) (i : ℕ) (d : X) → IsRising (map name xs) → i < length xs → IsBinarySearchResult (λ x. order (name x) n) xs (Ok i)
       → Some i ≡ position (λ x. bytes_eq (name x) n) xs
   place_found xs n i d rise within equal = sym (is_at _ (length xs) i (searched xs n (Ok i) rise within equal d) within)

@@ -1,4 +1,4 @@
--- One more record of a types table: what it says, and that a look-up by groups gives it.
+-- One more record of a types table: its kinds, and that a lookup by groups gives them.
 use Rattle.std.proofs.Common.{◌≡◌, ◌∙◌, ℕ, List, [], ◌∷◌, Option, Some, None, Bool, true, false, ◌&&◌, if◌then◌else◌, refl, sym, ap}
 use Rattle.std.proofs.lemmas.List.Folds.{find-append}
 use Rattle.std.specs.Option.{option_map, option_or}
@@ -20,7 +20,7 @@ map-or : {A B : Type 0} (f : A → B) (a b : Option A) → option_map f (option_
 map-or f None b = refl
 map-or f (Some x) b = refl
 
--- the kinds after one more record
+-- The kinds after one more record.
 pub said-more : (types : TypesValue) (u l uri local : List ℕ) (k : Kind)
     → kind_in (with_kind types u l k) uri local ≡ option_or (kind_in types uri local) (if bytes_eq u uri && bytes_eq l local then Some k else None)
 said-more types u l uri local k =
@@ -43,7 +43,7 @@ both true true h = (refl, refl)
 both true false h = cc h
 both false b h = cc h
 
--- groups with one more kind give what the records and one more say
+-- Groups with one more kind give what the records with one more give.
 pub kept-more : (groups more : Grouped Kind) (types : TypesValue) (u l : List ℕ) (k : Kind) → GivesKinds groups types → kind_in types u l ≡ None
     → ExtendsUnder groups u l k more → GivesKinds more (with_kind types u l k)
 kept-more groups more types u l k kept none extends =

@@ -1,4 +1,4 @@
--- What is true of the parts of any report: the places that they name, their order and their identifiers.
+-- Properties of any report: the places in its parts, their order and their identifiers.
 use Rattle.std.specs.Prelude.{◌<◌, ℕ, List, IfSome, length}
 use Rattle.std.specs.List.{All}
 use Rattle.std.specs.Map.{keys_of}
@@ -8,11 +8,13 @@ use Rattle.oim_report.specs.declared.data.Level.{Level}
 use Rattle.oim_report.specs.declared.data.Table.{Table}
 use Rattle.oim_report.specs.declared.data.Template.{Template}
 
--- the columns that a template's columns take groups from are there, and so is its column of row identifiers
+-- The columns that a template's columns take groups from exist, and so does its column of row
+-- identifiers.
 unfoldable pub HasColumns : Template → Type 0
 HasColumns t = All (λ c. All (λ i. i < length t.columns) c.from) t.columns × IfSome t.row_id_column (λ i. i < length t.columns)
 
--- each table's template is there, and each column that a template names; the parts are in order and have identifiers, and the metadata's own parameters are in order
+-- Each table's template exists, and each column that a template names. The parts are in order and
+-- have identifiers, and the metadata's own parameters are in order.
 unfoldable pub IsReport : Level → List Template → List Table → List (List ℕ × List ℕ) → Type 0
 IsReport level templates tables parameters =
     All (λ (t : Table). t.template < length templates) tables × All HasColumns templates

@@ -1,4 +1,4 @@
--- What the readers of a report answer. Places that are out of range have empty parts.
+-- The values that the readers of a report return. Places that are out of range have empty parts.
 use Rattle.std.specs.Prelude.{ℕ, List, [], Bool, true, false, Option, None, slice_index_or}
 use Rattle.std.specs.List.{position}
 use Rattle.std.specs.Option.{option_or}
@@ -14,7 +14,7 @@ use Rattle.oim_report.specs.declared.data.Table.{Table}
 use Rattle.oim_report.specs.declared.data.Template.{Template}
 use Rattle.oim_report.specs.declared.kind.Kind.{Kind}
 
--- a level that writes nothing, and the other parts at a place that is out of range
+-- A level without properties, and the other parts at a place that is out of range.
 abbrev pub no_level : Level
 no_level = record { dimensions = []; decimals = None }
 
@@ -39,23 +39,23 @@ columns_of r i = (template_of r i).columns
 abbrev pub column_of : ReportValue → ℕ → ℕ → Column
 column_of r i c = slice_index_or (columns_of r i) c no_column
 
--- the place of the first column with this identifier
+-- The place of the first column with this identifier.
 abbrev pub place_of_name : List Column → List ℕ → Option ℕ
 place_of_name columns n = position (λ k. bytes_eq k.id n) columns
 
--- the same among the columns of a table's template
+-- The same among the columns of a table's template.
 abbrev pub column_named : ReportValue → ℕ → List ℕ → Option ℕ
 column_named r i n = place_of_name (columns_of r i) n
 
--- the table's parameter, else the report's
+-- The table's parameter, else the report's.
 abbrev pub parameter_of : ReportValue → ℕ → List ℕ → Option (List ℕ)
 parameter_of r i n = option_or (value_at n (table_of r i).parameters) (value_at n r.parameters)
 
--- the kind of the concept or dimension of a URI and a local part
+-- The kind of the concept or dimension of a URI and a local part.
 abbrev pub kind_of : ReportValue → List ℕ → List ℕ → Option Kind
 kind_of r uri local = kind_in r.types uri local
 
--- the cells of a column of this kind are facts
+-- The cells of a column of this kind are facts.
 abbrev pub holds_facts : ColumnKind → Bool
 holds_facts Fact = true
 holds_facts Groups = false

@@ -1,4 +1,4 @@
--- What the metadata of a report says, with its parameters and its types.
+-- The value of a report: its metadata with its parameters and its types.
 use Rattle.std.specs.Prelude.{List, ◌++◌}
 use Rattle.oim_names.specs.Bindings.{Bindings}
 use Rattle.oim_report.specs.Parameters.{ParametersValue}
@@ -17,7 +17,8 @@ pub record ReportValue : Type 0 where
   pub tables : List Table
   pub parameters : ParametersValue
 
--- the report of these parts: the parameters of the metadata stand before those that are given beside it
+-- The report of these parts. The parameters of the metadata are before those of the parameters
+-- file.
 abbrev pub report_with : Info → Bindings → TypesValue → Level → List Template → List Table → ParametersValue × ParametersValue → ReportValue
 report_with info namespaces types level templates tables parameters = record {
   info = info;

@@ -4,6 +4,6 @@ use Rattle.std.specs.Ordering.{nat_cmp}
 use Rattle.std.specs.Cmp.Lexicographic.{slice_cmp}
 use Rattle.std.specs.List.Sorted.{IsStrictlySortedBy}
 
--- each name is below those after it, in byte order
+-- Each name is below the names after it, in byte order.
 abbrev pub IsRising : List (List ℕ) → Type 0
 IsRising = IsStrictlySortedBy (slice_cmp nat_cmp)

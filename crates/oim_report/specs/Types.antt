@@ -7,14 +7,14 @@ use Rattle.oim_report.specs.declared.typed_name.TypedName.{TypedName}
 abbrev pub TypesValue : Type 0
 TypesValue = List TypedName
 
--- a record is of this URI and local part
+-- The record has this URI and local part.
 abbrev pub is_of : List ℕ → List ℕ → TypedName → Bool
 is_of uri local name = bytes_eq name.uri uri && bytes_eq name.local local
 
--- the kind of the concept or dimension of a URI and a local part: that of its record
+-- The kind of the concept or dimension of a URI and a local part: that of its first record.
 abbrev pub kind_in : TypesValue → List ℕ → List ℕ → Option Kind
 kind_in types uri local = option_map (λ (name : TypedName). name.kind) (find (is_of uri local) types)
 
--- the types with one more record, the last
+-- The types with one more record at the end.
 abbrev pub with_kind : TypesValue → List ℕ → List ℕ → Kind → TypesValue
 with_kind types uri local k = types ++ record { uri = uri; local = local; kind = k } ∷ []

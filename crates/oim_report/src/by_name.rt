@@ -1,4 +1,4 @@
-//! A column by its name.
+//! Columns by name.
 
 ghost use Rattle.std.specs.Prelude.{◌≡◌, map};
 ghost use Rattle.oim_report.specs.Readers.{place_of_name};
@@ -7,10 +7,10 @@ ghost use Rattle.oim_report.specs.declared.data.Column.{Column as ColumnValue};
 
 use crate::data::Column;
 
-/// How many columns there may be that are sooner walked than searched.
+/// Up to this many columns a walk is used instead of a binary search.
 const SHORT: usize = 8;
 
-/// The place of the column of a name, by a walk.
+/// Returns the place of the column with this name, by a walk.
 fn place_by_walk(columns: &[Column], name: &[u8]) -> Option<usize>
     ensures { result ≡ place_of_name columns.now name.now }
 {
@@ -19,7 +19,8 @@ fn place_by_walk(columns: &[Column], name: &[u8]) -> Option<usize>
         .position(|column| column.id.as_str().as_bytes() == name)
 }
 
-/// The place of the column of a name among columns whose names rise strictly in byte order, where there is one.
+/// Returns the place of the column with this name, or `None` if no column has it. The columns'
+/// names are in strict byte order.
 pub(crate) fn place_in_order(columns: &[Column], name: &[u8]) -> Option<usize>
     requires { IsRising (map (λ (c : ColumnValue). c.id) columns.now) }
     ensures { result ≡ place_of_name columns.now name.now }

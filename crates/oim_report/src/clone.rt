@@ -101,7 +101,7 @@ impl Clone for Info {
 }
 
 impl Report {
-    /// Equal copies of its level, its templates and its tables.
+    /// Copies the report's level, templates and tables.
     fn cloned_tables(&self) -> Result<(Level, Items<Template>, Items<Table>), AllocError>
         ensures level { IfOk result (λ made. made.0 ≡ self.now.level) }
         ensures templates { IfOk result (λ made. made.1 ≡ self.now.templates) }
@@ -112,7 +112,7 @@ impl Report {
         Ok((level, templates, self.tables.clone()?))
     }
 
-    /// Equal copies of its prefixes and its types.
+    /// Copies the report's prefixes and types.
     fn cloned_names(&self) -> Result<(Namespaces, Types), AllocError>
         ensures namespaces { IfOk result (λ made. made.0 ≡ self.now.namespaces) }
         ensures types { IfOk result (λ made. made.1 ≡ self.now.types) }
@@ -122,7 +122,7 @@ impl Report {
     }
 }
 
-/// Equal copies of the metadata's own parameters and of those of the parameters file.
+/// Copies the metadata's own parameters and those of the parameters file.
 fn copies_of(
     own: &Items<(Text, Text)>,
     given: &Parameters,

@@ -1,14 +1,17 @@
-//! A report: what its metadata says, with its parameters and its types.
+//! A report: its metadata with its parameters and its types.
 //!
-//! What the crate promises:
-//! - the readers of a `Report` give its parts, and `clone_report` an equal report;
-//! - the parts of any `Report` are in byte order of name, and its tables, templates and columns have identifiers
-//!   (`stands_in_order`, `specs/InOrder.antt`), and each place that `row_id_column` gives or a `column` names is in range;
-//! - `Types::kind_of` gives the kind that the records of the types say, and `Parameters` their names and values.
+//! What is proved:
 //!
-//! It knows nothing of JSON or of files.
+//! - The readers of a `Report` return its parts, and `clone_report` an equal report.
+//! - The parts of any `Report` are in byte order of name, and its tables, templates and columns
+//!   have identifiers (`stands_in_order`, `specs/InOrder.antt`). The places that `row_id_column`
+//!   and `column` return are in range.
+//! - `Types::kind_of` returns the kind that the types table's records give, and `Parameters` the
+//!   names and values that were added.
 //!
-//! A call:
+//! The crate reads neither JSON nor files.
+//!
+//! Example:
 //!
 //! ```
 //! /// The first table of a report, and its first column.

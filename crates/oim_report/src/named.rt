@@ -10,7 +10,7 @@ use indexmap::IndexMap;
 use std::alloc::{AllocError, Global};
 use std::marker::Model;
 
-/// Values by name. No name appears twice. A contract sees them in the order in which they were added.
+/// Values by name. Each name occurs once. Contracts see them in the order in which they were added.
 #[derive(Drop)]
 pub struct Named<V> {
     pub(crate) entries: IndexMap<String, V>,
@@ -27,7 +27,7 @@ impl<V> Model for Named<V> {
 }
 
 impl<V> Named<V> {
-    /// No values. It takes no memory.
+    /// Makes an empty collection. Takes no memory.
     pub fn new(alloc: Global) -> Named<V>
         ensures { result ≡ [] }
     {
@@ -36,21 +36,21 @@ impl<V> Named<V> {
         }
     }
 
-    /// Whether there are no values.
+    /// Returns whether there are no values.
     pub fn is_empty(&self) -> bool
         ensures { result ≡ (length self.now == 0) }
     {
         self.entries.len() == 0
     }
 
-    /// The value of a name.
+    /// Returns the value of a name.
     pub fn get(&self, name: &str) -> Option<&V>
         ensures { option_map (λ v. v.now) result ≡ value_at name.now self.now }
     {
         self.entries.get(name)
     }
 
-    /// Adds a value as the last. Fails if memory runs out.
+    /// Appends a value.
     pub fn push(&mut self, name: String, value: V) -> Result<(), AllocError>
     where
         V: Drop,
@@ -76,7 +76,7 @@ impl<V: Clone> Clone for Named<V> {
 }
 
 impl<V> Named<Named<V>> {
-    /// Adds a value under a name in a group that is new.
+    /// Adds a value under a name in a new group.
     fn push_group(
         &mut self,
         alloc: Global,
@@ -94,7 +94,7 @@ impl<V> Named<Named<V>> {
         self.push(String::from_str(alloc, group)?, values)
     }
 
-    /// Adds a value under a name in a group.
+    /// Adds a value under a name in a group, which is made if it does not exist.
     pub fn push_under(
         &mut self,
         alloc: Global,

@@ -9,7 +9,7 @@ use oim_names::{Items, Text};
 use std::alloc::{AllocError, Global};
 use std::marker::Model;
 
-/// The parameters of a parameters file (xBRL-CSV 1.0, parameters). A contract sees the names with
+/// The parameters of a parameters file (xBRL-CSV 1.0, parameters). Contracts see the names with
 /// their values, in file order.
 #[derive(Drop)]
 pub struct Parameters {
@@ -35,7 +35,7 @@ impl Clone for Parameters {
 }
 
 impl Parameters {
-    /// No parameters. It takes no memory.
+    /// Makes an empty collection of parameters. Takes no memory.
     pub fn none(alloc: Global) -> Parameters
         ensures { result ≡ [] }
     {
@@ -44,14 +44,14 @@ impl Parameters {
         }
     }
 
-    /// Whether a name is among them. It does not search through all names.
+    /// Returns whether the name is a parameter, without a search through all names.
     pub fn has_name(&self, name: &str) -> bool
         ensures { result ≡ is_some (value_at name.now self.now) }
     {
         self.entries.get(name).is_some()
     }
 
-    /// The value of a name. It does not search through all names.
+    /// Returns the value of a name, without a search through all names.
     pub fn value(&self, name: &str) -> Option<&Text>
         ensures { option_map (λ t. t.now) result ≡ value_at name.now self.now }
     {
@@ -61,7 +61,7 @@ impl Parameters {
         self.entries.get(name)
     }
 
-    /// The same parameters and one more, the last.
+    /// Returns the parameters with one more at the end.
     pub fn with(self, alloc: Global, name: &str, value: &str) -> Result<Parameters, AllocError>
         requires { value_at name.now self ≡ None }
         ensures { IfOk result (λ more. more ≡ self ++ (name.now, value.now) ∷ []) }

@@ -16,21 +16,21 @@ use oim_names::{Namespaces, Text, find_in_order};
 use std::alloc::AllocError;
 
 impl Report {
-    /// What the document says of itself: its base URL and its taxonomy.
+    /// Returns the document's own information: its base URL and its taxonomy.
     pub fn info(&self) -> &Info
         ensures { result.now ≡ self.now.info }
     {
         &self.info
     }
 
-    /// The prefixes with their URIs.
+    /// Returns the prefixes with their URIs.
     pub fn namespaces(&self) -> &Namespaces
         ensures { result.now ≡ self.now.namespaces }
     {
         &self.namespaces
     }
 
-    /// How many tables there are.
+    /// Returns the count of tables.
     pub fn tables(&self) -> usize
         ensures { result ≡ length self.now.tables }
     {
@@ -53,7 +53,7 @@ impl Report {
         &self.templates.as_slice()[self.table(i).template]
     }
 
-    /// The identifier of the table at a place, counted from 0 in byte order of identifier.
+    /// Returns the identifier of table `i`, from 0 in byte order of identifier.
     pub fn table_id(&self, i: usize) -> &str
         requires { i < length self.now.tables }
         ensures { result.now ≡ (table_of self.now i).id }
@@ -61,7 +61,7 @@ impl Report {
         self.table(i).id.as_str()
     }
 
-    /// The URL of a table's file: a plain relative path where `oim_meta` read the report.
+    /// Returns the URL of a table's file: a plain relative path if `oim_meta` read the report.
     pub fn table_url(&self, i: usize) -> &str
         requires { i < length self.now.tables }
         ensures { result.now ≡ (table_of self.now i).url }
@@ -69,7 +69,7 @@ impl Report {
         self.table(i).url.as_str()
     }
 
-    /// Whether a table's file may be missing.
+    /// Returns whether a table's file may be missing.
     pub fn is_optional(&self, i: usize) -> bool
         requires { i < length self.now.tables }
         ensures { result ≡ (table_of self.now i).is_optional }
@@ -77,7 +77,7 @@ impl Report {
         self.table(i).is_optional
     }
 
-    /// How many columns the template of a table has.
+    /// Returns the count of columns of a table's template.
     pub fn columns(&self, i: usize) -> usize
         requires { i < length self.now.tables }
         ensures { result ≡ length (columns_of self.now i) }
@@ -85,7 +85,7 @@ impl Report {
         self.template(i).columns.len()
     }
 
-    /// The columns of a table's template, in byte order of identifier.
+    /// Returns the columns of a table's template, in byte order of identifier.
     pub fn template_columns(&self, i: usize) -> &[Column]
         requires { i < length self.now.tables }
         ensures { result.now ≡ columns_of self.now i }
@@ -93,8 +93,10 @@ impl Report {
         self.template(i).columns.as_slice()
     }
 
-    /// The place of the column with this identifier in a table's template, counted from 0 in byte order of
-    /// identifier, or `None` where there is none. It does not look through all of more than eight columns.
+    /// Returns the place of the column with this identifier in a table's template, from 0 in byte
+    /// order of identifier, or `None` if no column has it.
+    ///
+    /// Uses a binary search if the template has more than eight columns.
     #[tactic(auto, using(crate::proofs::GroupOrder::columns_rise))]
     pub fn place_of_column(&self, i: usize, name: &[u8]) -> Option<usize>
         requires { i < length self.now.tables }
@@ -104,7 +106,7 @@ impl Report {
         place_in_order(self.template_columns(i), name)
     }
 
-    /// The column at a place of a table's template.
+    /// Returns the column at a place of a table's template.
     #[tactic(auto, using(crate::proofs::PlaceFacts::from_is_there))]
     pub fn column(&self, i: usize, c: usize) -> &Column
         requires table { i < length self.now.tables }
@@ -115,7 +117,7 @@ impl Report {
         &self.template(i).columns.as_slice()[c]
     }
 
-    /// The group of this name in a column of groups.
+    /// Returns the property group with this name of a property group column.
     #[tactic(auto, using(crate::proofs::GroupOrder::groups_rise))]
     pub fn group(&self, i: usize, c: usize, name: &str) -> Option<&Level>
         requires table { i < length self.now.tables }
@@ -126,7 +128,7 @@ impl Report {
         find_in_order(self.column(i, c).groups.as_slice(), name)
     }
 
-    /// The place of the column of row identifiers, if the table's template names one.
+    /// Returns the place of the column of row identifiers, if the table's template names one.
     #[tactic(auto, using(crate::proofs::PlaceFacts::row_id_is_there))]
     pub fn row_id_column(&self, i: usize) -> Option<usize>
         requires { i < length self.now.tables }
@@ -136,7 +138,7 @@ impl Report {
         self.template(i).row_id_column
     }
 
-    /// What a table's template writes.
+    /// Returns the level of a table's template.
     pub fn template_level(&self, i: usize) -> &Level
         requires { i < length self.now.tables }
         ensures { result.now ≡ (template_of self.now i).level }
@@ -144,14 +146,14 @@ impl Report {
         &self.template(i).level
     }
 
-    /// What the report writes.
+    /// Returns the level of the report.
     pub fn report_level(&self) -> &Level
         ensures { result.now ≡ self.now.level }
     {
         &self.level
     }
 
-    /// The value of the report's parameter with this name.
+    /// Returns the value of the report's parameter with this name.
     #[tactic(auto, using(crate::proofs::PlaceFacts::own_parameters_rise, crate::proofs::ParameterFacts::value_in_both))]
     fn own_parameter(&self, name: &str) -> Option<&Text>
         ensures { option_map (λ t. t.now) result ≡ value_at name.now self.now.parameters }
@@ -162,8 +164,9 @@ impl Report {
         }
     }
 
-    /// The value of the table's parameter with this name, else of the report's. It does not look
-    /// through all of more than eight names.
+    /// Returns the value of the table's parameter with this name, else of the report's.
+    ///
+    /// Uses a binary search in a list of more than eight names.
     #[tactic(auto, using(crate::proofs::GroupOrder::parameters_rise))]
     pub fn parameter(&self, i: usize, name: &str) -> Option<&str>
         requires { i < length self.now.tables }
@@ -179,25 +182,25 @@ impl Report {
         }
     }
 
-    /// The kind of the concept or dimension with this namespace URI and local part.
+    /// Returns the kind of the concept or dimension with this namespace URI and local part.
     pub fn kind_of(&self, uri: &str, local: &str) -> Option<Kind>
         ensures { result ≡ kind_of self.now uri.now local.now }
     {
         self.types.kind_of(uri, local)
     }
 
-    /// The parts of any report are in byte order of name, and its tables, templates and columns have
-    /// identifiers. The call does nothing.
+    /// Proves that the report's parts are in byte order of name, and that its tables, templates and
+    /// columns have identifiers. Does nothing when it runs.
     #[tactic(auto, using(crate::proofs::PlaceFacts::parts_rise, crate::proofs::PlaceFacts::have_identifiers))]
     pub fn stands_in_order(&self)
         ensures order { PartsRise self.now.level self.now.templates self.now.tables }
         ensures identifiers { HaveIdentifiers self.now.templates self.now.tables }
     {
-        // For the proof: what the type keeps is at hand where a field is looked at.
+        // For the proof: reading a field makes the type's invariant available.
         let _level = &self.level;
     }
 
-    /// An equal report. This one stays as it is. Fails if memory runs out.
+    /// Returns an equal report, and leaves this one unchanged.
     pub fn clone_report(&self) -> Result<Report, AllocError>
         ensures { IfOk result (λ copy. copy ≡ self.now) }
     {

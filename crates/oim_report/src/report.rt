@@ -10,7 +10,7 @@ use crate::types::Types;
 use oim_names::{Items, Namespaces, Text};
 use std::marker::Model;
 
-/// The metadata of a report, with its parameters and its types. A contract sees all its parts.
+/// The metadata of a report, with its parameters and its types. Contracts see all its parts.
 pub struct Report {
     pub(crate) info: Info,
     pub(crate) namespaces: Namespaces,
@@ -24,7 +24,7 @@ pub struct Report {
     pub(crate) given: Parameters,
 }
 
-// By hand, so that who lets one go elsewhere makes one call.
+// Written by hand, so that a drop in another crate is one call.
 impl Drop for Report {
     fn drop(self) {
         let Self {
@@ -52,8 +52,8 @@ impl Model for Report {
 }
 
 impl Report {
-    /// The report of these parts, each of whose places is in range and whose names are in order, with the parameters of the
-    /// metadata and those given beside it.
+    /// Makes a report of its parts. Their places must be in range and their names in order.
+    /// `parameters` are those of the metadata and those of the parameters file.
     pub fn new(
         info: Info,
         namespaces: Namespaces,

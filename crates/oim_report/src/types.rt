@@ -11,8 +11,8 @@ use oim_names::Items;
 use std::alloc::{AllocError, Global};
 use std::marker::Model;
 
-/// The types of concepts and dimensions, which take the place of the taxonomy (XBRL 2.1, XBRL Dimensions 1.0).
-/// A contract sees the records of the types table, in file order.
+/// The types of concepts and dimensions, which are used instead of the taxonomy (XBRL 2.1, XBRL
+/// Dimensions 1.0). Contracts see the records of the types table, in file order.
 #[derive(Drop)]
 pub struct Types {
     namespaces: Named<Named<Kind>>,
@@ -43,20 +43,20 @@ impl Clone for Types {
 
 /// The records of some types, and one more.
 #[derive(Drop)]
-struct OneMore<'a> {
+struct OneMoreName<'a> {
     before: &'a GhostValue<Items<TypedName>>,
     uri: &'a str,
     local: &'a str,
     kind: Kind,
 }
 
-impl Denotes<Items<TypedName>> for OneMore<'_> {
+impl Denotes<Items<TypedName>> for OneMoreName<'_> {
     ghost denoted = { λ t. with_kind t.before.now.value t.uri.now t.local.now t.kind };
 }
 
 impl Types {
-    /// The kind of the concept or dimension with this namespace URI and local part, or `None` if the table
-    /// does not name it. It takes no memory, and does not search through all names.
+    /// Returns the kind of the concept or dimension with this namespace URI and local part, or
+    /// `None` if the table does not name it. Does not search through all names.
     pub fn kind_of(&self, uri: &str, local: &str) -> Option<Kind>
         ensures { result ≡ kind_in self.now uri.now local.now }
     {
@@ -66,7 +66,7 @@ impl Types {
         }
     }
 
-    /// No types. It takes no memory.
+    /// Makes an empty collection of types. Takes no memory.
     pub fn none(alloc: Global) -> Types
         ensures { result ≡ [] }
     {
@@ -76,7 +76,7 @@ impl Types {
         }
     }
 
-    /// The same types and one more, the last.
+    /// Returns the types with one more record at the end.
     pub fn with(
         self,
         alloc: Global,
@@ -95,7 +95,7 @@ impl Types {
         let before = &records;
         Ok(Types {
             namespaces,
-            records: GhostValue::of(&OneMore {
+            records: GhostValue::of(&OneMoreName {
                 before,
                 uri,
                 local,

@@ -19,7 +19,7 @@ use Rattle.oim_resolve.proofs.Outcomes.{Together, all_given, cell_result-outcome
 abbrev pub order : List ℕ → List ℕ → Ordering
 order = slice_cmp nat_cmp
 
--- k comes before each of the names
+-- k precedes each of the names.
 abbrev pub Precedes : List ℕ → List (List ℕ) → Type 0
 Precedes k ks = AllByRecursion (λ j. order k j ≡ Less) ks
 
@@ -30,7 +30,7 @@ pub earlier : (n k : List ℕ) (ks : List (List ℕ)) → order n k ≡ Less →
 earlier n k [] e h = tt
 earlier n k (j ∷ ks) e h = (nat_list_cmp_total.trans n k j e h.0, earlier n k ks e h.1)
 
--- the three cases of a name put before, at or after the first
+-- The three cases of a name inserted before, at or after the first.
 put_case : (P : List (List ℕ) → Type 0) (k n : List ℕ) (ks : List (List ℕ)) (o : Ordering)
     → (o ≡ Less → P (n ∷ k ∷ ks)) → (o ≡ Equal → P (k ∷ ks)) → (o ≡ Greater → P (k ∷ put_name ks n)) → P (match_ordering o (n ∷ k ∷ ks) (k ∷ ks) (k ∷ put_name ks n))
 put_case P k n ks Less a b d = a refl
@@ -56,14 +56,14 @@ pub IsAscending-names : (ls : List Level) → IsAscending (names ls)
 IsAscending-names [] = tt
 IsAscending-names (l ∷ ls) = IsAscending-fold (map (λ e. e.0) l.dimensions) (names ls) (IsAscending-names ls)
 
--- names put to ascending names, and the names of levels
+-- Names inserted into ascending names, and the names of levels.
 pub ascending_puts : (ks js ns : List (List ℕ)) → ks ≡ fold put_name js ns → IsAscending js → IsAscending ks
 ascending_puts ks js ns e h = subst IsAscending (sym e) (IsAscending-fold ns js h)
 
 pub ascending_names : (ks : List (List ℕ)) (ls : List Level) → ks ≡ names ls → IsAscending ks
 ascending_names ks ls e = subst IsAscending (sym e) (IsAscending-names ls)
 
--- the entries of ascending names
+-- The entries of ascending names.
 abbrev entries : (List ℕ → Option (Option (List ℕ))) → List (List ℕ) → List (List ℕ × Option (List ℕ))
 entries f ns = flat_map (λ n. named_entry n (f n)) ns
 
@@ -84,7 +84,7 @@ pub fact_ascends : (c : Cell) → IsAscending (map (λ d. d.0) (fact_of c).dimen
 unfolding fact_of
 fact_ascends c = IsAscending-entries (dimension_entry c (concept_kind c)) (names (levels c)) (IsAscending-names (levels c))
 
--- the dimensions that are read for a fact
+-- The dimensions that are read for a fact.
 pub given_ascends : (c : Cell) (k : Kind) (w : Together) (r : Result Together CellFault) → r ≡ Ok w → r ≡ unless (rest c k) (Ok (all_given c k)) → IsAscending (map (λ d. d.0) w.0.0)
 given_ascends c k w r is e =
     let parts : w ≡ all_given c k = read_value (rest c k) (all_given c k) w (sym is ∙ e) in

@@ -1,4 +1,5 @@
--- Cells whose results are known, found by computing the definitions. The years of periods are early ones, because their days are counted fast.
+-- Cells whose results are known, found by computing the definitions. The years of periods are early
+-- ones, because their days are counted fast.
 use Rattle.std.proofs.Common.{◌≡◌, ℕ, ℤ, List, [], ◌∷◌, ◌++◌, Option, Some, None, Result, Ok, Err, codes, map, decimal, refl, true, false, pos, negsuc}
 use Rattle.std.specs.Prelude.{⊤}
 use Rattle.std.specs.Fmt.{digits}
@@ -44,7 +45,7 @@ use Rattle.oim_resolve.specs.state.ProgramFaults.{both, least_of}
 use Rattle.oim_resolve.specs.Order.{IsAscending, HasNamesInOrder}
 use Rattle.oim_resolve.specs.Values.{literal_of, side_of}
 
--- what is unfolded to compute with names, with periods and with cells that are written out
+-- What is unfolded to compute with names, with periods and with cells that are written out.
 unfoldable names_on_literals : ⊤
 unfolding chars is_utf8 encode is_ncname is_name_char is_name_start qname_of sqname_of unit_of language_of
 names_on_literals = tt
@@ -82,7 +83,7 @@ types =
     ∷ known (codes "Open") kind.Boolean ∷ known (codes "Rate") (kind.Number number.Decimal) ∷ known (codes "Region") kind.Explicit
     ∷ known (codes "Rule") kind.Name ∷ []
 
--- a text, and a reference
+-- A text, and a reference.
 abbrev text : List ℕ → Written
 text t = w.Text t
 
@@ -107,7 +108,8 @@ template columns = record { id = codes "p"; columns = columns; row_id_column = N
 abbrev table : List (List ℕ × List ℕ) → Table
 table parameters = record { id = codes "t1"; url = codes "t1.csv"; is_optional = false; template = 0; parameters = parameters }
 
--- a report of one table t1: report dimensions and decimals, columns, the table's and the report's parameters
+-- A report of one table t1: report dimensions and decimals, columns, the table's and the report's
+-- parameters.
 abbrev report : (dimensions : List (List ℕ × Written)) → Option WrittenDecimals → (columns : List Column) → (of_table of_report : List (List ℕ × List ℕ)) → ReportValue
 report dimensions decimals columns of_table of_report = record {
   info = record { base_url = None; taxonomy = [] };
@@ -122,7 +124,7 @@ report dimensions decimals columns of_table of_report = record {
 abbrev row : List (List ℕ) → Row
 row cells = record { number = 1; id = codes "r_1"; cells = cells }
 
--- what a cell of a report of these parts gives
+-- What a cell of a report of these parts gives.
 abbrev gives : (dimensions : List (List ℕ × Written)) → Option WrittenDecimals → (columns : List Column) → (of_table of_report : List (List ℕ × List ℕ))
     → List (List ℕ) → ℕ → Result (Option Fact) CellFault
 gives dimensions decimals columns of_table of_report cells column =
@@ -131,7 +133,7 @@ gives dimensions decimals columns of_table of_report cells column =
 abbrev entry : List ℕ → List ℕ → List ℕ × Option (List ℕ)
 entry n t = (n, Some t)
 
--- concept, entity and period of each fact
+-- Concept, entity and period of each fact.
 abbrev common : List ℕ → List (List ℕ × Option (List ℕ))
 common concept = entry (codes "concept") concept ∷ entry (codes "entity") (codes "eg:A1") ∷ []
 
@@ -156,7 +158,7 @@ cash column value more = fact column (Some value) None (with_period (codes "eg:C
 abbrev concept : List ℕ → List ℕ × Written
 concept t = (codes "concept", text t)
 
--- a cell of one column of a concept
+-- A cell of one column of a concept.
 abbrev in_base : List ℕ → List ℕ → Result (Option Fact) CellFault
 in_base c t = gives base_level None (fact_column (codes "x") (concept c ∷ []) [] ∷ []) [] [] (t ∷ []) 0
 
@@ -171,7 +173,7 @@ text_cell : in_base (codes "eg:Note") (codes "first") ≡ note (Some (codes "fir
 unfolding on_literals
 text_cell = refl
 
--- SPECIAL VALUES in a text column
+-- SPECIAL VALUES in a text column (xBRL-CSV 1.0, special values).
 
 special_empty : in_base (codes "eg:Note") (codes "#empty") ≡ note (Some [])
 unfolding on_literals
@@ -197,7 +199,7 @@ special_unknown : in_base (codes "eg:Note") (codes "#foo") ≡ Err fault.Unknown
 unfolding on_literals
 special_unknown = refl
 
--- NUMERALS, with report decimals 0
+-- NUMERALS, with report decimals 0 (xBRL-CSV 1.0, the decimals suffix).
 abbrev in_rate : List ℕ → Result (Option Fact) CellFault
 in_rate t = gives base_level (Some (d.Fixed (accuracy.Places (pos 0)))) (fact_column (codes "x") (concept (codes "eg:Rate") ∷ []) [] ∷ []) [] [] (t ∷ []) 0
 
@@ -224,12 +226,13 @@ numeral_empty : in_rate (codes "#empty") ≡ Err fault.BadNumber
 unfolding on_literals
 numeral_empty = refl
 
--- a nil fact has no decimals
+-- A nil fact has no decimals.
 numeral_nil : in_rate (codes "#nil") ≡ fact (codes "x") None None (with_period (codes "eg:Rate") ++ unit (codes "iso4217:EUR"))
 unfolding on_literals
 numeral_nil = refl
 
--- GROUPS: a says that it has no unit, b takes the group's, c keeps its own; g names the group
+-- GROUPS (xBRL-CSV 1.0, property groups): g names the group. Column a has the unit `#none`, b takes
+-- the group's, c keeps its own.
 abbrev group_columns : List Column
 group_columns =
     fact_column (codes "a") (concept (codes "eg:Cash") ∷ (codes "unit", w.Absent) ∷ []) (3 ∷ [])
@@ -265,7 +268,7 @@ group_unknown_of_no_fact : in_groups (codes "gbp") [] 1 ≡ Ok None
 unfolding on_literals
 group_unknown_of_no_fact = refl
 
--- an unknown special value comes before an unknown group
+-- An unknown special value precedes an unknown group.
 group_order : in_groups (codes "gbp") (codes "#foo") 1 ≡ Err fault.UnknownSpecial
 unfolding on_literals
 group_order = refl
@@ -275,7 +278,8 @@ group_special_values : map (λ g. in_groups g (codes "2") 1) (codes "#none" ∷ 
 unfolding on_literals
 group_special_values = refl
 
--- REFERENCES: the concept of x is what column c, or the parameter c, says
+-- REFERENCES (xBRL-CSV 1.0, column and parameter references): the concept of x is that of column c,
+-- or of the parameter c.
 abbrev referring : (of_table of_report : List (List ℕ × List ℕ)) → List ℕ → Result (Option Fact) CellFault
 referring of_table of_report c =
     gives base_level None (plain_column (codes "c") ∷ fact_column (codes "x") ((codes "concept", reference (codes "c")) ∷ []) [] ∷ []) of_table of_report (c ∷ codes "1" ∷ []) 1
@@ -299,7 +303,8 @@ reference_unknown_name : referring [] [] (codes "eg:Region") ≡ Err fault.Unkno
 unfolding on_literals
 reference_unknown_name = refl
 
--- a typed dimension, a name that no record has, one without a prefix, one of a prefix that is not declared, and no name
+-- A typed dimension, a name that the types table lacks, one without a prefix, one of a prefix that
+-- is not declared, and a text that is not a name.
 no_concepts : map (referring [] []) (codes "eg:Branch" ∷ codes "eg:Nowhere" ∷ codes "Cash" ∷ codes "zz:Cash" ∷ codes "1" ∷ [])
     ≡ Err fault.UnknownName ∷ Err fault.UnknownName ∷ Err fault.UnknownName ∷ Err fault.UnknownName ∷ Err fault.UnknownName ∷ []
 unfolding on_literals
@@ -309,7 +314,7 @@ reference_report_last : referring [] (parameter (codes "eg:Cash")) [] ≡ cash (
 unfolding on_literals
 reference_report_last = refl
 
--- WHAT A CONCEPT DROPS: units of texts and languages of numbers, before they are read
+-- DROPPED DIMENSIONS: units of texts and languages of numbers are dropped before they are read.
 abbrev spoken : Written → List ℕ → List ℕ → Result (Option Fact) CellFault
 spoken u c t =
     gives ((codes "entity", text (codes "eg:A1")) ∷ (codes "language", text (codes "en-GB")) ∷ (codes "period", text (codes "0005Q4")) ∷ (codes "unit", u) ∷ []) None
@@ -324,7 +329,7 @@ kept_unit_is_read : spoken (reference (codes "u")) (codes "eg:Cash") (codes "1")
 unfolding on_literals
 kept_unit_is_read = refl
 
--- a unit without a prefix, and one of a prefix that is not declared
+-- A unit without a prefix, and one of a prefix that is not declared.
 bad_units : map (λ u. spoken (text u) (codes "eg:Cash") (codes "1")) (codes "EUR" ∷ codes "zz:EUR" ∷ []) ≡ Err fault.BadValue ∷ Err fault.BadValue ∷ []
 unfolding on_literals
 bad_units = refl
@@ -333,7 +338,7 @@ pure_unit : spoken (text (codes "xbrli:pure")) (codes "eg:Cash") (codes "1") ≡
 unfolding on_literals
 pure_unit = refl
 
--- TYPED AND EXPLICIT DIMENSIONS, AND SIDES; b is the plain column
+-- TYPED AND EXPLICIT DIMENSIONS, AND SIDES. b is the plain column.
 abbrev with_b : List (List ℕ × Written) → List ℕ → Result (Option Fact) CellFault
 with_b dimensions b = gives dimensions None (plain_column (codes "b") ∷ fact_column (codes "x") (concept (codes "eg:Cash") ∷ []) [] ∷ []) [] [] (b ∷ codes "1" ∷ []) 1
 
@@ -362,7 +367,7 @@ side_of_an_instant : with_b sided (codes "0005-12-31T00:00:00") ≡ Err fault.No
 unfolding on_literals
 side_of_an_instant = refl
 
--- A BAD PERIOD in the report: a fault where a cell has a fact, and not where it has none; and it comes before a bad number
+-- A BAD PERIOD in the report is a fault only if a cell has a fact. It precedes a bad number.
 abbrev bad_period : List ℕ → Result (Option Fact) CellFault
 bad_period t = gives ((codes "period", text (codes "nope")) ∷ []) None (fact_column (codes "x") (concept (codes "eg:Cash") ∷ []) [] ∷ []) [] [] (t ∷ []) 0
 
@@ -374,7 +379,7 @@ bad_period_not_met : bad_period [] ≡ Ok None
 unfolding on_literals
 bad_period_not_met = refl
 
--- MORE GENERAL AND MORE SPECIFIC LEVELS
+-- MORE GENERAL AND MORE SPECIFIC LEVELS (xBRL-CSV 1.0, dimensions).
 abbrev with_parameters : (of_table of_report : List (List ℕ × List ℕ)) → (report template : Level) → List Column → List (List ℕ) → Result (Option Fact) CellFault
 with_parameters of_table of_report report template columns cells = cell_result (record {
   report = record {
@@ -405,7 +410,8 @@ template_over_report : with_levels (level base_level) (of_unit (codes "iso4217:U
 unfolding on_literals
 template_over_report = refl
 
--- x takes its properties from g and h, in the order that it names them; the first group is the more specific
+-- x takes its properties from g and h, in the order that it names them. The first group is the more
+-- specific.
 abbrev two_groups : List ℕ → Result (Option Fact) CellFault
 two_groups from =
     with_levels (level base_level) (of_unit (codes "iso4217:CHF"))
@@ -421,7 +427,8 @@ groups_in_the_order_named : two_groups (2 ∷ 1 ∷ []) ≡ cash (codes "x") (co
 unfolding on_literals
 groups_in_the_order_named = refl
 
--- DECIMALS that report, template, group and column write; d is a plain column
+-- DECIMALS that report, template, group and column write (xBRL-CSV 1.0, decimals). d is a plain
+-- column.
 abbrev decimals_with : (of_table of_report : List (List ℕ × List ℕ)) → (report template group written : Option WrittenDecimals) → List ℕ → Result (Option Fact) CellFault
 decimals_with of_table of_report report template group written d =
     with_parameters of_table of_report (record { dimensions = base_level; decimals = report }) (record { dimensions = []; decimals = template })
@@ -450,7 +457,8 @@ decimals_by_row_number : with_decimals None None None (Some d.RowNumber) [] ≡ 
 unfolding digits on_literals
 decimals_by_row_number = refl
 
--- a level that says `#none` takes away the decimals of the more general levels, and a more specific level writes its own all the same
+-- A level with `#none` removes the decimals of the more general levels. A more specific level still
+-- writes its own.
 abbrev none : Option WrittenDecimals
 none = Some d.Absent
 
@@ -467,7 +475,7 @@ decimals_given_again :
 unfolding on_literals
 decimals_given_again = refl
 
--- infinite decimals override and are overridden too; a fact of an exact value has no decimals
+-- Infinite decimals override and are overridden too. A fact of an exact value has no decimals.
 abbrev exact : Option WrittenDecimals
 exact = Some (d.Fixed accuracy.Infinite)
 
@@ -476,7 +484,8 @@ decimals_infinite : with_decimals (fixed 1) exact None None [] ∷ with_decimals
 unfolding on_literals
 decimals_infinite = refl
 
--- a reference at each of the more general levels, to the plain column d: a number, no cell, and the special values
+-- A reference at each of the more general levels, to the plain column d: a number, no cell, and the
+-- special values.
 abbrev by_name : Option WrittenDecimals
 by_name = Some (d.Named (codes "d"))
 
@@ -499,7 +508,7 @@ decimals_by_reference_of_a_report : map (with_decimals by_name None None None) c
 unfolding on_literals
 decimals_by_reference_of_a_report = refl
 
--- a reference that a more specific level overrides is not read
+-- A reference that a more specific level overrides is not read.
 decimals_overridden :
     with_decimals by_name (fixed 2) None None (codes "x") ∷ with_decimals None by_name (fixed 3) None (codes "x") ∷ with_decimals None None by_name (fixed 4) (codes "x")
     ∷ with_decimals by_name by_name none None (codes "x") ∷ []
@@ -507,7 +516,8 @@ decimals_overridden :
 unfolding on_literals
 decimals_overridden = refl
 
--- where the row's cell is empty, the parameter d answers: the table's, else the report's. A parameter may say `#none` too
+-- If the row's cell is empty, the parameter d is used: the table's, else the report's. A parameter
+-- may be `#none` too.
 abbrev parameter_d : List ℕ → List (List ℕ × List ℕ)
 parameter_d t = (codes "d", t) ∷ []
 
@@ -529,7 +539,8 @@ decimals_by_parameter_of_a_template :
 unfolding on_literals
 decimals_by_parameter_of_a_template = refl
 
--- decimals are not read for a nil fact, for a numeral with a suffix, and for a concept that is not numeric
+-- Decimals are not read for a nil fact, for a numeral with a suffix, and for a concept that is not
+-- numeric.
 abbrev with_bad_decimals : List ℕ → List ℕ → Result (Option Fact) CellFault
 with_bad_decimals c t =
     gives base_level (Some (d.Named (codes "d"))) (fact_column (codes "x") (concept c ∷ []) [] ∷ plain_column (codes "d") ∷ []) [] [] (t ∷ codes "y" ∷ []) 0
@@ -540,12 +551,12 @@ decimals_not_read :
 unfolding on_literals
 decimals_not_read = refl
 
--- a fact that is not numeric has none, whatever a level writes
+-- A fact that is not numeric has none, whatever a level writes.
 decimals_of_a_text : gives base_level (fixed 1) (fact_column (codes "x") (concept (codes "eg:Note") ∷ []) [] ∷ []) [] [] (codes "7" ∷ []) 0 ≡ note (Some (codes "7"))
 unfolding on_literals
 decimals_of_a_text = refl
 
--- NIL AND EMPTY for each role, by reference to the plain column b
+-- NIL AND EMPTY for each role, by reference to the plain column b (xBRL-CSV 1.0, special values).
 abbrev referred : List ℕ → List ℕ → List ℕ → Result (Option Fact) CellFault
 referred c n t = gives base_level None (plain_column (codes "b") ∷ fact_column (codes "x") (concept c ∷ (n, reference (codes "b")) ∷ []) [] ∷ []) [] [] (t ∷ codes "1" ∷ []) 1
 
@@ -577,18 +588,18 @@ typed_by_reference : map (referred (codes "eg:Cash") (codes "eg:Branch")) (codes
 unfolding on_literals
 typed_by_reference = refl
 
--- literals, the same in every row, and references
+-- Literals, the same in every row, and references.
 literals : map literal_of (w.Absent ∷ w.Nil ∷ w.Empty ∷ text (codes "a") ∷ reference (codes "a") ∷ w.RowNumber side.Whole ∷ [])
     ≡ Some m.Absent ∷ Some m.Nil ∷ Some m.Empty ∷ Some (m.Text (codes "a")) ∷ None ∷ None ∷ []
 literals = refl
 
--- and as literals
+-- Nil and empty as literals.
 literal_branches : map (λ x. with_b ((codes "eg:Branch", x) ∷ base_level) []) (w.Nil ∷ w.Empty ∷ w.Absent ∷ [])
     ≡ with_branch None ∷ with_branch (Some []) ∷ cash (codes "x") (codes "1") (unit (codes "iso4217:EUR")) ∷ []
 unfolding on_literals
 literal_branches = refl
 
--- a reference that no cell and no parameter answers writes nothing
+-- A reference to neither a cell nor a parameter writes nothing.
 unanswered_reference : with_b ((codes "eg:Branch", reference (codes "z")) ∷ base_level) [] ≡ cash (codes "x") (codes "1") (unit (codes "iso4217:EUR"))
 unfolding on_literals
 unanswered_reference = refl
@@ -601,7 +612,8 @@ concept_by_reference : map (referring [] []) (codes "#nil" ∷ codes "#empty" �
 unfolding on_literals
 concept_by_reference = refl
 
--- A LANGUAGE AND A UNIT for each kind of concept: the language of a text, the unit of a number, and neither of another
+-- A LANGUAGE AND A UNIT for each kind of concept: the language of a text, the unit of a number, and
+-- neither for another.
 
 kinds_drop : map (λ c. spoken (text (codes "iso4217:EUR")) c (codes "1")) (codes "eg:Note" ∷ codes "eg:Cash" ∷ codes "eg:Blob" ∷ [])
     ≡ fact (codes "x") (Some (codes "1")) None (common (codes "eg:Note") ++ entry (codes "language") (codes "en-gb") ∷ period quarter) ∷ cash (codes "x") (codes "1") (unit (codes "iso4217:EUR"))
@@ -618,7 +630,8 @@ units_of_numbers = refl
 languages_of_texts : map is_of_text kinds ≡ false ∷ true ∷ false ∷ false ∷ false ∷ false ∷ false ∷ false ∷ []
 languages_of_texts = refl
 
--- NAMES OF DIMENSIONS: five that each report has; of the others those that the types table calls typed are typed, and all others explicit
+-- NAMES OF DIMENSIONS (Open Information Model 1.0): five that each report has. Another one is
+-- typed if the types table says so, and otherwise explicit.
 
 role_names : map (role_of (report [] None [] [] [])) (codes "concept" ∷ codes "entity" ∷ codes "period" ∷ codes "unit" ∷ codes "language" ∷ codes "eg:Branch" ∷ [])
     ≡ role.Concept ∷ role.Entity ∷ role.Period ∷ role.Unit ∷ role.Language ∷ role.Typed ∷ []
@@ -631,14 +644,14 @@ explicit_names : map (role_of (report [] None [] [] []))
 unfolding on_literals
 explicit_names = refl
 
--- the local part of an entity's identifier may begin with a digit, that of another name not
+-- The local part of an entity's identifier may begin with a digit, that of another name may not.
 entity_of_digits : gives ((codes "entity", text (codes "eg:12-34")) ∷ (codes "period", text (codes "0005Q4")) ∷ []) None
     (fact_column (codes "x") (concept (codes "eg:Note") ∷ []) [] ∷ []) [] [] (codes "a" ∷ []) 0
     ≡ fact (codes "x") (Some (codes "a")) None (entry (codes "concept") (codes "eg:Note") ∷ entry (codes "entity") (codes "eg:12-34") ∷ period quarter)
 unfolding on_literals
 entity_of_digits = refl
 
--- BOOLEANS, DATES AND NAMES: without the blanks at their ends, and with neither unit nor language
+-- BOOLEANS, DATES AND NAMES: trimmed of blanks, without unit and language.
 
 abbrev of_concept : List ℕ → Option (List ℕ) → Result (Option Fact) CellFault
 of_concept c value = fact (codes "x") value None (with_period c)
@@ -665,12 +678,12 @@ no_language : spoken (text (codes "iso4217:EUR")) (codes "eg:Open") (codes "1") 
 unfolding on_literals
 no_language = refl
 
--- another concept's text keeps its blanks
+-- Another concept's text keeps its blanks.
 blanks_of_others : in_base (codes "eg:Blob") (codes " TRUE ") ≡ of_concept (codes "eg:Blob") (Some (codes " TRUE "))
 unfolding on_literals
 blanks_of_others = refl
 
--- THE ROW NUMBER, AND THE START of a duration
+-- THE ROW NUMBER, AND THE START of a duration (xBRL-CSV 1.0, period suffixes).
 
 row_number : with_b ((codes "eg:Branch", w.RowNumber side.Whole) ∷ base_level) [] ≡ with_branch (Some (decimal 1))
 unfolding on_literals
@@ -688,7 +701,8 @@ start_of_an_instant = refl
 sides_asked_for : map side_of (w.RowNumber side.Start ∷ w.Named (codes "b") side.End ∷ reference (codes "b") ∷ text (codes "b") ∷ []) ≡ side.Start ∷ side.End ∷ side.Whole ∷ side.Whole ∷ []
 sides_asked_for = refl
 
--- THE FIRST TWO STEPS: no fact, a fault of the cell or its groups, a fault of the concept, or no answer yet
+-- THE FIRST TWO STEPS: no fact, a fault of the cell or its groups, a fault of the concept, or no
+-- result yet.
 
 abbrev early : ReportValue → List (List ℕ) → ℕ → Option (Result (Option Fact) CellFault)
 early r cells column = early_result (record { report = r; table = 0; row = row cells; column = column })
@@ -705,7 +719,8 @@ early_concept : early (report base_level None (fact_column (codes "x") [] [] ∷
 unfolding early_result on_literals
 early_concept = refl
 
--- a concept that is nil, empty or unknown is a fault of the second step, so the other dimensions are not looked at; c is a plain column
+-- A concept that is nil, empty or unknown is a fault of the second step, so the other dimensions
+-- are not read. c is a plain column.
 abbrev early_of_concept : List ℕ → Option (Result (Option Fact) CellFault)
 early_of_concept c = early (report base_level None (plain_column (codes "c") ∷ fact_column (codes "x") ((codes "concept", reference (codes "c")) ∷ []) [] ∷ []) [] []) (c ∷ codes "1" ∷ []) 1
 
@@ -714,7 +729,8 @@ early_concepts : map early_of_concept (codes "#nil" ∷ codes "#empty" ∷ codes
 unfolding early_result on_literals
 early_concepts = refl
 
--- ORDER OF FAULTS in the last step: a bad value before a bad period, bad decimals before a bad number
+-- ORDER OF FAULTS in the last step: a bad value before a bad period, bad decimals before a bad
+-- number.
 
 bad_value_first : gives ((codes "entity", text (codes "A1")) ∷ (codes "period", text (codes "nope")) ∷ []) None
     (fact_column (codes "x") (concept (codes "eg:Cash") ∷ []) [] ∷ []) [] [] (codes "x" ∷ []) 0 ≡ Err fault.BadValue
@@ -735,7 +751,7 @@ bad_period_alone : value_faults_of (report [] None [] [] []) role.Period side.Wh
 unfolding on_literals
 bad_period_alone = refl
 
--- of two faults the one with the lesser number
+-- The fault with the lesser number, if both have one.
 abbrev joined : Result ℕ CellFault → Result ℕ CellFault → Result (ℕ × ℕ) CellFault
 joined = both (λ a b. (a, b))
 
@@ -747,7 +763,7 @@ two_faults : least_of None (Some fault.BadValue) ∷ least_of (Some fault.BadPer
     ≡ Some fault.BadValue ∷ Some fault.BadPeriod ∷ Some fault.BadValue ∷ []
 two_faults = refl
 
--- THE FAULTS by number and name
+-- THE FAULTS by number and name.
 all_faults : List CellFault
 all_faults =
     fault.UnknownSpecial ∷ fault.UnknownGroup ∷ fault.NoConcept ∷ fault.UnknownName ∷ fault.BadReference ∷ fault.BadValue
@@ -764,7 +780,8 @@ fault_names :
 unfolding all_faults
 fault_names = refl
 
--- NAMES IN ORDER: by their bytes, so capital letters come before small ones and a name before a longer one that begins with it
+-- NAMES IN ORDER: by their bytes, so capital letters precede small ones, and a name precedes a
+-- longer one that begins with it.
 ascending : IsAscending (codes "Concept" ∷ codes "a" ∷ codes "ab" ∷ codes "b" ∷ [])
 ascending = ((refl, (refl, (refl, tt))), ((refl, (refl, tt)), ((refl, tt), (tt, tt))))
 
@@ -777,11 +794,12 @@ descending names = let e = names.0.0 in cc
 name_twice : IsAscending (codes "a" ∷ codes "a" ∷ []) → ⊥
 name_twice names = let e = names.0.0 in cc
 
--- each name is compared, with each after it
+-- Each name is compared with each name after it.
 last_is_less : IsAscending (codes "b" ∷ codes "c" ∷ codes "a" ∷ []) → ⊥
 last_is_less names = let e = names.1.0.0 in cc
 
--- a fact's dimensions are in order by their names, whatever their values; a fault and no fact have none
+-- A fact's dimensions are in order by their names, whatever their values. A fault has no names, and
+-- neither has an absent fact.
 ordered_fact : HasNamesInOrder (cash (codes "x") (codes "1") (unit (codes "iso4217:EUR")))
 ordered_fact = ((refl, (refl, (refl, tt))), ((refl, (refl, tt)), ((refl, tt), (tt, tt))))
 

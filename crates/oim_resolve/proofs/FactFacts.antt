@@ -7,7 +7,7 @@ use Rattle.oim_resolve.specs.Cell.{Cell, column}
 use Rattle.oim_resolve.specs.Facts.{fact_of, cell_result, id_of}
 use Rattle.oim_resolve.proofs.Outcomes.{outcome, cell_result-outcome}
 
--- the fact that a result has, else the other
+-- The fact of a result, or else the given fact.
 abbrev fact_in : Fact → Result (Option Fact) CellFault → Fact
 fact_in g (Ok (Some f)) = f
 fact_in g (Ok None) = g
@@ -21,7 +21,7 @@ fact_in-outcome false None (Some e) z f = refl
 fact_in-outcome false None None (Some e) f = refl
 fact_in-outcome false None None None f = refl
 
--- a cell that has a fact has the one that is defined
+-- If a cell has a fact, it is the defined one.
 pub result_is_fact : (c : Cell) (f : Fact) → cell_result c ≡ Ok (Some f) → f ≡ fact_of c
 result_is_fact c f e =
     sym (ap (fact_in (fact_of c)) e) ∙ ap (fact_in (fact_of c)) (cell_result-outcome c) ∙ fact_in-outcome _ _ _ _ (fact_of c)
@@ -30,6 +30,6 @@ fact_of-id : (c : Cell) → (fact_of c).id ≡ id_of c
 unfolding fact_of
 fact_of-id c = refl
 
--- its identifier is the table's, the row's and the column's
+-- Its identifier is the table's, the row's and the column's.
 pub fact_id : (c : Cell) (f : Fact) → cell_result c ≡ Ok (Some f) → f.id ≡ (table_of c.report c.table).id ++ codes "." ++ c.row.id ++ codes "." ++ (column c).id
 fact_id c f e = ap (λ (g : Fact). g.id) (result_is_fact c f e) ∙ fact_of-id c

@@ -1,4 +1,4 @@
--- The least fault of two sets together.
+-- The least fault of two sets combined.
 use Rattle.std.proofs.Common.{◌≡◌, ℕ, true, false, List, [], ◌∷◌, ◌++◌, Bool, append_assoc, Option, Some, None, Result, Ok, Err, cond, leb, refl, sym, ap, ◌∙◌, arith}
 use Rattle.std.proofs.lemmas.Bool.Decides.{nat_tests}
 use Rattle.std.proofs.lemmas.List.{append-nil}
@@ -29,7 +29,7 @@ lesser-assoc f g h = by (leb (number_of f) (number_of g)) refl
     by true e = first (leb (number_of g) (number_of h)) e refl
     by false e = other (leb (number_of g) (number_of h)) e refl
 
--- least_of is associative
+-- least_of is associative.
 pub least_of-assoc : (f g h : Option CellFault) → least_of f (least_of g h) ≡ least_of (least_of f g) h
 least_of-assoc None g h = refl
 least_of-assoc (Some f) None h = refl
@@ -40,7 +40,7 @@ pub least-append : (xs ys : List CellFault) → least (xs ++ ys) ≡ least_of (l
 least-append [] ys = refl
 least-append (x ∷ xs) ys = ap (least_of (Some x)) (least-append xs ys) ∙ least_of-assoc (Some x) (least xs) (least ys)
 
--- two readings that each give a value unless a set has a fault
+-- Two readings that each give a value unless a set has a fault.
 pub both_unless : {A B C : Type 0} (join : A → B → C) (xs ys : List CellFault) (a : A) (b : B)
     → both join (unless (least xs) (Ok a)) (unless (least ys) (Ok b)) ≡ unless (least (xs ++ ys)) (Ok (join a b))
 both_unless join xs ys a b = by (least xs) (least ys) ∙ ap (λ f. unless f (Ok (join a b))) (sym (least-append xs ys))

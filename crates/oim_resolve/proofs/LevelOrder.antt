@@ -20,7 +20,7 @@ nothing_rises : TemplateRises no_template
 unfolding IsStrictlySortedBy
 nothing_rises = (tt, tt, tt)
 
--- the level of the report, of a template and of a column
+-- The level of the report, of a template and of a column.
 pub report_rises : (report : ReportValue) → PartsRise report.level report.templates report.tables → LevelRises report.level
 unfolding PartsRise
 report_rises report h = h.0
@@ -39,12 +39,12 @@ first_or : {V : Type 0} (P : V → Type 0) (x : V) (rest : Option V) (v : V) (b 
 first_or P x rest v true here later e = some_same P x v here e
 first_or P x rest v false here later e = later e
 
--- what is so of each value is so of the one that a name has
+-- What holds for each value holds for the value of a name.
 valued : {V : Type 0} (P : V → Type 0) (es : List (List ℕ × V)) (n : List ℕ) (v : V) → AllByRecursion (λ e. P e.1) es → value_at n es ≡ Some v → P v
 valued P [] n v all e = absurd cc
 valued P (x ∷ xs) n v all e = first_or P x.1 (value_at n xs) v (bytes_eq x.0 n) all.0 (λ later. valued P xs n v all.1 later) e
 
--- the level of a group that a name has
+-- The level of the group with a name.
 pub group_rises : (report : ReportValue) → PartsRise report.level report.templates report.tables → (i c : ℕ) (n : List ℕ) (l : Level)
     → value_at n (column_of report i c).groups ≡ Some l → LevelRises l
 group_rises report h i c n l e = valued LevelRises (column_of report i c).groups n l (column_rises report h i c).2 e

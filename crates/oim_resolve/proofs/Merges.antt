@@ -1,4 +1,4 @@
--- Levels merged beforehand: the order in which names are put does not matter.
+-- Levels merged once: the order in which names are inserted does not matter.
 use Rattle.std.proofs.Common.{◌≡◌, ℕ, Bool, true, false, cond, ◌||◌, reverse, List, [], ◌∷◌, ◌++◌, map, Option, Some, None, refl, sym, ap, subst, ◌∙◌}
 use Rattle.std.specs.List.{fold, flat_map, AllByRecursion}
 use Rattle.std.specs.Option.{option_or, option_map, is_some}
@@ -25,7 +25,7 @@ order = slice_cmp nat_cmp
 put : (k n : List ℕ) (ks : List (List ℕ)) (o : Ordering) → order n k ≡ o → put_name (k ∷ ks) n ≡ match_ordering o (n ∷ k ∷ ks) (k ∷ ks) (k ∷ put_name ks n)
 put k n ks o e = ap (λ q. match_ordering q (n ∷ k ∷ ks) (k ∷ ks) (k ∷ put_name ks n)) e
 
--- a comes before b
+-- a precedes b.
 module _ (a b : List ℕ) (less : order a b ≡ Less) where
   more : order b a ≡ Greater
   more = nat_list_cmp_total.antisymm b a ∙ ap ordering_reverse less
@@ -64,7 +64,7 @@ swap_by a b ks Equal e =
     subst (λ x. put_name (put_name ks a) x ≡ put_name (put_name ks x) a) same refl
 swap_by a b ks Greater e = sym (swap_less b a (nat_list_cmp_total.antisymm b a ∙ ap ordering_reverse e) ks)
 
--- two names may be put in either order
+-- Two names may be inserted in either order.
 pub swap : (a b : List ℕ) (ks : List (List ℕ)) → put_name (put_name ks a) b ≡ put_name (put_name ks b) a
 swap a b ks = swap_by a b ks (order a b) refl
 
@@ -72,12 +72,12 @@ swap_one : (a : List ℕ) (bs ks : List (List ℕ)) → fold put_name (put_name 
 swap_one a [] ks = refl
 swap_one a (b ∷ bs) ks = ap (λ xs. fold put_name xs bs) (swap a b ks) ∙ swap_one a bs (put_name ks b)
 
--- and two lists of names
+-- So may two lists of names.
 pub swap_all : (ns bs ks : List (List ℕ)) → fold put_name (fold put_name ks ns) bs ≡ fold put_name (fold put_name ks bs) ns
 swap_all [] bs ks = refl
 swap_all (a ∷ ns) bs ks = swap_all ns bs (put_name ks a) ∙ ap (λ xs. fold put_name xs ns) (swap_one a bs ks)
 
--- the groups' names may be put last
+-- The groups' names may be inserted last.
 pub names_groups_last : (first second last : Level) (gs : List Level) → names (first ∷ second ∷ (gs ++ last ∷ [])) ≡ put_levels (names (first ∷ second ∷ last ∷ [])) gs
 names_groups_last first second last [] = refl
 names_groups_last first second last (g ∷ gs) =
@@ -93,12 +93,12 @@ both_none : {V : Type 0} (b : Bool) (o : Option V) → o ≡ None → cond b o N
 both_none true o e = refl
 both_none false o e = sym e
 
--- what some levels write, else what the more general ones write
+-- What some levels write, or else the more general ones.
 first_written-append : (ls ms : List Level) (n : List ℕ) → first_written (ls ++ ms) n ≡ option_or (first_written ls n) (first_written ms n)
 first_written-append [] ms n = refl
 first_written-append (l ∷ ls) ms n = ap (option_or (value_at n l.dimensions)) (first_written-append ls ms n) ∙ grouped (value_at n l.dimensions) (first_written ls n) (first_written ms n)
 
--- what the column writes, else what the groups write (the first group first), else what template and report write
+-- What the column writes, else the groups (the first group first), else template and report.
 pub written_merged : (report template column : Level) (groups : List Level) (n : List ℕ)
     → written (report ∷ template ∷ (reverse groups ++ column ∷ [])) n ≡ option_or (value_at n column.dimensions) (option_or (written (reverse groups) n) (written (report ∷ template ∷ []) n))
 written_merged report template column groups n =
@@ -109,7 +109,7 @@ written_merged report template column groups n =
     ∙ ap (λ o. option_or o (first_written (template ∷ report ∷ []) n)) (sym (written_reversed groups n))
     ∙ ap (option_or (written (reverse groups) n)) (sym (written_reversed (template ∷ report ∷ []) n)))
 
--- whether a name stands in a list
+-- Whether a name is in a list.
 abbrev pub has : List ℕ → List (List ℕ) → Bool
 has n [] = false
 has n (k ∷ ks) = bytes_eq k n || has n ks
@@ -126,7 +126,7 @@ skip f k n (Some v) true es rest e h p =
     ap (λ b. cond b (Some v) (value_at n es)) h ∙ sym e ∙ ap f same
 skip f k n (Some v) false es rest e h p = ap (λ b. cond b (Some v) (value_at n es)) h ∙ p
 
--- a look-up in the entries of a list of names
+-- A look-up in the entries of a list of names.
 pub value_at-entries : {V : Type 0} (f : List ℕ → Option V) (ks : List (List ℕ)) (n : List ℕ) → value_at n (flat_map (λ k. named k (f k)) ks) ≡ cond (has n ks) (f n) None
 value_at-entries f [] n = refl
 value_at-entries f (k ∷ ks) n = skip f k n (f k) (bytes_eq k n) (flat_map (λ k. named k (f k)) ks) (has n ks) refl refl (value_at-entries f ks n)
@@ -173,7 +173,7 @@ pub where_some : {V : Type 0} (o : Option V) → cond (is_some o) o None ≡ o
 where_some None = refl
 where_some (Some v) = refl
 
--- a name stands in what is merged exactly where one of the levels writes it
+-- A name is in the merged list exactly if one of the levels writes it.
 three : (a b d : Option Written) → (is_some a || (is_some b || (is_some d || false)))
     ≡ is_some {T = Written × Bool} (option_or (option_map (λ w. (w, true)) d) (option_map (λ w. (w, false)) (option_or b (option_or a None))))
 three None None None = refl
@@ -196,13 +196,13 @@ module _ (report template column : Level) where
       ∙ ap (λ b. is_some (value_at n report.dimensions) || (is_some (value_at n template.dimensions) || (b || false))) (has-keys n column.dimensions)
       ∙ three (value_at n report.dimensions) (value_at n template.dimensions) (value_at n column.dimensions)
 
-  -- so a look-up in what is merged is what the levels write
+  -- So a look-up in the merged list gives what the levels write.
   pub value_at-merged : (n : List ℕ) → value_at n (merged_levels report template column) ≡ merged_at report template column n
   value_at-merged n =
       value_at-entries (merged_at report template column) (names (report ∷ template ∷ column ∷ [])) n
       ∙ ap (λ b. cond b (merged_at report template column n) None) (has-merged n) ∙ where_some (merged_at report template column n)
 
--- an own value stands before the groups', another after
+-- An own value precedes the groups', another follows them.
 abbrev pub picked : Option (Written × Bool) → Option Written → Option Written
 picked None g = g
 picked (Some (w, true)) g = Some w
@@ -214,7 +214,7 @@ picked_is None None None = refl
 picked_is None None (Some v) = refl
 picked_is None (Some w) g = refl
 
--- what is found in a merged column, and in the groups
+-- What is found in a merged column, and in the groups.
 pub pick_written : (planned : List (List ℕ × (Written × Bool))) (groups : List Level) (n : List ℕ) (w : Option Written) (report template column : Level)
     → planned ≡ merged_levels report template column
     → w ≡ picked (value_at n planned) (written (reverse groups) n)
@@ -242,7 +242,7 @@ keys-named : {V : Type 0} (f : List ℕ → Option V) (ks : List (List ℕ)) →
 keys-named f [] h = refl
 keys-named f (k ∷ ks) h = key-named k (f k) h.0 (flat_map (λ k. named k (f k)) ks) ∙ ap (λ xs. k ∷ xs) (keys-named f ks h.1)
 
--- the names of a merged column, with the groups' names put to them
+-- The names of a merged column, with the groups' names inserted.
 pub names_merged : (planned : List (List ℕ × (Written × Bool))) (groups : List Level) (report template column : Level)
     → planned ≡ merged_levels report template column
     → put_levels (map (λ e. e.0) planned) (reverse groups) ≡ names (report ∷ template ∷ (reverse groups ++ column ∷ []))
@@ -252,7 +252,7 @@ names_merged planned groups report template column e =
     (all_some (merged_at report template column) (names (report ∷ template ∷ column ∷ [])) (λ n h. sym (has-merged report template column n) ∙ h)))
     ∙ sym (names_groups_last report template column (reverse groups))
 
--- the decimals of column, groups, template and report
+-- The decimals of column, groups, template and report.
 first_decimals-append : (ls ms : List Level) → first_decimals (ls ++ ms) ≡ option_or (first_decimals ls) (first_decimals ms)
 first_decimals-append [] ms = refl
 first_decimals-append (l ∷ ls) ms = ap (option_or l.decimals) (first_decimals-append ls ms) ∙ grouped l.decimals (first_decimals ls) (first_decimals ms)

@@ -1,4 +1,4 @@
--- Names put in byte order.
+-- Names inserted in byte order.
 use Rattle.std.proofs.Common.{◌≡◌, ◌<◌, ◌≤◌, ℕ, zero, suc, ◌+◌, Result, Ok, Err, true, refl, subst, inl, inr, List, [], ◌∷◌, ◌++◌, length, take, drop, get_or, sym, ap, ◌∙◌, append_assoc, arith}
 use Rattle.std.specs.Ordering.{match_ordering, nat_cmp}
 use Rattle.std.specs.Cmp.Lexicographic.{slice_cmp}
@@ -20,7 +20,7 @@ use Rattle.std.specs.List.{insert}
 use Rattle.oim_resolve.specs.ProgramCell.{held}
 use Rattle.oim_resolve.specs.Written.{put_name}
 
--- the names below place i are less than n
+-- The names below index i are less than n.
 abbrev pub PutsFrom : List (List ℕ) → ℕ → List ℕ → Type 0
 PutsFrom ks i n = put_name ks n ≡ take i ks ++ put_name (drop i ks) n
 
@@ -47,7 +47,7 @@ put_name_equal ks i n d h e p =
 pub put_name_last : (ks : List (List ℕ)) (i : ℕ) (n : List ℕ) → i ≡ length ks → PutsFrom ks i n → put_name ks n ≡ ks ++ n ∷ []
 put_name_last ks i n h p = p ∙ ap (λ q. take i ks ++ q) (at_drop_all (λ xs. put_name xs n) ks i (omega arith)) ∙ ap (λ q. q ++ n ∷ []) (take_all i ks (omega arith))
 
--- the same of a list of references
+-- The same for a list of references.
 module _ (ks : List (Bor (List ℕ))) (i : ℕ) (n k : Bor (List ℕ)) (h : i < length ks) (is : k ≡ get_or ks i k) (p : PutsFrom (held ks) i n.now) where
   name-at : get_or (held ks) i k.now ≡ k.now
   name-at = get_or-map (λ x. x.now) ks i k k.now h ∙ ap (λ x. x.now) (sym is)
@@ -87,9 +87,9 @@ less_of Less e = refl
 less_of Equal e = absurd (cc)
 less_of Greater e = absurd (cc)
 
--- names that rise, searched for a name
+-- Rising names, searched for a name.
 module _ (ks : List (Bor (List ℕ))) (n : Bor (List ℕ)) (rise : IsAscending (held ks)) where
-  -- a name at one place is below a name at a later place
+  -- A name at an index is below a name at a later index.
   below : (i j : ℕ) (d : Bor (List ℕ)) → i < j → j < length ks → order (get_or ks i d).now (get_or ks j d).now ≡ Less
   below i j d lt within =
       let long : length (held ks) ≡ length ks = length-map ks (λ x. x.now) in
@@ -97,7 +97,7 @@ module _ (ks : List (Bor (List ℕ))) (n : Bor (List ℕ)) (rise : IsAscending (
       let second : get_or (held ks) j d.now ≡ (get_or ks j d).now = get_or-map (λ x. x.now) ks j d d.now within in
       rw (← first, ← second) (Less-from_sorted order (held ks) i j d.now (strictly (held ks) rise) lt (rw long within))
 
-  -- n goes behind the names below place i, where they are less
+  -- n goes after the names below index i, if they are less.
   behind : (i : ℕ) → i ≤ length ks → ((j : ℕ) (d : Bor (List ℕ)) → j < i → order (get_or ks j d).now n.now ≡ Less) → PutsFrom (held ks) i n.now
   behind zero within less = refl
   behind (suc i) within less =
@@ -108,7 +108,7 @@ module _ (ks : List (Bor (List ℕ))) (n : Bor (List ℕ)) (rise : IsAscending (
       let same : i + 1 ≡ suc i = omega arith in
       subst (λ q. PutsFrom (held ks) q n.now) same next
 
-  -- a name above the last of them goes behind all
+  -- A name above the last of them goes after all.
   pub above_last : (i : ℕ) (e : Bor (List ℕ)) → length ks ≡ suc i → is_lt (order (get_or ks i e).now n.now) ≡ true → held (ks ++ n ∷ []) ≡ put_name (held ks) n.now
   above_last i e long lt = held_last ks (length ks) n refl (behind (length ks) (omega arith) all)
     where
@@ -121,12 +121,12 @@ module _ (ks : List (Bor (List ℕ))) (n : Bor (List ℕ)) (rise : IsAscending (
         | inr past ↦ let same : i ≡ j = omega arith in subst (λ q. order (get_or ks q d).now n.now ≡ Less) same (less d)
       ]
 
-  -- the names rise to a binary search's comparisons with n
+  -- The names rise in the comparisons of a binary search with n.
   comparisons_rise : IsNonDecreasingBy (λ k. ordering_index (order k.now n.now)) ks
   comparisons_rise = searchable_from_sorted nat_list_cmp_total (λ k. k.now) ks n.now
       (λ k d low within. ap is_lt (nat_list_cmp_total.antisymm (get_or ks (k + 1) d).now (get_or ks k d).now ∙ ap ordering_reverse (below k (k + 1) d (omega arith) within)))
 
-  -- a binary search answers the place of n, or the place where n goes
+  -- A binary search returns the index of n, or the index at which n is to be inserted.
   pub searched : (r : Result ℕ ℕ) → IsSearchInRange r (length ks) → IsBinarySearchResult (λ k. order k.now n.now) ks r
       → MatchResult r (λ _. held ks ≡ put_name (held ks) n.now) (λ i. held (insert ks i n) ≡ put_name (held ks) n.now)
   searched (Ok i) within equal =

@@ -59,7 +59,7 @@ module _ (c : Cell) where
   past_second : no_cell ≡ false → None ≡ first → None ≡ second → cell_result c ≡ outcome false None None third (fact_of c)
   past_second a h k = past_first a h ∙ ap (λ x. outcome false None x third (fact_of c)) (sym k)
 
--- what a reading says of the set whose least fault it has
+-- A reading's fault is the least fault of its set.
 pub read_fault : {A : Type 0} (o : Option CellFault) (a : A) (f : CellFault) → Err f ≡ unless o (Ok a) → Some f ≡ o
 read_fault None a f e = cc e
 read_fault (Some g) a f e = cc e
@@ -116,16 +116,16 @@ fact_parts c k id value decimals dimensions h a v d e =
     λ i. record { id = a i; value = v i; decimals = d i; dimensions = e i } in
     parts ∙ ap of_kind h
 
--- a reading's text, or its fault
+-- A reading's text, or its fault.
 text_read-unless : (r : Result ValueParts CellFault) → text_read r ≡ unless (least (faults_in r)) (Ok (text_in r))
 text_read-unless (Ok v) = refl
 text_read-unless (Err f) = refl
 
--- the last step: dimensions, decimals and value read together
+-- The last step: dimensions, decimals and value read together.
 abbrev pub Dimensions : Type 0
 Dimensions = List (List ℕ × Option (List ℕ))
 
--- what the three say together
+-- What the three give together.
 abbrev pub Together : Type 0
 Together = (Dimensions × Option ℤ) × Option (List ℕ)
 
@@ -142,7 +142,7 @@ module _ (c : Cell) (k : Kind) where
   abbrev pub rest : Option CellFault
   rest = least (rest_faults c k)
 
-  -- dimensions, decimals and text, each read
+  -- Dimensions, decimals and text, each read.
   all_three : (d : Result Dimensions CellFault) (n : Result (Option ℤ) CellFault) (t : Result (Option (List ℕ)) CellFault)
       → d ≡ unless (least given_faults) (Ok given_dimensions)
       → n ≡ unless (least (decimals_faults c k)) (Ok (fact_decimals c k))
@@ -157,7 +157,8 @@ module _ (c : Cell) (k : Kind) where
       ∙ ap (λ x. both pair both_given x) (ht ∙ text_read-unless (fact_value c k))
       ∙ both_unless pair (given_faults ++ decimals_faults c k) (faults_in (fact_value c k)) (given_dimensions, fact_decimals c k) (text_in (fact_value c k))
 
-  -- the same, from the steps by which a program reads them: the meaning of the cell, its reading and its suffix, what is stated, and the three
+  -- The same, from the steps by which a program reads them: the meaning of the cell, its reading
+  -- and its suffix, the stated decimals, and the three.
   pub read_together : (v : Meaning) (r : Result ValueParts CellFault) (suffix : Option Accuracy) (s : Stated) (d : Result Dimensions CellFault)
       (n : Result (Option ℤ) CellFault) (t : Result (Option (List ℕ)) CellFault) (two : Result (Dimensions × Option ℤ) CellFault) (whole : Result Together CellFault)
       → v ≡ fact_meaning c → r ≡ value_given c.report k v → suffix ≡ accuracy_in r → s ≡ stated c
@@ -171,7 +172,7 @@ module _ (c : Cell) (k : Kind) where
       ∙ ap (decimals_read k (fact_meaning c) (accuracy_in (fact_value c k))) hs in
       hwhole ∙ ap (λ x. both pair x t) htwo ∙ all_three d n t hd decimals (ht ∙ ap text_read reading)
 
-  -- the third step, where the concept is of this kind
+  -- The third step, if the concept is of this kind.
   at_kind : k ≡ concept_kind c → unless rest (Ok (fact_of c)) ≡ rest_result c
   at_kind same = ap (λ j. unless (least (rest_faults c j)) (Ok (fact_of c))) same
 

@@ -1,4 +1,4 @@
--- Entries of groups, put over those of a column, are what the levels of a cell write.
+-- The entries of groups merged into those of a column are what the levels of a cell write.
 use Rattle.std.proofs.Common.{◌≡◌, ◌<◌, ◌+◌, ℕ, length, take, get_or, arith, Bool, true, false, cond, reverse, List, [], ◌∷◌, ◌++◌, map, Option, Some, None, refl, sym, ap, subst, ◌∙◌}
 use Rattle.std.specs.List.{fold, flat_map, AllByRecursion}
 use Rattle.std.specs.Option.{option_or, option_map, option_to_list}
@@ -46,7 +46,7 @@ is_less Greater = false
 irreflexive : (n : List ℕ) → order n n ≡ Less → false ≡ true
 irreflexive n e = sym (ap (λ o. is_less (ordering_reverse o)) e) ∙ sym (ap is_less (nat_list_cmp_total.antisymm n n)) ∙ ap is_less e
 
--- names that differ
+-- Names that differ.
 apart_by : (a b : List ℕ) (q : Bool) → order a b ≡ Less → bytes_eq a b ≡ q → bytes_eq a b ≡ false
 apart_by a b true e h = absurd (false≢true (irreflexive b (subst (λ x. order x b ≡ Less) ((bytes_eq-Decides a b).0 h) e)))
 apart_by a b false e h = h
@@ -157,7 +157,7 @@ value_at-fold n (e ∷ es) ks a h =
     ∙ ap (λ o. over o (value_at n es)) (value_at-put n ks e h)
     ∙ once (bytes_eq e.0 n) (value_at n ks) (value_at n es) e.1 a.0
 
--- a look-up in a list whose values depend on their names
+-- A look-up in a list whose values depend on their names.
 mapped_case : {A B : Type 0} (H : List ℕ → A → B) (n k : List ℕ) (a : A) (q : Bool) (o : Option B) (p : Option A) → bytes_eq k n ≡ q → o ≡ option_map (H n) p
     → cond q (Some (H k a)) o ≡ option_map (H n) (cond q (Some a) p)
 mapped_case H n k a true o p e h = ap (λ y. Some (H y a)) ((bytes_eq-Decides k n).0 e)
@@ -171,7 +171,7 @@ keys-mapped : {A B : Type 0} (H : List ℕ → A → B) (es : List (List ℕ × 
 keys-mapped H [] = refl
 keys-mapped H (e ∷ es) = ap (λ ks. e.0 ∷ ks) (keys-mapped H es)
 
--- a list in order is what its names look up
+-- An ordered list is what its names look up.
 skip_first : {V : Type 0} (k : List ℕ × V) (es : List (List ℕ × V)) (ns : List (List ℕ)) → Precedes k.0 ns
     → flat_map (λ n. named n (value_at n (k ∷ es))) ns ≡ flat_map (λ n. named n (value_at n es)) ns
 skip_first k es [] h = refl
@@ -277,7 +277,7 @@ module _ (r : ReportValue) (t : ℕ) where
       keys-groups gs (put_entries ks (planned_level r t g)) ∙ ap (λ ns. put_levels ns (reverse gs)) (keys-group g ks)
       ∙ sym (put_levels-last (keys ks) (reverse gs) g) ∙ ap (put_levels (keys ks)) (sym (reverse-append (g ∷ []) gs))
 
-  -- the entry of a name, without its flag
+  -- The entry of a name, without its flag.
   strip : (n : List ℕ) (o : Option (Written × Bool)) → map (λ k. k.1.0) (named n (option_map (flagged n) o)) ≡ map (λ e. entry_in r t e.0 e.1) (named n (option_map (λ x. x.0) o))
   strip n None = refl
   strip n (Some x) = refl
@@ -338,7 +338,7 @@ pub seen_entries : (ps : List PlannedDimension) → map seen_planned ps ≡ map 
 seen_entries [] = refl
 seen_entries (p ∷ ps) = ap (λ es. seen_planned p ∷ es) (seen_entries ps)
 
--- the group of a name
+-- The group of a name.
 pub group_found : (r : ReportValue) (t : ℕ) (n : List ℕ) (gs : List (List ℕ × Level)) → value_at n (map (group_in r t) gs) ≡ option_map (λ l. (l, planned_level r t l)) (value_at n gs)
 group_found r t n gs = value_at-mapped (λ n l. (l, planned_level r t l)) n gs
 
@@ -363,7 +363,7 @@ row_map_is c =
     ap (λ gs. map (λ k. k.1.0) (fold put_entries (planned_column c.report c.table c.column) gs)) (planned_groups-are c (column c).from)
     ∙ entries_are c.report c.table c.report.level (template_of c.report c.table).level (column c).level (named_groups c)
 
--- the entry of a name
+-- The entry of a name.
 pub row_lookup : (c : Cell) (n : List ℕ) → option_map (λ x. x.0) (value_at n (row_map c)) ≡ option_map (entry_in c.report c.table n) (written (levels c) n)
 unfolding row_map planned_column
 row_lookup c n =
@@ -379,7 +379,7 @@ row_lookup c n =
     plain None = refl
     plain (Some x) = refl
 
--- a look-up with one group more
+-- A look-up with one more group.
 pub lookup_over : (c : Cell) (n : List ℕ) (is : List ℕ) (l : Level) (K : List Keyed) → K ≡ fold put_entries (planned_column c.report c.table c.column) (planned_groups c is)
     → value_at n (put_entries K (planned_level c.report c.table l)) ≡ over (value_at n K) (value_at n (planned_level c.report c.table l))
 unfolding planned_column
@@ -392,14 +392,14 @@ lookup_over c n is l K e =
     let ascends = subst (λ ks. IsAscending (keys ks)) (sym same) (ascending-groups r t gs start (start_ascends r t r.level (template_of r t).level (column c).level gs)) in
     value_at-fold n (planned_level r t l) K (subst AllOwn (sym (planned_level-is r t l)) (all_own r t l.dimensions)) ascends
 
--- what a column writes, where the row names no group
+-- What a column writes, if the row names no group.
 pub column_is : (c : Cell) → named_groups c ≡ [] → map (λ k. k.1.0) (planned_column c.report c.table c.column) ≡ row_entries c
 unfolding row_entries planned_column
 column_is c h =
     ap (λ gs. map (λ k. k.1.0) (fold put_entries (planned_column c.report c.table c.column) (map (planned_level c.report c.table) gs))) (sym h)
     ∙ entries_are c.report c.table c.report.level (template_of c.report c.table).level (column c).level (named_groups c)
 
--- where the column has no groups
+-- If the column has no groups.
 pub nothing_named : (c : Cell) → length (column c).from ≡ 0 → named_groups c ≡ []
 nothing_named c h = by (column c).from h
   where
@@ -407,7 +407,7 @@ nothing_named c h = by (column c).from h
     by [] e = refl
     by (i ∷ is) e = absurd (omega (arith, e))
 
--- the level of the group that a cell names
+-- The level of the group that a cell names.
 pub level_named : (o : Option (Bor PlannedGroup)) (p : Option Level) (F : Level → List Keyed)
     → option_map (λ g. (seen_group g.now).1) o ≡ option_map (λ l. (l, F l)) p → option_map (λ g. g.now.level.now) o ≡ p
 level_named o p F e = firsts o ∙ ap (option_map (λ x. x.0)) e ∙ back p
@@ -424,7 +424,7 @@ pub without_flag : (o : Option (Bor PlannedDimension)) → option_map (λ p. see
 without_flag None = refl
 without_flag (Some p) = refl
 
--- a look-up with the groups of one row cell more
+-- A look-up with the groups of one more row cell.
 module _ (c : Cell) (n : List ℕ) (is : List ℕ) (k d : ℕ) where
   abbrev entries_of : List (Level × List Keyed) → List (List Keyed)
   entries_of gs = map (λ g. g.1) gs
@@ -432,7 +432,7 @@ module _ (c : Cell) (n : List ℕ) (is : List ℕ) (k d : ℕ) where
   abbrev named_in : List ℕ → List (Level × List Keyed)
   named_in js = flat_map (λ i. option_to_list (planned_named c i)) js
 
-  -- the column with the groups of the first row cells, and the group that the next one names
+  -- The column with the groups of the first row cells, and the group that the next one names.
   abbrev so_far : List Keyed
   so_far = fold put_entries (planned_column c.report c.table c.column) (planned_groups c (take k is))
 

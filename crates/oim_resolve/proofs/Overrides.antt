@@ -12,7 +12,7 @@ use Rattle.std.specs.Borrow.{Bor}
 use Rattle.oim_resolve.specs.ProgramCell.{held}
 use Rattle.oim_resolve.specs.Written.{written, written_decimals, overridden, dimensions_at}
 
--- what the first level that writes a name says
+-- What the first level that writes a name writes for it.
 abbrev pub first_written : List Level → List ℕ → Option Written
 first_written [] n = None
 first_written (l ∷ ls) n = option_or (value_at n l.dimensions) (first_written ls n)
@@ -39,7 +39,7 @@ pub decimals_reversed : (ls : List Level) → written_decimals (reverse ls) ≡ 
 decimals_reversed [] = refl
 decimals_reversed (l ∷ ls) = ap written_decimals (reverse-append (l ∷ []) ls) ∙ decimals-push (reverse ls) l ∙ ap (option_or l.decimals) (decimals_reversed ls)
 
--- at the level at place i, where no earlier one writes the name
+-- At the level at index i, if no earlier one writes the name.
 module _ (ls : List (Bor Level)) (i : ℕ) (d : Bor Level) (h : i < length ls) (is : d ≡ get_or ls i d) where
   pub found_written : (n : List ℕ) (w : Written) → Some w ≡ value_at n d.now.dimensions → first_written (held (drop i ls)) n ≡ first_written (held ls) n → Some w ≡ written (reverse (held ls)) n
   found_written n w e p =

@@ -1,4 +1,4 @@
--- Entries put in byte order.
+-- Entries inserted in byte order.
 use Rattle.std.proofs.Common.{◌≡◌, ◌<◌, ℕ, ◌+◌, Bool, true, false, cond, List, [], ◌∷◌, ◌++◌, length, map, take, drop, set, get_or, refl, sym, ap, subst, ◌∙◌, append_assoc, arith}
 use Rattle.std.specs.Borrow.{Bor}
 use Rattle.std.specs.List.{insert}
@@ -12,7 +12,7 @@ use Rattle.oim_resolve.specs.declared.plan.dimension.PlannedDimension.{PlannedDi
 use Rattle.oim_resolve.specs.ProgramCell.{held}
 use Rattle.oim_resolve.specs.state.ProgramPlan.{Keyed, put_entry, seen_keyed}
 
--- the entries below place i come before e
+-- The entries below index i precede e.
 abbrev pub PutsEntryFrom : List Keyed → ℕ → Keyed → Type 0
 PutsEntryFrom ks i e = put_entry ks e ≡ take i ks ++ put_entry (drop i ks) e
 
@@ -39,7 +39,7 @@ put_entry_equal : (ks : List Keyed) (i : ℕ) (e d : Keyed) → i < length ks �
     → put_entry ks e ≡ take i ks ++ settled (get_or ks i d) e ∷ drop (i + 1) ks
 put_entry_equal ks i e d h q p = p ∙ ap (λ xs. take i ks ++ xs) (put_entry-at ks i e d Equal h q)
 
--- the same of a list of references
+-- The same for a list of references.
 abbrev seen : List (Bor PlannedDimension) → List Keyed
 seen ks = map seen_keyed (held ks)
 

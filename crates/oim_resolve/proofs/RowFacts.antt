@@ -62,7 +62,7 @@ module _ (c : Cell) (k : Kind) (n : List ℕ) where
   unfolding entry_in
   name_is x = refl
 
-  -- a name that no level writes has no faults, and gives nothing
+  -- A name that no level writes has no faults, and gives nothing.
   no_faults : (b : Bool) (o : Role) → cond b [] (value_faults_of c.report o side.Whole m.Absent) ≡ []
   no_faults true o = refl
   no_faults false role.Concept = refl
@@ -130,7 +130,7 @@ module _ (c : Cell) (k : Kind) where
   reads_are [] r = sym (joined-nothing r)
   reads_are (n ∷ ns) r = read_step n ns r (written (levels c) n) refl (reads_are ns)
 
-  -- what all dimensions of a cell give, or their least fault
+  -- What all dimensions of a cell give, or their least fault.
   pub row_read : dimensions_of c k (row_entries c)
       ≡ unless (least (flat_map (dimension_faults c k) (names (levels c)))) (Ok (flat_map (λ n. named_entry n (dimension_entry c k n)) (names (levels c))))
   unfolding row_entries
@@ -149,6 +149,6 @@ module _ (c : Cell) where
   concept_at (Some (w.RowNumber s)) = refl
   concept_at (Some (w.Named p s)) = refl
 
-  -- the concept of a cell, found among its entries
+  -- The concept of a cell, found among its entries.
   pub row_concept : dimension_concept c (option_map (λ x. x.0) (value_at (codes "concept") (row_map c))) ≡ concept_read c.report (given c (codes "concept"))
   row_concept = ap (dimension_concept c) (row_lookup c (codes "concept")) ∙ concept_at (written (levels c) (codes "concept"))

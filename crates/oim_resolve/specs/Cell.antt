@@ -1,4 +1,5 @@
--- A cell: a row of a table of a report, and the place of a column. (xBRL-CSV 1.0, tables: each cell of a fact column is a fact or none)
+-- A cell: a row of a table of a report, and the index of a column. (xBRL-CSV 1.0, tables: each cell
+-- of a fact column is a fact or none)
 use Rattle.std.specs.Prelude.{◌<◌, ◌≡◌, ℕ, List, [], length, slice_index_or}
 use Rattle.oim_cells.specs.Cells.{Meaning, meaning_of}
 use Rattle.oim_report.specs.ReportValue.{ReportValue}
@@ -19,14 +20,14 @@ cell_of report table row column = record { report = report; table = table; row =
 abbrev pub column : Cell → Column
 column c = column_of c.report c.table c.column
 
--- the places are in range, the row has a cell for each column, and the column holds facts
+-- The indexes are in range, the row has a cell for each column, and the column holds facts.
 pub record IsCell (c : Cell) : Type 0 where
   pub table : c.table < length c.report.tables
   pub column : c.column < length (columns_of c.report c.table)
   pub cells : length c.row.cells ≡ length (columns_of c.report c.table)
   pub fact : (column_of c.report c.table c.column).kind ≡ Fact
 
--- the text of the row's cell at a place
+-- The text of the row's cell at an index.
 abbrev pub text_at : Cell → ℕ → List ℕ
 text_at c i = slice_index_or c.row.cells i []
 

@@ -1,7 +1,8 @@
 -- A fact, as contracts see it. (Open Information Model 1.0, simple facts and their dimensions)
 use Rattle.std.specs.Prelude.{ℕ, ℤ, List, Option}
 
--- its identifier, the text of its value, none for nil, its decimals, and each dimension with its value, none for nil
+-- Its identifier, the text of its value (`None` for nil), its decimals, and each dimension with its
+-- value (`None` for nil).
 pub record FactParts : Type 0 where
   pub id : List ℕ
   pub value : Option (List ℕ)

@@ -1,5 +1,6 @@
--- The result of a cell: no fact, a fault, or the fact. (xBRL-CSV 1.0, from cells to facts; Open Information Model 1.0, simple facts and their dimensions)
--- The faults of each step are a set, and a cell has the fault of the least number of the first step that has one.
+-- The result of a cell: no fact, a fault, or the fact. (xBRL-CSV 1.0, from cells to facts; Open
+-- Information Model 1.0, simple facts and their dimensions) The faults of each step are a set. A
+-- cell has the fault with the least number of the first step that has one.
 use Rattle.std.specs.Prelude.{ℕ, ℤ, List, [], ◌∷◌, ◌++◌, Bool, true, false, ◌&&◌, ◌||◌, not, Option, Some, None, is_none, is_some, Result, Ok, Err, codes, if◌then◌else◌}
 use Rattle.std.specs.List.{list_any, flat_map}
 use Rattle.std.specs.Option.{option_map, option_and_then, option_map_or, option_or, unwrap_or}
@@ -51,18 +52,18 @@ is_nil_or_empty m.Nil = true
 is_nil_or_empty m.Empty = true
 is_nil_or_empty _ = false
 
--- it is a text, and the text passes the test
+-- The meaning is a text that passes the test.
 abbrev pub is_text : (List ℕ → Bool) → Meaning → Bool
 is_text test (m.Text t) = test t
 is_text test _ = false
 
--- what the fact cell means
+-- The meaning of the fact cell.
 abbrev pub fact_meaning : Cell → Meaning
 fact_meaning c = meaning_at c c.column
 
--- STEP 1: the cell itself, and the cells of its row that name property groups
+-- STEP 1: the cell itself, and the cells of its row that name property groups.
 
--- the row's cell at a place says something, and names no group of its column
+-- The row's cell at index `i` is not absent and names no group of its column.
 abbrev pub names_no_group : Cell → ℕ → Bool
 names_no_group c i =
     is_nil_or_empty (meaning_at c i)
@@ -73,16 +74,16 @@ cell_and_group_faults c =
     fault_if UnknownSpecial (is_unknown (fact_meaning c) || list_any (λ i. is_unknown (meaning_at c i)) (column c).from)
     ++ fault_if UnknownGroup (list_any (names_no_group c) (column c).from)
 
--- STEP 2: the concept, which says of what kind the value is
+-- STEP 2: the concept, which fixes the kind of the value.
 
--- what the row gives for a dimension: Absent where no level writes it
+-- The value that the row gives a dimension: Absent if no level writes it.
 abbrev pub given : Cell → List ℕ → Meaning
 given c n = option_map_or (value c) (written (levels c) n) m.Absent
 
 abbrev pub side_given : Cell → List ℕ → Side
 side_given c n = option_map_or side_of (written (levels c) n) side.Whole
 
--- numbers, texts, booleans, dates, names and others are concepts
+-- Numbers, texts, booleans, dates, names and other kinds are concepts.
 abbrev pub concept_type : Kind → Option Kind
 concept_type (kind.Number n) = Some (kind.Number n)
 concept_type kind.Text = Some kind.Text
@@ -93,11 +94,11 @@ concept_type kind.Other = Some kind.Other
 concept_type kind.Explicit = None
 concept_type kind.Typed = None
 
--- the concept type of a declared QName
+-- The concept type of a declared QName.
 abbrev pub concept_type_of : ReportValue → List ℕ → Option Kind
 concept_type_of r t = option_and_then concept_type (option_and_then (λ q. kind_of r q.0 q.1) (qname_of r.namespaces t))
 
--- the faults of a concept's value
+-- The faults of a concept's value.
 abbrev pub concept_faults_of : ReportValue → Meaning → List CellFault
 concept_faults_of r v =
     fault_if UnknownSpecial (is_unknown v)
@@ -108,19 +109,19 @@ concept_faults_of r v =
 abbrev pub concept_faults : Cell → List CellFault
 concept_faults c = concept_faults_of c.report (given c (codes "concept"))
 
--- the kind of the concept that a value names
+-- The kind of the concept that a value names.
 abbrev pub text_kind : ReportValue → Meaning → Kind
 text_kind r (m.Text t) = unwrap_or (concept_type_of r t) kind.Other
 text_kind r _ = kind.Other
 
--- a concept's value read: its least fault, or the kind that it names
+-- A concept's value read: its least fault, or the kind that it names.
 abbrev pub concept_read : ReportValue → Meaning → Result Kind CellFault
 concept_read r v = unless (least (concept_faults_of r v)) (Ok (text_kind r v))
 
 abbrev pub concept_kind : Cell → Kind
 concept_kind c = text_kind c.report (given c (codes "concept"))
 
--- STEP 3: the other dimensions, the value and the decimals
+-- STEP 3: the other dimensions, the value and the decimals.
 
 abbrev pub is_numeric : Kind → Bool
 is_numeric (kind.Number n) = true
@@ -142,7 +143,7 @@ is_of_text kind.Other = false
 is_of_text kind.Explicit = false
 is_of_text kind.Typed = false
 
--- a dimension of the taxonomy is typed where the types say so, else explicit
+-- A taxonomy dimension is typed if the types table makes it typed, and explicit otherwise.
 abbrev pub taxonomy_role : Option Kind → Role
 taxonomy_role (Some kind.Typed) = role.Typed
 taxonomy_role (Some kind.Explicit) = role.Explicit
@@ -154,7 +155,7 @@ taxonomy_role (Some kind.Name) = role.Explicit
 taxonomy_role (Some kind.Other) = role.Explicit
 taxonomy_role None = role.Explicit
 
--- what a dimension's name stands for
+-- The role of a dimension's name.
 abbrev pub role_of : ReportValue → List ℕ → Role
 role_of r n =
     if bytes_eq n (codes "concept") then role.Concept
@@ -172,7 +173,7 @@ abbrev pub is_period : Role → Bool
 is_period role.Period = true
 is_period _ = false
 
--- a unit is dropped where the concept is not numeric, a language where it is not text
+-- A unit is dropped if the concept is not numeric, a language if it is not text.
 abbrev pub is_dropped : Kind → Role → Bool
 is_dropped k role.Unit = not (is_numeric k)
 is_dropped k role.Language = not (is_of_text k)
@@ -182,7 +183,7 @@ is_dropped k role.Period = false
 is_dropped k role.Explicit = false
 is_dropped k role.Typed = false
 
--- the form that entity, unit, language and explicit dimensions have
+-- The required form of entity, unit, language and explicit dimensions.
 abbrev pub has_form : ReportValue → Role → List ℕ → Bool
 has_form r role.Entity t = is_some (sqname_of r.namespaces t)
 has_form r role.Unit t = is_some (unit_of r.namespaces t)
@@ -192,13 +193,13 @@ has_form r role.Concept t = true
 has_form r role.Period t = true
 has_form r role.Typed t = true
 
--- the side of a period: nothing where the start or the end of an instant is asked for
+-- The side of a period: nothing if the start or the end of an instant is asked for.
 abbrev pub sided : Side → Reading → Option Reading
 sided side.Whole p = Some p
 sided side.Start p = start_of p
 sided side.End p = end_of p
 
--- the faults of a dimension that is not dropped
+-- The faults of a dimension that is not dropped.
 abbrev pub value_faults_of : ReportValue → Role → Side → Meaning → List CellFault
 value_faults_of r o s v =
     fault_if UnknownSpecial (is_unknown v)
@@ -207,7 +208,7 @@ value_faults_of r o s v =
     ++ fault_if BadPeriod (is_period o && is_text (λ t. is_none (period_of t)) v)
     ++ fault_if NotDuration (is_period o && is_text (λ t. option_map_or (λ p. is_none (sided s p)) (period_of t) false) v)
 
--- what a dimension gives a fact: nothing, or nil, or a text
+-- What a dimension gives a fact: nothing, nil, or a text.
 abbrev pub entry_of : Role → Side → Meaning → Option (Option (List ℕ))
 entry_of o s m.Absent = None
 entry_of o s m.Unknown = None
@@ -221,16 +222,16 @@ abbrev is_pure_unit : UnitKind → Bool
 is_pure_unit unit.Pure = true
 is_pure_unit unit.Written = false
 
--- a Pure unit is left out
+-- A pure unit is left out.
 abbrev pub is_pure : ReportValue → Role → Meaning → Bool
 is_pure r role.Unit (m.Text t) = option_map_or is_pure_unit (unit_of r.namespaces t) false
 is_pure r _ _ = false
 
--- what a dimension that is not dropped gives a fact
+-- What a dimension that is not dropped gives a fact.
 abbrev pub entry_given : ReportValue → Role → Side → Meaning → Option (Option (List ℕ))
 entry_given r o s v = if is_pure r o v then None else entry_of o s v
 
--- a dimension that is not dropped, read: its least fault, or what it gives a fact
+-- A dimension that is not dropped, read: its least fault, or what it gives a fact.
 abbrev pub value_read : ReportValue → Role → Side → Meaning → Result (Option (Option (List ℕ))) CellFault
 value_read r o s v = unless (least (value_faults_of r o s v)) (Ok (entry_given r o s v))
 
@@ -242,7 +243,8 @@ abbrev pub dimension_entry : Cell → Kind → List ℕ → Option (Option (List
 dimension_entry c k n =
     if is_dropped k (role_of c.report n) then None else entry_given c.report (role_of c.report n) (side_given c n) (given c n)
 
--- the decimals that are stated for a fact are looked at where its concept is numeric, it is not nil, and its cell has no suffix
+-- The decimals that a fact's properties state count only if its concept is numeric, it is not nil,
+-- and its cell has no suffix.
 abbrev pub looks_at_decimals : Kind → Meaning → Option Accuracy → Bool
 looks_at_decimals k v suffix = is_numeric k && not (is_nil v) && is_none suffix
 
@@ -263,14 +265,14 @@ stated_accuracy (Fixed a) = Some a
 stated_accuracy (Read (m.Text t)) = accuracy_of t
 stated_accuracy (Read v) = None
 
--- what is stated, read: its least fault, or the accuracy
+-- The stated decimals, read: their least fault, or the accuracy.
 abbrev pub stated_read : Stated → Result (Option Accuracy) CellFault
 stated_read s = unless (least (stated_faults s)) (Ok (stated_accuracy s))
 
 abbrev pub decimals_faults_of : Kind → Meaning → Option Accuracy → Stated → List CellFault
 decimals_faults_of k v suffix s = if looks_at_decimals k v suffix then stated_faults s else []
 
--- the fact cell, read by the kind of its concept
+-- The fact cell, read by the kind of its concept.
 abbrev pub fact_value : Cell → Kind → Result ValueParts CellFault
 fact_value c k = value_given c.report k (fact_meaning c)
 
@@ -282,12 +284,12 @@ rest_faults c k = flat_map (dimension_faults c k) (names (levels c)) ++ decimals
 
 -- THE FACT
 
--- the decimal places of an accuracy that is finite
+-- The decimal places of a finite accuracy.
 abbrev pub places : Accuracy → Option ℤ
 places (Places n) = Some n
 places Infinite = None
 
--- the suffix, else the property
+-- The suffix, or else the property.
 abbrev pub decimals_given : Kind → Meaning → Option Accuracy → Stated → Option ℤ
 decimals_given k v suffix s =
     if is_numeric k && not (is_nil v)
@@ -297,12 +299,12 @@ decimals_given k v suffix s =
 abbrev pub fact_decimals : Cell → Kind → Option ℤ
 fact_decimals c k = decimals_given k (fact_meaning c) (accuracy_in (fact_value c k)) (stated c)
 
--- a name and its entry
+-- A name and its entry.
 abbrev pub named_entry : List ℕ → Option (Option (List ℕ)) → List (List ℕ × Option (List ℕ))
 named_entry n (Some v) = (n, v) ∷ []
 named_entry n None = []
 
--- table, row and column
+-- The identifiers of table, row and column, joined by dots.
 abbrev pub id_of : Cell → List ℕ
 id_of c = (table_of c.report c.table).id ++ codes "." ++ c.row.id ++ codes "." ++ (column c).id
 
@@ -316,11 +318,12 @@ fact_of c = record {
 
 -- RESULT
 
--- what the third step gives: the least fault of the other dimensions, the decimals and the value, or the fact
+-- The result of the third step: the least fault of the other dimensions, the decimals and the
+-- value, or the fact.
 abbrev pub rest_result : Cell → Result Fact CellFault
 rest_result c = unless (least (rest_faults c (concept_kind c))) (Ok (fact_of c))
 
--- a fact as the result of a cell
+-- A fact as the result of a cell.
 abbrev pub as_result : Result Fact CellFault → Result (Option Fact) CellFault
 as_result (Ok f) = Ok (Some f)
 as_result (Err e) = Err e
@@ -331,7 +334,8 @@ cell_result c =
     else unless (least (cell_and_group_faults c))
     (unless (least (concept_faults c)) (as_result (rest_result c)))
 
--- the answer that the first two steps have, if any: no fact where the cell says nothing, else the least fault of the first of them that has one
+-- The result of the first two steps, if they settle it: no fact if the cell is absent, else the
+-- least fault of the first of them that has one.
 unfoldable pub early_result : Cell → Option (Result (Option Fact) CellFault)
 early_result c =
     if is_absent (fact_meaning c) then Some (Ok None)

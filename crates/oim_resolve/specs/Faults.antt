@@ -1,4 +1,5 @@
--- The faults of a cell, each with its number and its name, and the least of a set. (what the converter answers for a cell that breaks xBRL-CSV 1.0)
+-- The faults of a cell that breaks xBRL-CSV 1.0, each with its number and its name, and the least
+-- of a set.
 use Rattle.std.specs.Prelude.{ℕ, codes, List, [], ◌∷◌, Bool, true, false, Option, Some, None, Result, Err, nat_le, if◌then◌else◌}
 use Rattle.std.specs.Option.{option_map_or}
 use Rattle.oim_resolve.specs.declared.fact.CellFault.{CellFault}
@@ -33,21 +34,21 @@ name_of BadNumber = codes "BadNumber"
 name_of Memory = codes "Memory"
 name_of BadFactValue = codes "BadFactValue"
 
--- the set with a fault exactly where the test holds
+-- The set that has a fault exactly if the test holds.
 abbrev pub fault_if : CellFault → Bool → List CellFault
 fault_if f true = f ∷ []
 fault_if f false = []
 
--- the fault with the lesser number
+-- The fault with the lesser number.
 abbrev pub lesser : CellFault → CellFault → CellFault
 lesser f g = if nat_le (number_of f) (number_of g) then f else g
 
--- the fault of the least number of a set
+-- The fault with the least number of a set.
 abbrev pub least : List CellFault → Option CellFault
 least [] = None
 least (f ∷ fs) = Some (option_map_or (lesser f) (least fs) f)
 
--- the least of a step's faults, or, where it has none, what the later steps give
+-- The least of a step's faults, or what the later steps give if it has none.
 abbrev pub unless : {A : Type 0} → Option CellFault → Result A CellFault → Result A CellFault
 unless (Some f) r = Err f
 unless None r = r

@@ -1,4 +1,4 @@
--- What contracts see of the value that is read of the cell of a fact: its text and its accuracy.
+-- What contracts see of the value that is read from the cell of a fact: its text and its accuracy.
 use Rattle.std.specs.Prelude.{Result, Ok, Err}
 use Rattle.std.specs.Option.{option_map}
 use Rattle.oim_resolve.specs.declared.fact.CellFault.{CellFault}

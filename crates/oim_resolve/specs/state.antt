@@ -1,5 +1,5 @@
 pub mod Rows
-pub mod ProgramPlace
+pub mod ProgramCellAt
 pub mod ProgramDimensions
 pub mod ProgramLevels
 pub mod ProgramPlan

@@ -1,4 +1,4 @@
-//! What a cell is read from and what it gives: a row of a table, a fact or a fault.
+//! The input and results of reading a cell: a row of a table, a fact, or a fault.
 
 ghost use Rattle.std.specs.Prelude.{◌≡◌, map};
 ghost use Rattle.std.specs.Option.{option_map};
@@ -14,7 +14,9 @@ use std::fmt::{Display, Formatter};
 use std::marker::Model;
 
 /// A row of a table: its number, from 1, its identifier, and a cell for each column of the
-/// template, in the template's order, the empty text where the file omits the column.
+/// template.
+///
+/// The cells are in the template's order. A column that the file omits has the empty text.
 #[derive(Drop)]
 pub struct Row {
     pub number: u32,
@@ -23,7 +25,7 @@ pub struct Row {
 }
 
 impl Row {
-    /// A row of these parts. It takes no memory.
+    /// Makes a row of these parts. It takes no memory.
     pub fn new(number: u32, id: Text, cells: Items<Text>) -> Row
         ensures { result ≡ record { number = number; id = id; cells = cells } }
     {
@@ -31,8 +33,7 @@ impl Row {
     }
 }
 
-/// A fact. The names of its dimensions stand in byte order, and none stands twice. A contract sees
-/// its parts.
+/// A fact. Its dimensions are in byte order of name, without repeats. A contract sees its parts.
 pub struct Fact {
     id: Text,
     value: Option<Text>,
@@ -40,7 +41,7 @@ pub struct Fact {
     dimensions: Items<(Text, Option<Text>)>,
 }
 
-// By hand, so that who lets one go elsewhere makes one call.
+// Written by hand so that each place that drops one makes a single call.
 impl Drop for Fact {
     fn drop(self) {
         let Self {
@@ -66,8 +67,9 @@ impl Model for Fact {
 }
 
 impl Fact {
-    /// A fact of these parts, whose dimensions stand in byte order of name, no name twice. It takes no
-    /// memory.
+    /// Makes a fact of these parts. It takes no memory.
+    ///
+    /// The dimensions must be in byte order of name, without repeats.
     pub fn new(
         id: Text,
         value: Option<Text>,
@@ -85,30 +87,30 @@ impl Fact {
         }
     }
 
-    /// The identifier.
+    /// Returns the identifier.
     pub fn id(&self) -> &str
         ensures { result.now ≡ (self.now).id }
     {
         self.id.as_str()
     }
 
-    /// The text of the value, or None for nil.
+    /// Returns the text of the value, or `None` for nil.
     pub fn value(&self) -> Option<&Text>
         ensures { option_map (λ t. t.now) result ≡ (self.now).value }
     {
         self.value.as_ref()
     }
 
-    /// How many decimal places are accurate, below 0 for places before the point. None says nothing, or
-    /// that the value is exact.
+    /// Returns how many decimal places are accurate, below 0 for places before the point.
+    ///
+    /// `None` means that the value is exact, or that its accuracy is not given.
     pub fn decimals(&self) -> Option<i32>
         ensures { result ≡ (self.now).decimals }
     {
         self.decimals
     }
 
-    /// The dimensions, each with its name, where a value of None is nil. They stand in byte order of
-    /// name, and no name stands twice.
+    /// Returns the dimensions in byte order of name, without repeats. A value of `None` is nil.
     pub fn dimensions(&self) -> &[(Text, Option<Text>)]
         ensures dimensions { result.now ≡ (self.now).dimensions }
         ensures order { IsAscending (map (λ d. d.0) result.now) }
@@ -117,12 +119,12 @@ impl Fact {
     }
 }
 
-/// What is wrong with a cell (xBRL-CSV 1.0).
+/// A fault of a cell (xBRL-CSV 1.0).
 #[derive(Clone, Copy, Debug, PartialEq, Eq)]
 pub enum CellFault {
-    /// A text that begins with a single `#` and is not a special value.
+    /// A text begins with a single `#` and is not a special value.
     UnknownSpecial,
-    /// A group cell that names no property group of its column.
+    /// A group cell names no property group of its column.
     UnknownGroup,
     /// No concept is given.
     NoConcept,
@@ -136,7 +138,7 @@ pub enum CellFault {
     BadPeriod,
     /// The start or the end of an instant is asked for.
     NotDuration,
-    /// Decimals that are neither an integer of 32 bits nor `INF`.
+    /// Decimals are neither an integer of 32 bits nor `INF`.
     BadDecimals,
     /// The cell of a number is not a numeral.
     BadNumber,
@@ -147,7 +149,7 @@ pub enum CellFault {
 }
 
 impl CellFault {
-    /// What is wrong, as a sentence for people without capital and full stop.
+    /// Returns an explanation for people, as a sentence without capital and full stop.
     pub fn explanation(&self) -> &'static str {
         match self {
             CellFault::UnknownSpecial => "a text begins with # and is not a special value",
@@ -172,7 +174,7 @@ impl CellFault {
     }
 }
 
-/// A fault prints its name.
+/// Writes the fault's name.
 impl Display for CellFault {
     fn fmt<W: fmt::Write>(&self, f: &mut Formatter<W>) -> fmt::Result {
         f.write_str(self.name())
@@ -182,7 +184,7 @@ impl Display for CellFault {
 impl Error for CellFault {}
 
 impl CellFault {
-    /// The number of the fault: 31 to 40, 42 or 44.
+    /// Returns the number of the fault: 31 to 40, 42 or 44.
     pub fn number(&self) -> u32
         ensures { result ≡ number_of self.now }
     {
@@ -202,7 +204,7 @@ impl CellFault {
         }
     }
 
-    /// The name of the fault, as the variant is written.
+    /// Returns the name of the fault, as the variant is written.
     pub fn name(&self) -> &'static str
         ensures { result.now ≡ name_of self.now }
     {

@@ -1,4 +1,4 @@
-//! Two readings together: of two faults the lesser.
+//! The lesser of two faults, and two readings combined.
 
 ghost use Rattle.std.specs.Prelude.{◌≡◌};
 ghost use Rattle.oim_resolve.specs.Faults.{lesser};
@@ -6,7 +6,7 @@ ghost use Rattle.oim_resolve.specs.state.ProgramFaults.{both};
 
 use crate::fact::CellFault;
 
-/// The fault with the lesser number.
+/// Returns the fault with the lesser number.
 pub(crate) fn lesser(first: CellFault, second: CellFault) -> CellFault
     ensures { result ≡ lesser first second }
 {
@@ -17,7 +17,7 @@ pub(crate) fn lesser(first: CellFault, second: CellFault) -> CellFault
     }
 }
 
-/// What both readings give, or the lesser of their faults.
+/// Returns the values of both readings, or the lesser of their faults.
 pub(crate) fn both<A: Drop, B: Drop>(
     first: Result<A, CellFault>,
     second: Result<B, CellFault>,

@@ -1,26 +1,27 @@
-//! One cell of a table to its fact (xBRL-CSV 1.0; Open Information Model 1.0).
+//! Reads one cell of a table and returns its fact (xBRL-CSV 1.0; Open Information Model 1.0).
 //!
-//! A cell gives exactly what `cell_result` of `specs/Facts.antt` says, apart from running out of
-//! memory: no fact if the cell says nothing, else the fault with the least number of the first step
-//! that has a fault, else the fact. `compile` makes the `Plan` of a table, which keeps what is the
-//! same for all rows: the merged map of each column, each property group, what each name stands for,
-//! what each literal gives or what is wrong with it, and which column and which parameter each
-//! reference names. `Plan::resolve` finds the fact of one cell; `resolve` does both for a single
-//! cell. A literal's fault is answered only by a cell that meets it. The dimensions of a `Fact` stand
-//! in byte order of name, none twice. The identifier of a cell's fact is that of the table, the row and
-//! the column, with points between them.
+//! A cell gives exactly `cell_result` of `specs/Facts.antt`, unless memory runs out. An absent cell
+//! has no fact. Otherwise three steps follow each other: the first step with a fault gives its
+//! fault with the least number, and if no step has one, the cell gives the fact. Its identifier is
+//! that of the table, the row and the column, joined by dots. The dimensions of a `Fact` are in
+//! byte order of name, without repeats.
 //!
-//! `read_value` reads one dimension and `read_concept` a concept, each from what a row gives, and
-//! `fact_value` the fact cell by the kind of its concept.
+//! - `compile` makes the `Plan` of a table. It keeps what is the same for all rows: the merged
+//!   dimensions of each column, each property group, the role of each name, the value or fault of
+//!   each literal, and the column and parameter that each reference names. A literal's fault is
+//!   returned only by a cell that uses the literal.
+//! - `Plan::resolve` finds the fact of one cell, and `resolve` does both for a single cell.
+//! - `read_value` reads one dimension, `read_concept` a concept, and `fact_value` the fact's cell
+//!   by the kind of its concept.
 //!
-//! In `specs/`, the files named `Program..` say what contracts see of a plan, of references and of the
-//! value that is read of a cell; the others hold the rules. `specs/state/` describes what the program
-//! keeps, and is read beside the code.
+//! In `specs/`, the files named `Program..` define what contracts see of a plan, of references and
+//! of the value that is read from a cell. The others hold the rules. `specs/state/` describes what
+//! the program keeps, and is read together with the code.
 //!
 //! A call:
 //!
 //! ```
-//! /// The fact of a row's first cell.
+//! /// Returns the fact of a row's first cell.
 //! fn fact_of(alloc: Global, report: &Report, row: &Row) -> Result<Option<Fact>, CellFault> {
 //!     if report.tables() == 0 || report.columns(0) == 0 || row.cells.len() != report.columns(0) {
 //!         return Ok(None);

@@ -1,4 +1,4 @@
-//! A table's plan: its columns, made ready for its rows.
+//! A table's plan: its columns, prepared once for all its rows.
 
 mod column;
 mod dimension;
@@ -16,7 +16,7 @@ ghost use Rattle.oim_resolve.specs.Order.{HasNamesInOrder};
 ghost use Rattle.oim_resolve.specs.state.ProgramCell.{cell_at};
 ghost use Rattle.oim_resolve.specs.state.ProgramPlan.{ArePlanned};
 
-use crate::cell::{Place, PlannedCell};
+use crate::cell::{CellAt, PlannedCell};
 use crate::fact::{CellFault, Fact, Row};
 pub(crate) use crate::plan::column::PlannedColumn;
 use crate::plan::column::plan_column;
@@ -30,7 +30,8 @@ use oim_report::Report;
 use std::alloc::{AllocError, Global};
 use std::marker::Model;
 
-/// A table's columns, made ready for its rows. A contract sees the report and the table's place.
+/// A table's columns, prepared once for all its rows. A contract sees the report and the table's
+/// index.
 #[derive(Drop)]
 pub struct Plan<'a> {
     report: &'a Report,
@@ -49,8 +50,9 @@ impl<'a> Model for Plan<'a> {
     ghost invariant = { λ p. IsPlan p.report.now p.table p.columns.items };
 }
 
-/// The plan of the table at a place of the report, counted from 0. It fails only if memory runs out:
-/// the fault of a literal is answered by a cell that meets it. (xBRL-CSV 1.0, tables)
+/// Makes the plan of the table at index `table` of the report. (xBRL-CSV 1.0, tables)
+///
+/// A literal's fault is not an error here: a cell that uses the literal returns it.
 pub fn compile(alloc: Global, report: &Report, table: usize) -> Result<Plan<'_>, AllocError>
     requires { table < length report.now.tables }
     ensures { IfOk result (λ p. (p.report ≡ report.now) × (p.table ≡ table)) }
@@ -66,10 +68,10 @@ pub fn compile(alloc: Global, report: &Report, table: usize) -> Result<Plan<'_>,
     })
 }
 
-/// The fact of a cell, from the columns of its table made ready.
+/// Returns the fact of a cell, from the planned columns of its table.
 fn resolve_planned<'a>(
     alloc: Global,
-    place: Place<'a>,
+    place: CellAt<'a>,
     columns: &'a [PlannedColumn<'a>],
 ) -> Result<Option<Fact>, CellFault>
     requires planned { ArePlanned place.report.now place.table columns.now }
@@ -82,11 +84,11 @@ fn resolve_planned<'a>(
 }
 
 impl Plan<'_> {
-    /// The fact of a cell of the plan's table, if it has one: the same answer as that of `resolve` for
-    /// the plan's report and table, with the same faults. `column` is the place of a column of facts in
-    /// the table's template, from 0, and the row has a cell for each column of the template. The first
-    /// two steps take no memory, so their answer does not depend on it. (xBRL-CSV 1.0, from cells to
-    /// facts)
+    /// Returns the fact of a cell of the plan's table, if it has one, with the faults of `resolve`.
+    ///
+    /// `column` is the index of a column of facts in the table's template, and the row has a cell
+    /// for each column of the template. The first two steps take no memory, so their result does
+    /// not depend on it. (xBRL-CSV 1.0, from cells to facts)
     pub fn resolve(
         &self,
         alloc: Global,
@@ -101,7 +103,7 @@ impl Plan<'_> {
     {
         let mut buffer = Buffer::new();
         let number = buffer.format(row.number);
-        let place = Place {
+        let place = CellAt {
             report: self.report,
             table: self.table,
             row,
@@ -112,17 +114,21 @@ impl Plan<'_> {
     }
 }
 
-/// The fact of a cell, if it has one: `table` is the place of the table in the report, `column` that
-/// of the column in the table's template, both from 0. The row has a cell for each column of the
-/// template, and the column holds facts. For many cells of a table, `compile` its plan once. (xBRL-CSV
-/// 1.0, from cells to facts)
+/// Returns the fact of a cell, if it has one. (xBRL-CSV 1.0, from cells to facts)
 ///
-/// If the cell says nothing (it is empty or `#none`), there is no fact. Else the answer is the fault
-/// with the least number of the first of three steps that has one: the cell and its group cells
-/// (`UnknownSpecial`, `UnknownGroup`); the concept (`UnknownSpecial`, `NoConcept`, `UnknownName`,
-/// `BadReference`); and the other dimensions, the decimals and the value (`UnknownSpecial`,
-/// `BadReference`, `BadValue`, `BadPeriod`, `NotDuration`, `BadDecimals`, `BadNumber`, `BadFactValue`).
-/// `Memory` comes if memory runs out.
+/// `table` is the index of the table in the report, `column` that of a column of facts in the
+/// table's template. The row has a cell for each column of the template. For many cells of a table,
+/// `compile` its plan once.
+///
+/// A cell that is empty or `#none` has no fact. Otherwise the result is the fault with the least
+/// number of the first of three steps that has one:
+///
+/// - the cell and its group cells: `UnknownSpecial`, `UnknownGroup`;
+/// - the concept: `UnknownSpecial`, `NoConcept`, `UnknownName`, `BadReference`;
+/// - the other dimensions, the decimals and the value: `UnknownSpecial`, `BadReference`,
+///   `BadValue`, `BadPeriod`, `NotDuration`, `BadDecimals`, `BadNumber`, `BadFactValue`.
+///
+/// Returns `Memory` if memory runs out.
 pub fn resolve(
     alloc: Global,
     report: &Report,

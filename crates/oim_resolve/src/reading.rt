@@ -14,14 +14,14 @@ use oim_report::{Kind, Report};
 /// What a cell gives its fact.
 #[derive(Clone, Copy)]
 pub struct FactValue<'a> {
-    /// The text of the value, or None for nil.
+    /// The text of the value, or `None` for nil.
     pub text: Option<&'a str>,
     /// The accuracy that the suffix of a numeral states.
     pub accuracy: Option<Accuracy>,
 }
 
 impl<'a> FactValue<'a> {
-    /// A text that says nothing of its accuracy.
+    /// Makes a value without accuracy.
     fn plain(text: &'a str) -> FactValue<'a>
         ensures { seen_value result ≡ plain text.now }
     {
@@ -44,7 +44,7 @@ fn numeral(kind: NumberKind, text: &str) -> Result<FactValue<'_>, CellFault>
     }
 }
 
-/// A text as it stands, where it has the form that its kind asks for.
+/// Returns `text` unchanged if it has the form that its kind requires, else BadFactValue.
 fn in_form(has_form: bool, text: &str) -> Result<FactValue<'_>, CellFault>
     ensures { seen_reading result ≡ in_form has_form text.now }
 {
@@ -76,17 +76,21 @@ fn text_value<'a>(report: &Report, kind: Kind, text: &'a str) -> Result<FactValu
     }
 }
 
-/// What a cell of this meaning gives a fact whose concept has this kind. (xBRL-CSV 1.0, special values and
-/// the decimals suffix; XML Schema Part 2, second edition: the lexical forms of the kinds)
+/// Returns what a cell of this meaning gives a fact whose concept has this kind. (xBRL-CSV 1.0,
+/// special values and the decimals suffix; XML Schema Part 2, second edition: the lexical forms of
+/// the kinds)
 ///
-/// The cell of a number gives its numeral and what the suffix behind it says; that of a boolean, a date or
-/// a name gives its text without the spaces, tabs, carriage returns and line feeds at both ends; any other
-/// gives its text as it is. `#empty` is read as the empty text, and nil gives no text, as do an absent and an unknown
-/// meaning, without a fault. It takes no memory.
+/// - The cell of a number gives its numeral and the accuracy of its suffix.
+/// - The cell of a boolean, a date or a name gives its text, trimmed of spaces, tabs, carriage
+///   returns and line feeds.
+/// - Any other cell gives its text unchanged.
 ///
-/// - `BadNumber`: the text is not a numeral of the kind;
-/// - `BadFactValue`: the text is not a boolean, not a date (`yyyy-mm-dd`, without time zone), or not a QName
-///   whose prefix the report declares.
+/// `#empty` is read as the empty text. A nil, absent or unknown meaning gives no text, without a
+/// fault. It takes no memory.
+///
+/// - `BadNumber`: the text is not a numeral of the kind.
+/// - `BadFactValue`: the text is not a boolean, not a date (`yyyy-mm-dd`, without time zone), or
+///   not a QName whose prefix the report declares.
 pub fn fact_value<'a>(
     report: &Report,
     kind: Kind,

@@ -1,4 +1,4 @@
--- The definitions, executed on worked cases.
+-- The definitions of this crate, executed on worked cases.
 use Rattle.std.specs.Prelude.{Ok, Err}
 use Rattle.std.proofs.Common.{◌≡◌, ◌∷◌, [], ◌++◌, List, None, true, false, codes, arith, refl}
 use Rattle.oim_resolve.specs.FactParts.{FactParts as Fact}
@@ -19,7 +19,7 @@ use Rattle.oim_rows.specs.declared.fault.TableKind.TheVariants as kind
 abbrev cash : Fact
 cash = record { id = codes "t1.r_1.cash"; value = None; decimals = None; dimensions = [] }
 
--- a block of one fact
+-- A block of one fact.
 abbrev block : Item
 block = Block (cash ∷ [])
 
@@ -47,7 +47,7 @@ empty_table = record { before = []; ending = Closed; only = refl; is = refl }
 refused_table : EndsOnce (block ∷ Ending (Refused bad_number) ∷ [])
 refused_table = record { before = block ∷ []; ending = Refused bad_number; only = refl; is = refl }
 
--- a list without an ending
+-- A list without an ending has not ended.
 no_items : (before : List Item) (last : Endings.Ending) → [] ≡ before ++ Ending last ∷ [] → ⊥
 no_items [] last is = cc
 no_items (item ∷ more) last is = cc
@@ -63,7 +63,7 @@ one_block (item ∷ other ∷ more) last is = cc
 blocks_have_not_ended : EndsOnce (block ∷ []) → ⊥
 blocks_have_not_ended once = one_block once.before once.ending once.is
 
--- a list that goes on after an ending
+-- A list that continues after an ending has not ended.
 goes_on : (before : List Item) (last : Endings.Ending) → blocks_only before ≡ true → Ending Closed ∷ block ∷ [] ≡ before ++ Ending last ∷ [] → ⊥
 goes_on [] last only is = cc
 goes_on (Block facts ∷ more) last only is = cc
@@ -73,7 +73,7 @@ nothing_after_an_ending : EndsOnce (Ending Closed ∷ block ∷ []) → ⊥
 nothing_after_an_ending once = goes_on once.before once.ending once.only once.is
 
 module _ (ring : Ring) where
-  -- a feed with room for one more item
+  -- A feed with room for one more item.
   abbrev with_room : FeedView
   with_room = record { ring = ring; size = 2; sent = block ∷ [] }
 
@@ -95,7 +95,7 @@ module _ (ring : Ring) where
   is_not_full : RefusesClose with_room Closed (Full with_room Closed) → ⊥
   is_not_full c = c.2 (omega arith)
 
-  -- refused, the feed and the ending come back as they were
+  -- `Full` gives the feed and the ending back unchanged.
   refused : Closes without_room Closed (Err (Full without_room Closed))
   refused = (refl, refl, λ lt. omega arith)
 
@@ -105,29 +105,29 @@ module _ (ring : Ring) where
   another_ending : RefusesClose without_room Closed (Full without_room (Refused bad_number)) → ⊥
   another_ending c = let e = c.1 in cc
 
-  -- a token that is lost says nothing of the feed
+  -- `Lost` has no condition.
   lost : Closes with_room Closed (Err Lost)
   lost = tt
 
-  -- the token is of the same ring
+  -- The token is of the same ring.
   same_ring : (other : Ring) → Closes with_room Closed (Ok (record { ring = other; sent = block ∷ Ending Closed ∷ [] })) → other ≡ ring
   same_ring other c = c.0
 
-  -- a feed that has ended is not closed again
+  -- A feed that has ended cannot be closed again.
   abbrev ended : FeedView
   ended = record { ring = ring; size = 2; sent = Ending Closed ∷ [] }
 
   closes_once : Closes ended Closed (Ok (record { ring = ring; sent = Ending Closed ∷ Ending Closed ∷ [] })) → ⊥
   closes_once c = let e = c.2 in cc
 
-  -- the faults' numbers and names (docs/FAULTS.md)
+  -- The faults' numbers and names (docs/FAULTS.md).
   full_fault : (number_of (Full with_room Closed) ≡ 65) × (name_of (Full with_room Closed) ≡ codes "Full")
   full_fault = (refl, refl)
 
 lost_fault : (number_of Lost ≡ 66) × (name_of Lost ≡ codes "Lost")
 lost_fault = (refl, refl)
 
--- the sizes of a ring: 1 to 65,536
+-- The sizes of a ring: 1 to 65,536.
 least_and_greatest_size : IsRingSize 1 × IsRingSize 65_536
 least_and_greatest_size = ((omega arith, omega arith), (omega arith, omega arith))
 

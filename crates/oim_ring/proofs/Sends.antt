@@ -1,4 +1,4 @@
--- The types of this crate that may cross threads, for the searches of the crates above.
+-- The types of this crate that may cross threads, for searches in dependent crates.
 use denote.Param.Send.{IsSend}
 use Rattle.oim_ring.proofs.drain.Drain.TheSendSync as drain
 use Rattle.oim_ring.proofs.drain.Drained.TheSendSync as drained
@@ -26,5 +26,5 @@ drain_send = drain.the_send
 pub drained_send : IsSend Drained.the_row
 drained_send = drained.the_send
 
--- the ends of a ring, for `search`
+-- The types of a ring's two ends, for `search`.
 pub ruleset ends = (item_send, feed_send, closed_send, drain_send, drained_send)

@@ -7,12 +7,14 @@ use Rattle.oim_ring.specs.declared.item.Item.TheVariants as items
 use Rattle.oim_ring.specs.declared.feed.CloseFault.{CloseFault}
 use Rattle.oim_ring.specs.declared.feed.CloseFault.TheVariants.{Full, Lost}
 
--- the feed and the ending come back unchanged, and only if at least as many items were sent as the ring's size
+-- Full gives the feed and the ending back unchanged, and only if the count of items sent is at
+-- least the ring's size. Lost has no condition.
 abbrev pub RefusesClose : FeedView → Ending → CloseFault → Type 0
 RefusesClose feed ending (Full back again) = (back ≡ feed) × (again ≡ ending) × ¬ (length feed.sent < feed.size)
 RefusesClose feed ending Lost = Unit {0}
 
--- closing succeeds with a token of all that was sent, of which only the last item is an ending, or it is refused
+-- Closing returns a token of all that was sent, whose only ending is its last item, or it is
+-- refused.
 abbrev pub Closes : FeedView → Ending → Result ClosedView CloseFault → Type 0
 Closes feed ending result =
     MatchResult result

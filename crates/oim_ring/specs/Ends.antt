@@ -1,10 +1,10 @@
--- What contracts see of the ends of a ring.
+-- The ends of a ring, as contracts see them.
 use Rattle.std.specs.Prelude.{ℕ, List}
 use denote.RawPtr.{Ptr}
 use Rattle.rtrb.specs.Shared.{Names}
 use Rattle.oim_ring.specs.declared.item.Item.{Item}
 
--- the identity of a ring
+-- The identity of a ring.
 abbrev pub Ring : Type 0
 Ring = Ptr × Ptr × Names
 

@@ -4,13 +4,13 @@ use Rattle.oim_ring.specs.declared.item.Item.{Item}
 use Rattle.oim_ring.specs.declared.item.Item.TheVariants.{Block, Ending}
 use Rattle.oim_ring.specs.declared.item.Ending as Endings
 
--- no item is an ending
+-- Whether no item is an ending.
 abbrev pub blocks_only : List Item → Bool
 blocks_only [] = true
 blocks_only (Block facts ∷ items) = blocks_only items
 blocks_only (Ending ending ∷ items) = false
 
--- the last item is an ending, and no other item is
+-- The last item is an ending, and no other item is.
 pub record EndsOnce (items : List Item) : Type 0 where
   pub before : List Item
   pub ending : Endings.Ending

@@ -1,10 +1,10 @@
 -- The sizes of a ring.
 use Rattle.std.specs.Prelude.{◌≤◌, ℕ}
 
--- the largest size of a ring, in blocks
+-- The largest size of a ring, in blocks.
 abbrev pub largest_ring : ℕ
 largest_ring = 65_536
 
--- a ring has room for at least one block, and at most for the largest number
+-- The size of a ring: room for at least one block and at most `largest_ring` blocks.
 abbrev pub IsRingSize : ℕ → Type 0
 IsRingSize size = (1 ≤ size) × (size ≤ largest_ring)

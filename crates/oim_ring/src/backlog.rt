@@ -1,27 +1,29 @@
-//! What the rings of one report share: how many facts wait in them, which feeds are held back, and
-//! vectors for new blocks.
+//! What the rings of one report share: the count of facts waiting in them, the feeds that are held
+//! back, and spare vectors for new blocks.
 //!
-//! Who is woken, and why no feed is held back for ever:
+//! Which feed is woken, and why no feed is held back for ever:
 //!
-//! - The writer's table is never held back. Once the writer looks at a ring, its feed is woken,
-//!   whatever else was done for it. So each feed waits for its turn at most, and the writer comes to
-//!   each table (`waiting`).
-//! - **No wake is lost.** A feed first announces that it will sleep, then is counted as held back, and
-//!   only then looks whether it still has to wait. The other side first changes the count of facts, or
-//!   the turn, and then looks for feeds that are held back. All these steps are in one order, so the
-//!   feed sees the change or the other side sees the feed. A wake that comes between the announcement
-//!   and the sleep ends that sleep.
-//! - **One at a time.** A block that is taken makes room for one block, so one feed is called: the
-//!   first in table order, from the writer's on, which will be needed first. A place from which one was
-//!   called is passed over until that feed goes on, so two blocks that are taken call two feeds. A feed
-//!   that puts a block while there is room calls the next one. If the called feed finds the room taken,
-//!   it sleeps again, and may be called again.
-//! - Feeds of 64 tables sleep at 64 places. Two feeds at one place, of tables 64 apart, are called one
-//!   after the other, and are woken together when the writer comes to one of them. The other one then
-//!   sleeps again.
+//! - The writer's table is never held back. When the writer reaches a ring, it always wakes that
+//!   ring's feed. So a feed waits at most for its turn, and the writer reaches each table
+//!   (`waiting`).
+//! - **No wake is lost.** A feed first announces that it will sleep, then is counted as held back,
+//!   and only then checks whether it still has to wait. The other side first changes the count of
+//!   facts, or the turn, and then checks for feeds that are held back. All these steps are in one
+//!   order, so the feed sees the change or the other side sees the feed. A wake between the
+//!   announcement and the sleep ends that sleep.
+//! - **One at a time.** A block that is taken frees space for one block, so one feed is called: the
+//!   next in table order, counted from the writer's table, because its facts are needed first. A
+//!   place from which a feed was called is skipped until that feed continues, so two blocks that
+//!   are taken call two feeds. A feed that puts a block while there is space calls the next feed.
+//!   If a called feed finds the space used, it sleeps again, and may be called again.
+//! - Feeds of 64 tables sleep at 64 places. Two feeds at one place, of tables 64 apart, are called
+//!   one after the other, and are woken together when the writer reaches one of them. The other one
+//!   then sleeps again.
 //!
-//! What counts is facts and not blocks: a block of a few facts takes little memory, and workers that
-//! decode many short tables are not held back for each of them.
+//! The limit counts facts, not blocks, because a block of a few facts takes little memory. So
+//! workers that decode many short tables are not held back for each of them.
+//!
+//! Not proved: all of this. No contract speaks of the backlog.
 
 use crossbeam_queue::ArrayQueue;
 use crossbeam_utils::sync::EventCount;
@@ -29,56 +31,55 @@ use std::alloc::{AllocError, Global};
 use std::sync::atomic::{AtomicBool, AtomicUsize, Ordering};
 use std::sync::{Arc, Wait};
 
-/// The most vectors that are kept for new blocks.
-const MOST_ROOMS: usize = 160;
+/// The greatest count of spare vectors.
+const MOST_SPARES: usize = 160;
 
-/// The largest vector that is kept, in bytes.
-const LARGEST_ROOM: usize = 262_144;
+/// The largest spare vector, in bytes.
+const LARGEST_SPARE: usize = 262_144;
 
-/// How many places there are at which feeds sleep.
-const PLACES: usize = 64;
+/// The count of places at which feeds sleep.
+const GROUPS: usize = 64;
 
-/// Where feeds sleep that are held back: those of the tables whose number leaves one remainder by `PLACES`.
+/// A place for feeds that are held back: those of tables with the same remainder by `GROUPS`.
 #[derive(Drop)]
-struct Place {
+struct Sleepers {
     changed: EventCount,
-    /// How many feeds are held back here.
+    /// The count of feeds that are held back here.
     held: AtomicUsize,
-    /// Whether a feed was called from here that has not gone on yet.
+    /// Whether a feed was called from here that has not continued yet.
     called: AtomicBool,
 }
 
-/// How many facts wait in all rings of a report together, and the table whose ring the writer takes
-/// from. Feeds of later tables wait while too many facts are waiting. No contract says anything
-/// about it.
+/// The facts that wait in all rings of a report, and the table from whose ring the writer takes.
+/// Feeds of later tables wait while too many facts wait.
 #[derive(Drop)]
 pub(crate) struct Backlog {
     most: usize,
     waiting: AtomicUsize,
     turn: AtomicUsize,
-    /// How many feeds are held back at all places.
+    /// The count of feeds that are held back at all places.
     held: AtomicUsize,
-    places: Vec<Place>,
-    /// Vectors that were given back, whose memory serves for new blocks.
-    rooms: ArrayQueue<Vec<u8>>,
+    sleepers: Vec<Sleepers>,
+    /// Spare vectors for new blocks.
+    spares: ArrayQueue<Vec<u8>>,
 }
 
-/// The places, at which no feed is held back yet.
-fn places(alloc: Global) -> Result<Vec<Place>, AllocError> {
-    let mut places = Vec::with_capacity(alloc, PLACES)?;
-    for _made in 0..PLACES {
-        places.push(Place {
+/// Returns the places, with no feed held back.
+fn new_sleepers(alloc: Global) -> Result<Vec<Sleepers>, AllocError> {
+    let mut sleepers = Vec::with_capacity(alloc, GROUPS)?;
+    for _made in 0..GROUPS {
+        sleepers.push(Sleepers {
             changed: EventCount::new(),
             held: AtomicUsize::new(0),
             called: AtomicBool::new(false),
         })?;
     }
-    Ok(places)
+    Ok(sleepers)
 }
 
-impl Place {
-    /// Calls one feed that is held back here. False if there is none, or if one was called that has not
-    /// gone on yet.
+impl Sleepers {
+    /// Calls one feed that is held back here. Returns false if no feed is held back, or if one was
+    /// called that has not continued yet.
     fn call(&self) -> bool {
         if self.held.load(Ordering::SeqCst) == 0 || self.called.swap(true, Ordering::SeqCst) {
             return false;
@@ -89,34 +90,33 @@ impl Place {
 }
 
 impl Backlog {
-    /// A backlog in which no fact waits yet, and in which `most` facts may wait. Fails if memory runs
-    /// out.
+    /// Returns a backlog with no fact waiting, in which `most` facts may wait.
     pub(crate) fn new(alloc: Global, most: usize) -> Result<Arc<Backlog>, AllocError> {
         let backlog = Backlog {
             most,
             waiting: AtomicUsize::new(0),
             turn: AtomicUsize::new(0),
             held: AtomicUsize::new(0),
-            places: places(alloc)?,
-            rooms: ArrayQueue::new(alloc, MOST_ROOMS)?,
+            sleepers: new_sleepers(alloc)?,
+            spares: ArrayQueue::new(alloc, MOST_SPARES)?,
         };
         Ok(Arc::new(alloc, backlog)?)
     }
 
-    /// Whether there is no room for another block.
+    /// Returns whether another block has to wait.
     fn is_full(&self) -> bool {
         self.waiting.load(Ordering::SeqCst) >= self.most
     }
 
-    /// Whether the feed of a table has to wait: the writer has not reached the table, and as many facts
-    /// are waiting as may.
+    /// Returns whether the feed of a table has to wait: the writer has not reached the table, and
+    /// the limit of waiting facts is reached.
     fn holds(&self, table: usize) -> bool {
         self.turn.load(Ordering::SeqCst) < table && self.is_full()
     }
 
-    /// The place of a table.
-    fn place(&self, table: usize) -> Option<&Place> {
-        self.places.as_slice().get(table % PLACES)
+    /// Returns the place of a table.
+    fn place(&self, table: usize) -> Option<&Sleepers> {
+        self.sleepers.as_slice().get(table % GROUPS)
     }
 
     /// Wakes the feed of a table, if it is held back.
@@ -126,14 +126,14 @@ impl Backlog {
         }
     }
 
-    /// If there is room, calls one of the feeds that are held back: the first in table order, from the
-    /// writer's on, that was not called before.
+    /// Calls a feed that is held back, if there is space for a block: the next in table order from
+    /// the writer's table, without the places from which one was called already.
     fn call_next(&self) {
         if self.held.load(Ordering::SeqCst) == 0 || self.is_full() {
             return;
         }
         let turn = self.turn.load(Ordering::SeqCst);
-        for ahead in 0..PLACES {
+        for ahead in 0..GROUPS {
             let place = self.place(turn.wrapping_add(ahead));
             if place.is_some_and(|place| place.call()) {
                 return;
@@ -141,13 +141,13 @@ impl Backlog {
         }
     }
 
-    /// Sleeps at the table's place until it is called, if it is held back.
+    /// Sleeps at the table's place until a call, if the table's feed is held back.
     fn sleep<R: Wait>(&self, rt: &R, table: usize) {
         let Some(place) = self.place(table) else {
             return;
         };
         let change = place.changed.prepare_wait();
-        // A call may have come when the feed that it was for had just gone on.
+        // A call may have been made just after its feed continued.
         place.called.store(false, Ordering::SeqCst);
         place.held.fetch_add(1, Ordering::SeqCst);
         self.held.fetch_add(1, Ordering::SeqCst);
@@ -160,13 +160,13 @@ impl Backlog {
     }
 }
 
-/// A handle to the report's backlog, which each end of a table's ring has.
+/// A handle to the report's backlog. Each end of a table's ring has one.
 pub(crate) struct BacklogHandle {
     backlog: Arc<Backlog>,
     table: usize,
 }
 
-// By hand, so that who lets one go elsewhere makes one call.
+// By hand, so that dropping a handle elsewhere is one call.
 impl Drop for BacklogHandle {
     fn drop(self) {
         let Self {
@@ -177,7 +177,8 @@ impl Drop for BacklogHandle {
 }
 
 impl BacklogHandle {
-    /// A handle for the ring of a table, counted from 0. Fails if the backlog has too many handles.
+    /// Returns a handle for the ring of a table, counted from 0. Fails if the backlog has too many
+    /// handles.
     pub(crate) fn of(backlog: &Arc<Backlog>, table: usize) -> Result<BacklogHandle, AllocError> {
         Ok(BacklogHandle {
             backlog: Arc::try_clone(backlog)?,
@@ -185,19 +186,19 @@ impl BacklogHandle {
         })
     }
 
-    /// Notes that a block of so many facts is put into the ring.
+    /// Notes that a block of `facts` facts is put into the ring.
     pub(crate) fn more(&self, facts: usize) {
         self.backlog.waiting.fetch_add(facts, Ordering::SeqCst);
         self.backlog.call_next();
     }
 
-    /// Notes that a block of so many facts was taken from the ring.
+    /// Notes that a block of `facts` facts was taken from the ring.
     pub(crate) fn less(&self, facts: usize) {
         self.backlog.waiting.fetch_sub(facts, Ordering::SeqCst);
         self.backlog.call_next();
     }
 
-    /// Notes that the writer now takes from the ring of this table.
+    /// Notes that the writer now takes from this table's ring, and wakes its feed.
     pub(crate) fn take_turn(&self) {
         if self.backlog.turn.load(Ordering::SeqCst) != self.table {
             self.backlog.turn.store(self.table, Ordering::SeqCst);
@@ -205,24 +206,25 @@ impl BacklogHandle {
         }
     }
 
-    /// Keeps a vector, whatever it was used for, for the texts of another block. Drops it if enough are kept or if it is large.
-    pub(crate) fn keep_room<R: Wait>(&self, rt: &R, room: Vec<u8>) {
-        if room.capacity() <= LARGEST_ROOM {
-            let _ = self.backlog.rooms.push(rt, room);
+    /// Keeps a spare vector for the texts of another block. Drops it if enough are kept or it is
+    /// large.
+    pub(crate) fn keep_spare<R: Wait>(&self, rt: &R, spare: Vec<u8>) {
+        if spare.capacity() <= LARGEST_SPARE {
+            let _ = self.backlog.spares.push(rt, spare);
         }
     }
 
-    /// A vector that was kept, with what it held, if there is one.
-    pub(crate) fn kept_room<R: Wait>(&self, rt: &R) -> Option<Vec<u8>> {
-        self.backlog.rooms.pop(rt)
+    /// Returns a spare vector with its old contents, if one is kept.
+    pub(crate) fn kept_spare<R: Wait>(&self, rt: &R) -> Option<Vec<u8>> {
+        self.backlog.spares.pop(rt)
     }
 
-    /// Whether the writer has reached this table.
+    /// Returns whether the writer has reached this table.
     pub(crate) fn is_reached(&self) -> bool {
         self.backlog.turn.load(Ordering::SeqCst) >= self.table
     }
 
-    /// Whether the backlog holds back the feed of this table.
+    /// Returns whether the backlog holds back the feed of this table.
     pub(crate) fn is_held(&self) -> bool {
         self.backlog.holds(self.table)
     }

@@ -37,7 +37,7 @@ pub struct Drained {
     consumer: Consumer<Item>,
 }
 
-// By hand, so that who lets one go elsewhere makes one call.
+// By hand, so that dropping one elsewhere is one call.
 impl Drop for Drained {
     fn drop(self) {
         let Self { consumer: _ } = self;
@@ -69,8 +69,8 @@ impl Drain {
         }
     }
 
-    /// Takes the next item, or gives `None` if it found none, and then nothing changed. It allocates no
-    /// memory and does not wait.
+    /// Takes the next item, or returns `None` and changes nothing. It allocates no memory and does
+    /// not wait.
     pub fn take(&mut self) -> Option<Item>
         ensures ring { self.new.ring ≡ self.old.ring }
         ensures some { IfSome result (λ item. self.new.taken ≡ self.old.taken ++ item ∷ []) }
@@ -85,21 +85,21 @@ impl Drain {
         Some(item)
     }
 
-    /// Waits until the feed wakes this drain, which it does after each few items, when the ring is full
-    /// and at the close, or until some milliseconds have passed. So it may return although nothing was
-    /// sent. Call it when `take` found nothing. The items taken stay the same.
+    /// Waits until the feed wakes this drain, or at most a few milliseconds, so it may return
+    /// although nothing was sent. The feed wakes it after every few items, when the ring is full
+    /// and at the close. Call it if `take` returned `None`. The items taken stay the same.
     pub fn wait<R: Wait>(&self, rt: &R) {
         self.waiting.wait(rt);
     }
 
-    /// Gives the vector of a block's texts back for blocks that are sent later, if few enough are waiting
-    /// to be used. The items taken stay the same.
+    /// Gives back the vector of a block's texts for later blocks, unless enough spare vectors are
+    /// kept. The items taken stay the same.
     pub fn give_back<R: Wait>(&self, rt: &R, block: Block) {
-        self.backlog.keep_room(rt, block.into_room());
+        self.backlog.keep_spare(rt, block.into_spare());
     }
 
-    /// Shows that the items taken are all the items sent, once the ending was taken. The token must come
-    /// from the feed of the same ring. It allocates no memory and does not wait.
+    /// Shows that the items taken are all the items sent, after the ending was taken. The token
+    /// must be from the feed of the same ring. It allocates no memory and does not wait.
     pub fn settle(self, closed: Closed) -> Drained
         requires one_ring { closed.ring ≡ self.ring }
         requires ended { blocks_only self.taken ≡ false }

@@ -1,4 +1,8 @@
 //! The sending end of a ring.
+//!
+//! Not proved: when `Feed::wait` and `Feed::wait_for_turn` return, the answers of `Feed::is_held`
+//! and `Feed::is_reached`, which spare vector `Feed::kept_spare` returns, and what was sent if
+//! `Feed::close` fails with `Lost`.
 
 ghost use Rattle.std.specs.Prelude.{◌≡◌, ◌<◌, ◌≤◌, ◌-◌, [], ◌∷◌, ◌++◌, true, length, IsOk, OnOk, IfErr};
 ghost use Rattle.rtrb.specs.Ring.{sent, producer_capacity};
@@ -16,12 +20,12 @@ use rtrb::{Finished, Producer};
 use std::marker::Model;
 use std::sync::Wait;
 
-/// The sending end of a ring. Contracts see its ring, its size and the items sent so far, none of
-/// which is an ending.
+/// The sending end of a ring. Contracts see its ring, its size and the items sent so far, which
+/// contain no ending.
 #[derive(Drop)]
 pub struct Feed {
     producer: Producer<Item>,
-    /// How many slots of the ring no block takes, since they are kept for the ending.
+    /// The count of slots that are kept for the ending, so that no block takes them.
     kept: usize,
     waiting: FeedWaiting,
     backlog: BacklogHandle,
@@ -41,8 +45,8 @@ impl Model for Feed {
     ghost invariant = { λ f. blocks_only (sent f.producer) ≡ true };
 }
 
-/// The token of a feed that was closed. Contracts see its ring and all items sent, of which only the
-/// last is an ending.
+/// The token of a closed feed. Contracts see its ring and all items sent; only the last is an
+/// ending.
 #[derive(Drop)]
 pub struct Closed {
     pub(crate) finished: Finished<Item>,
@@ -64,14 +68,14 @@ impl Model for Closed {
 /// Why a feed was not closed.
 #[derive(Drop)]
 pub enum CloseFault {
-    /// 65: the ring is full. The feed and the ending come back unchanged.
+    /// 65: the ring is full. The feed and the ending are given back unchanged.
     Full(Feed, Ending),
-    /// 66: the ending was sent, but there is no token of the finished feed. No clause says what was sent.
+    /// 66: the ending was sent, but the token of the closed feed is lost.
     Lost,
 }
 
 impl CloseFault {
-    /// The fault's number, 65 or 66.
+    /// Returns the fault's number, 65 or 66.
     pub fn number(&self) -> u32
         ensures { result ≡ number_of self.now }
     {
@@ -81,7 +85,7 @@ impl CloseFault {
         }
     }
 
-    /// The fault's name, spelled as in the code.
+    /// Returns the fault's name, spelled as in the code.
     pub fn name(&self) -> &'static str
         ensures { result.now ≡ name_of self.now }
     {
@@ -91,7 +95,7 @@ impl CloseFault {
         }
     }
 
-    /// What is wrong, as a sentence for people without capital and full stop.
+    /// Returns a sentence for people, without a capital and a full stop.
     pub fn explanation(&self) -> &'static str {
         match self {
             CloseFault::Full(_, _) => "the ring is full and the feed was not closed",
@@ -118,8 +122,9 @@ impl Feed {
         }
     }
 
-    /// Sends a block. If the ring is full, the error gives the block back, and nothing changed. The ring
-    /// is not full while fewer items were sent than its size. It allocates no memory and does not wait.
+    /// Sends a block. If the ring is full, the error gives the block back, and nothing changes. The
+    /// ring is not full while fewer items were sent than its size. It allocates no memory and does
+    /// not wait.
     #[tactic(auto, using(crate::proofs::TakenWhole::blocks_more))]
     pub fn put(&mut self, block: Block) -> Result<(), Block>
         ensures ring { (self.new.ring ≡ self.old.ring) × (self.new.size ≡ self.old.size) }
@@ -139,8 +144,9 @@ impl Feed {
         Ok(())
     }
 
-    /// Sends a block as `put` does, where fewer than `most` blocks were put and not taken, as far as is known. Else the error gives the block
-    /// back, as `put` does where the ring is full. So it sends while fewer items were sent than `most` and than the ring's size.
+    /// Sends a block as `put` does, if fewer than `most` blocks are known to wait in the ring.
+    /// Otherwise the error gives the block back, as if the ring were full. It succeeds while the
+    /// count of items sent is below `most` and below the ring's size.
     pub fn put_below(&mut self, block: Block, most: usize) -> Result<(), Block>
         ensures ring { (self.new.ring ≡ self.old.ring) × (self.new.size ≡ self.old.size) }
         ensures ok { OnOk result (self.new.sent ≡ self.old.sent ++ items.Block block ∷ []) }
@@ -155,7 +161,7 @@ impl Feed {
         Err(block)
     }
 
-    /// How many blocks were put and not taken, as far as is known. It waits for nothing.
+    /// Returns the count of blocks that are known to wait in the ring. It does not wait.
     pub fn waiting_blocks(&mut self) -> usize
         ensures count { result ≤ length self.old.sent }
         ensures same { self.new ≡ self.old }
@@ -164,10 +170,12 @@ impl Feed {
         self.producer.capacity().saturating_sub(free)
     }
 
-    /// Sends the ending and gives the token of the finished feed. Fails with `Full`, which gives the feed
-    /// and the ending back unchanged, if the ring is full; it is not while fewer items were sent than its
-    /// size. Fails with `Lost` if the ending was sent but there is no token; no clause says what was sent
-    /// then. It allocates no memory and does not wait.
+    /// Sends the ending and returns the token of the closed feed. It allocates no memory and does
+    /// not wait.
+    ///
+    /// Returns `Full` with the feed and the ending unchanged if the ring is full, which it is not
+    /// while fewer items were sent than its size. Returns `Lost` if the ending was sent but the
+    /// token is lost.
     pub fn close(self, ending: Ending) -> Result<Closed, CloseFault>
         ensures { Closes self ending result }
     {
@@ -198,36 +206,37 @@ impl Feed {
         }
     }
 
-    /// Waits until the drain takes an item. Returns at once if it took one since this feed last waited.
-    /// Call it when the ring was full. The items sent stay the same.
+    /// Waits until the drain takes an item. Returns at once if it took one since this feed last
+    /// waited. Call it if the ring was full. The items sent stay the same.
     pub fn wait<R: Wait>(&self, rt: &R) {
         self.waiting.wait(rt);
     }
 
-    /// Waits while the report's rings together hold as many facts as they may and the writer has not
-    /// reached this feed's table. Call it before a block is put. The items sent stay the same.
+    /// Waits while the report's limit of waiting facts is reached and the writer has not reached
+    /// this feed's table. Call it before you put a block. The items sent stay the same.
     pub fn wait_for_turn<R: Wait>(&self, rt: &R) {
         self.backlog.wait(rt);
     }
 
-    /// Whether `wait_for_turn` would wait now. No clause says so.
+    /// Returns whether `wait_for_turn` would wait now.
     pub fn is_held(&self) -> bool {
         self.backlog.is_held()
     }
 
-    /// Whether the writer has reached this feed's table. No clause says so.
+    /// Returns whether the writer has reached this feed's table.
     pub fn is_reached(&self) -> bool {
         self.backlog.is_reached()
     }
 
-    /// Gives a vector back, whose memory then may serve for blocks of any table of the report. It is dropped where enough are kept
-    /// or it is large. No clause says so.
-    pub fn give_back<R: Wait>(&self, rt: &R, room: Vec<u8>) {
-        self.backlog.keep_room(rt, room);
+    /// Gives back a spare vector for blocks of any table of the report. Drops it if enough are kept
+    /// or it is large.
+    pub fn give_back<R: Wait>(&self, rt: &R, spare: Vec<u8>) {
+        self.backlog.keep_spare(rt, spare);
     }
 
-    /// A vector that a feed or a drain of the report gave back, with what it held, if one is kept. No clause says which.
-    pub fn kept_room<R: Wait>(&self, rt: &R) -> Option<Vec<u8>> {
-        self.backlog.kept_room(rt)
+    /// Returns a spare vector with its old contents, if a feed or a drain of the report gave one
+    /// back.
+    pub fn kept_spare<R: Wait>(&self, rt: &R) -> Option<Vec<u8>> {
+        self.backlog.kept_spare(rt)
     }
 }

@@ -15,8 +15,8 @@ pub enum Ending {
 /// An item of a ring.
 #[derive(Drop)]
 pub enum Item {
-    /// Facts of the table, which come before its ending.
+    /// Facts of the table, before its ending.
     Block(Block),
-    /// The table's ending, which is its last item.
+    /// The table's ending, its last item.
     Ending(Ending),
 }

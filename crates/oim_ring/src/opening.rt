@@ -1,4 +1,7 @@
 //! Opening new rings.
+//!
+//! Not proved: that feeds are held back, and that `close` of a feed from `Lanes::open` is never
+//! `Full`.
 
 ghost use Rattle.std.specs.Prelude.{◌≡◌, ◌≤◌, [], IfOk};
 ghost use Rattle.oim_ring.specs.Limits.{IsRingSize};
@@ -15,9 +18,8 @@ use std::sync::Arc;
 /// The largest size of a ring, in blocks.
 pub const LARGEST_RING: usize = 65_536;
 
-/// Opens the rings of one report, in table order. Once as many facts wait in them together as may, a
-/// feed that waits for its turn is held back, apart from that of the table that the writer takes: tests
-/// show it, and no clause.
+/// Opens the rings of one report, in table order. When the limit of waiting facts is reached, it
+/// holds back feeds that wait for their turn, except that of the table from which the writer takes.
 #[derive(Drop)]
 pub struct Lanes {
     backlog: Arc<Backlog>,
@@ -25,7 +27,7 @@ pub struct Lanes {
 }
 
 impl Lanes {
-    /// Opens no ring yet. `most` facts may wait in all rings together. Fails if memory runs out.
+    /// Opens no ring yet. `most` facts may wait in all rings together.
     pub fn new(alloc: Global, most: usize) -> Result<Lanes, AllocError> {
         Ok(Lanes {
             backlog: Backlog::new(alloc, most)?,
@@ -33,9 +35,9 @@ impl Lanes {
         })
     }
 
-    /// The two ends of the next table's ring, with room for `size` blocks, 1 to `LARGEST_RING`, and
-    /// beside them for the ending, so that `close` does not find it full; of that room no clause speaks.
-    /// Nothing was sent or taken yet. Fails if memory runs out.
+    /// Returns the two ends of the next table's ring, with nothing sent or taken yet. The ring has
+    /// room for `size` blocks, 1 to `LARGEST_RING`, and one more item, the ending, so that `close`
+    /// does not find it full.
     pub fn open(&mut self, alloc: Global, size: usize) -> Result<(Feed, Drain), AllocError>
         requires { IsRingSize size }
         ensures feed { IfOk result (λ r. (r.0.size ≡ size) × (r.0.sent ≡ [])) }
@@ -45,7 +47,7 @@ impl Lanes {
         self.open_keeping(alloc, size, 1)
     }
 
-    /// The same, where so many slots are kept for the ending: none or one.
+    /// Opens the next ring as `open` does, with `kept` slots for the ending: 0 or 1.
     fn open_keeping(
         &mut self,
         alloc: Global,
@@ -76,8 +78,8 @@ impl Lanes {
     }
 }
 
-/// The two ends of a ring on its own, with room for `size` items, 1 to `LARGEST_RING`. Nothing was
-/// sent or taken yet. Fails if memory runs out.
+/// Returns the two ends of a single ring with room for `size` items, 1 to `LARGEST_RING`. Nothing
+/// was sent or taken yet.
 pub fn lane(alloc: Global, size: usize) -> Result<(Feed, Drain), AllocError>
     requires { IsRingSize size }
     ensures feed { IfOk result (λ r. (r.0.size ≡ size) × (r.0.sent ≡ [])) }

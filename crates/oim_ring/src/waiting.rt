@@ -1,27 +1,32 @@
 //! How the two ends of a ring wait for each other, and why each wait ends.
 //!
-//! A worker waits in two places, for room in its ring and for its turn (`backlog`). The writer waits
-//! for an item. That these waits end is not proved. It rests on the following, and on this of the code around: a worker waits
-//! elsewhere only for a part of its table that a thread of its own is decoding, and at the table's end for these threads, which then have
-//! ended or find that no more parts come; a thread waits only for a part. Whoever hands on a vector that was given back waits only for a
-//! call of that kind that is under way.
+//! Not proved: that these waits end. The writer waits for an item. A worker waits for room in its
+//! ring and for its turn (`backlog`). The argument needs these facts of the other crates:
 //!
-//! - The writer sleeps for some milliseconds at most and then looks again. So it needs no wake; one
-//!   only comes earlier.
-//! - The writer never waits for anything but the table that it has reached, and that table's feed is
-//!   never held back. So it waits only while the table's reader gives nothing, or until a thread runs
-//!   again that can run.
-//! - The table that the writer has reached is drawn, or is the next one to be drawn. For tables are
-//!   drawn in order, so a later one cannot be drawn before; and the workers of all tables before it are
-//!   done with them and draw again. A worker that could not be started draws nothing. Where none was,
-//!   the caller's thread closes all feeds before it writes, and a ring that is opened has room for its
+//! - Elsewhere a worker waits only for a piece of its table that a helper thread is decoding, and
+//!   at the table's end for these threads. They have ended by then or find that no more pieces are
+//!   sent.
+//! - A helper thread waits only for a piece.
+//! - A call that passes on a spare vector waits only for a call of that kind that is under way.
+//!
+//! The argument:
+//!
+//! - The writer sleeps for at most a few milliseconds and then checks again. So it needs no wake; a
+//!   wake only ends its sleep early.
+//! - The writer waits only for the table that it has reached, and that table's feed is never held
+//!   back. So it waits only while the table's reader gives nothing, or until a thread runs that can
+//!   run.
+//! - The table that the writer has reached is drawn, or is the next one to be drawn. Tables are
+//!   drawn in order, so a later one cannot be drawn before, and the workers of all earlier tables
+//!   are done and draw again. A worker that could not be started draws nothing. If no worker
+//!   started, the caller's thread closes all feeds before it writes, and each ring has room for its
 //!   ending.
-//! - A writer that failed takes items as before, up to the ending of each table.
-//! - **Room in its ring.** A feed that found its ring full, or as many blocks in it as it may put, one at
-//!   least, sleeps on its Parker until it is given the
-//!   token. The drain first takes an item and then gives the token, which stays until a sleep takes it.
-//!   So a feed that sleeps has found these items after the last one was taken. The writer reaches
-//!   the table, takes one of them, and the feed goes on.
+//! - After a failed write the writer takes items as before, up to the ending of each table.
+//! - **Room in its ring.** A feed sleeps on its Parker if its ring is full, or holds as many blocks
+//!   as the feed may put, at least one. It sleeps until it is given the token. The drain first
+//!   takes an item and then gives the token, which stays until a sleep takes it. So a feed that
+//!   sleeps has found these items after the last one was taken. The writer reaches the table, takes
+//!   one of them, and the feed continues.
 
 use std::alloc::{AllocError, Global};
 use std::sync::atomic::{AtomicU64, Ordering};
@@ -29,35 +34,35 @@ use std::sync::{Arc, Wait};
 use std::thread::Parker;
 use std::time::Duration;
 
-/// The most facts that a feed sends before it wakes its drain, as eight full blocks have.
+/// The most facts that a feed sends before it wakes its drain: those of eight full blocks.
 const MOST_UNTOLD: usize = 2_048;
 
 /// Half of the facts of a full block.
 const HALF_BLOCK: usize = 128;
 
-/// How long a drain sleeps at most at first, in milliseconds.
+/// The longest first sleep of a drain, in milliseconds.
 const SHORT_SLEEP: u64 = 1;
 
-/// How long a drain sleeps at most once it has found nothing several times, in milliseconds.
+/// The longest sleep of a drain that has found nothing several times, in milliseconds.
 const LONG_SLEEP: u64 = 16;
 
-/// What the two ends of a ring sleep on.
+/// The two Parkers of a ring's ends.
 #[derive(Drop)]
 struct Parkers {
     feed: Parker,
     drain: Parker,
 }
 
-/// What a feed waits with, and what it wakes its drain with.
+/// The feed's side: it waits, and wakes the drain.
 pub(crate) struct FeedWaiting {
     parkers: Arc<Parkers>,
-    /// How many facts are sent for each wake.
+    /// The count of facts that are sent for each wake.
     stride: usize,
-    /// How many facts were sent since the last wake.
+    /// The count of facts that were sent since the last wake.
     untold: usize,
 }
 
-// By hand, so that who lets one go elsewhere makes one call.
+// By hand, so that dropping one elsewhere is one call.
 impl Drop for FeedWaiting {
     fn drop(self) {
         let Self {
@@ -68,14 +73,14 @@ impl Drop for FeedWaiting {
     }
 }
 
-/// What a drain waits with, and what it wakes its feed with.
+/// The drain's side: it waits, and wakes the feed.
 pub(crate) struct DrainWaiting {
     parkers: Arc<Parkers>,
-    /// How long the next sleep lasts at most, in milliseconds.
+    /// The longest next sleep, in milliseconds.
     limit: AtomicU64,
 }
 
-// By hand, so that who lets one go elsewhere makes one call.
+// By hand, so that dropping one elsewhere is one call.
 impl Drop for DrainWaiting {
     fn drop(self) {
         let Self {
@@ -85,7 +90,7 @@ impl Drop for DrainWaiting {
     }
 }
 
-/// The two ends' means of waiting for each other over a ring of `size` items. Fails if memory runs out.
+/// Returns the two sides for a ring of `size` items.
 pub(crate) fn both_ends(
     alloc: Global,
     size: usize,
@@ -108,8 +113,8 @@ pub(crate) fn both_ends(
 }
 
 impl FeedWaiting {
-    /// Notes that a block of so many facts was sent, and wakes the drain if enough were sent since it was
-    /// last woken. A drain that is not woken finds the blocks once its sleep ends.
+    /// Notes that a block of `facts` facts was sent, and wakes the drain if enough were sent since
+    /// its last wake. A drain that is not woken finds the blocks after its sleep.
     pub(crate) fn tell(&mut self, facts: usize) {
         self.untold = self.untold.saturating_add(facts);
         if self.untold >= self.stride {
@@ -130,13 +135,14 @@ impl FeedWaiting {
 }
 
 impl DrainWaiting {
-    /// Ends the feed's wait, or its next wait if it is not waiting. To be called when an item was taken.
+    /// Ends the feed's wait, or its next wait if it is not waiting. Call it after an item was
+    /// taken.
     pub(crate) fn wake(&self) {
         self.limit.store(SHORT_SLEEP, Ordering::SeqCst);
         self.parkers.feed.unpark();
     }
 
-    /// Waits until the feed wakes the drain, but not for long: the time doubles with each wait until an
+    /// Waits until the feed wakes the drain, or until a limit that doubles with each wait until an
     /// item is taken. Returns at once if the feed woke it since the last wait.
     pub(crate) fn wait<R: Wait>(&self, rt: &R) {
         let limit = self.limit.load(Ordering::SeqCst);

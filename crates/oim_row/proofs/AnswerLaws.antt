@@ -1,4 +1,5 @@
--- What an answer says of a value: nothing where it is silent; of no value; of a text in a typed dimension.
+-- What an answer asserts: nothing if it is silent, an absent value, and a text in a typed
+-- dimension.
 use Rattle.std.proofs.Common.{◌≡◌, ℕ, true, List, [], ◌++◌, Option, Some, None, Ok, IfSome, codes, refl, ◌∙◌}
 use Rattle.oim_cells.specs.Cells.{Meaning, Absent, Text}
 use Rattle.oim_json.specs.JsonText.{decimals_text, quoted, value_text}
@@ -17,7 +18,7 @@ no_kind : (P : Kind → Type 0) (o : Option Kind) → o ≡ None → IfSome o P
 no_kind P None e = tt
 no_kind P (Some k) e = absurd (cc)
 
--- a silent answer is one to any value
+-- A silent answer is an answer to any value.
 pub silent : (r : ReportValue) (p : Purpose) (v : Meaning) (a : Answer) → IsSilent a → IsAnswer r p v a
 silent r p v a s = record {
   sound = λ h. absurd (cc (s.sound, h));
@@ -46,7 +47,7 @@ absent_json r (Dimension Explicit s) = refl
 absent_json r (Dimension Typed s) = refl
 absent_json r Decimals = refl
 
--- the answer to no value
+-- The answer to an absent value.
 pub nothing_said : (r : ReportValue) (p : Purpose) (a : Answer) → a.json.items ≡ [] → a.kind ≡ None → IsAnswer r p Absent a
 nothing_said r p a json kind = record {
   sound = λ h. absent_sound r p;
@@ -61,7 +62,7 @@ typed_json : (r : ReportValue) (s : Side) (t : List ℕ) → quoted t ++ codes "
 unfolding value_text
 typed_json r s t = refl
 
--- the answer to a text in a typed dimension
+-- The answer to a text in a typed dimension.
 pub typed_said : (r : ReportValue) (s : Side) (t : List ℕ) (a : Answer) → a.json.items ≡ quoted t ++ codes "," → a.kind ≡ None → IsAnswer r (Dimension Typed s) (Text t) a
 typed_said r s t a json kind = record {
   sound = λ h. typed_sound r s t;
@@ -69,7 +70,7 @@ typed_said r s t a json kind = record {
   concept = no_kind (λ k. concept_read r (Text t) ≡ Ok k) a.kind kind;
 }
 
--- what holds for each side of a typed dimension
+-- What holds for each side of a typed dimension.
 pub for_typed : (P : Purpose → Type 0) (p : Purpose) → is_typed_purpose p ≡ true → ((s : Side) → P (Dimension Typed s)) → P p
 for_typed P (Dimension Typed s) e h = h s
 for_typed P (Dimension Concept s) e h = absurd (cc)

@@ -14,22 +14,22 @@ use Rattle.oim_row.specs.Rows.{RowValue}
 use Rattle.oim_row.specs.Sources.{Column, RowNumber, source_text}
 use Rattle.oim_row.specs.declared.group_cells.Choice.TheVariants as choice
 
--- SOURCES
+-- SOURCES (xBRL-CSV 1.0, column and parameter references)
 
 abbrev row : TableHeaderValue → List (List ℕ) → RowValue
 row f fields = record { header = f; number = 7; fields = fields }
 
--- the cell stands over the parameter
+-- The cell overrides the parameter.
 cell_first : (f : TableHeaderValue) → source_text (row f (codes "r" ∷ codes "eg:B" ∷ [])) (Column 1 (codes "eg:A")) ≡ codes "eg:B"
 unfolding field_at
 cell_first f = refl
 
--- an empty cell gives way to it, and so does a cell that is not there
+-- An empty cell and a missing cell take the parameter.
 empty_cell : (f : TableHeaderValue) → source_text (row f (codes "r" ∷ [] ∷ [])) (Column 1 (codes "eg:A")) ≡ codes "eg:A"
 unfolding field_at
 empty_cell f = refl
 
--- `#none` is no empty cell
+-- `#none` is not an empty cell.
 none_is_a_text : (f : TableHeaderValue) → source_text (row f (codes "#none" ∷ [])) (Column 0 (codes "eg:A")) ≡ codes "#none"
 unfolding field_at
 none_is_a_text f = refl
@@ -37,7 +37,7 @@ none_is_a_text f = refl
 number_of_the_row : (f : TableHeaderValue) → source_text (row f []) RowNumber ≡ codes "7"
 number_of_the_row f = decimal_digit 7 (omega arith)
 
--- JSON
+-- JSON (xBRL-JSON 1.0, the dimensions and decimals of a fact)
 
 no_value : dimension_json None ≡ []
 no_value = refl
@@ -46,12 +46,12 @@ nil_value : dimension_json (Some None) ≡ codes "null,"
 unfolding value_text
 nil_value = refl
 
--- a quote and a line feed are escaped
+-- A quote and a line feed are escaped.
 text_value : dimension_json (Some (Some (codes "a\"b" ++ 10 ∷ []))) ≡ codes "\"a\\\"b\\n\","
 unfolding value_text quoted escaped_byte
 text_value = refl
 
--- GROUPS
+-- GROUPS (xBRL-CSV 1.0, property groups)
 
 abbrev eu : Level
 eu = no_level

@@ -1,4 +1,4 @@
--- The field of a record at a place.
+-- The field of a record at an index.
 use Rattle.std.proofs.Common.{◌≡◌, ℕ, zero, suc, List, [], ◌∷◌, Option, Some, refl, sym, ap, ◌∙◌}
 use Rattle.std.specs.List.{slice_get}
 use Rattle.std.specs.Option.{unwrap_or}
@@ -12,6 +12,6 @@ field_there [] p = refl
 field_there (f ∷ fs) zero = refl
 field_there (f ∷ fs) (suc p) = field_there fs p
 
--- a field that was found at a place, or was not
+-- A field that was found at an index, or was not.
 pub found : (r : Record) (p : ℕ) (o : Option (List ℕ)) → o ≡ slice_get r p → unwrap_or o [] ≡ field_or_empty r (Some p)
 found r p o e = ap (λ x. unwrap_or x []) (e ∙ sym (field_there r p))

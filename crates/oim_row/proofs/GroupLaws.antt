@@ -19,7 +19,7 @@ use Rattle.oim_report.specs.declared.data.Level.{Level}
 use Rattle.oim_row.specs.Groups.{Names}
 use Rattle.oim_row.specs.declared.group_cells.Choice.TheVariants as choice
 
--- a name whose value stands at a place names the group there
+-- If a name's value is at an index, the name names the group there.
 pub named_at : (c : Column) (gs : List (List ℕ × Level)) (n : List ℕ) (i : ℕ) (d : List ℕ × Level) → i < length gs → value_at n gs ≡ Some (get_or gs i d).1 → gs ≡ c.groups
     → Names c (Text n) (choice.Group i)
 named_at c gs n i d within is same =
@@ -35,7 +35,7 @@ is_equal Less e = absurd (cc)
 is_equal Equal e = refl
 is_equal Greater e = absurd (cc)
 
--- where the name at a place is this one
+-- If the name at an index is this one.
 pub named_there : (c : Column) (gs : List (List ℕ × Level)) (n : List ℕ) (i : ℕ) (e : List ℕ × Level) → IsRising (keys_of gs) → i < length gs → e ≡ get_or gs i e → e.0 ≡ n → gs ≡ c.groups
     → Names c (Text n) (choice.Group i)
 named_there c gs n i e rise within is name same =

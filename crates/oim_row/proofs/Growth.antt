@@ -14,7 +14,7 @@ grows_none xs = record { more = []; is = sym (append-nil xs) }
 pub grows_twice : {A : Type 0} (xs ys zs : List A) → Grows xs ys → Grows ys zs → Grows xs zs
 grows_twice xs ys zs p q = record { more = p.more ++ q.more; is = q.is ∙ ap (λ t. t ++ q.more) p.is ∙ append_assoc xs p.more q.more }
 
--- one item more
+-- One more item.
 pub all_push : {A : Type 0} (P : A → Type 0) (xs : List A) (x : A) → All P xs → P x → All P (xs ++ x ∷ [])
 all_push P [] x p q zero d h = q
 all_push P [] x p q (suc k) d h = absurd (omega arith)

@@ -1,4 +1,4 @@
--- What is kept for a reference, where an answer is read, found or added.
+-- What is kept for a reference when an answer is read, found or added.
 use Rattle.std.proofs.Common.{◌≡◌, ◌<◌, ℕ, zero, suc, List, [], ◌∷◌, ◌++◌, length, get_or, set, Some, IfSome, false, true, sym, ap, ◌∙◌, subst, arith}
 use Rattle.std.specs.List.{All, slice_get}
 use Rattle.std.specs.String.{string_bytes}
@@ -14,7 +14,7 @@ use Rattle.oim_row.specs.declared.purpose.Purpose.{Purpose}
 use Rattle.oim_row.proofs.Growth.{all_append}
 use Rattle.oim_row.proofs.Refreshed.{set_all}
 
--- what holds of an item holds of what stands at its place
+-- What holds for an item holds at its index.
 pub at_place : {A : Type 0} (P : A → Type 0) (xs : List A) (i : ℕ) (x : A) → slice_get xs i ≡ Some x → P x → IfSome (slice_get xs i) P
 at_place P xs i x e h = subst (λ o. IfSome o P) (sym e) h
 
@@ -28,7 +28,7 @@ module _ (r : ReportValue) (p : Purpose) where
   abbrev answers : List ℕ → CachedAnswer → Type 0
   answers text k = IsAnswer r p (meaning_of text) k.answer
 
-  -- an answer that was read
+  -- An answer that was read.
   pub kept_set : (text : List ℕ) (i : ℕ) (xs : List CachedAnswer) (k : CachedAnswer) → i < length xs → All (IsCached r p) xs → IsCached r p k → answers text k → IsKept r p text i (set xs i k)
   kept_set text i xs k lt all cached answer = record {
     within = omega (arith, length-set xs i k);
@@ -36,7 +36,7 @@ module _ (r : ReportValue) (p : Purpose) where
     at_hand = at_place (answers text) (set xs i k) i k (set_there xs i k lt) answer;
   }
 
-  -- an answer that was found
+  -- An answer that was found.
   pub kept_there : (text : List ℕ) (i : ℕ) (xs : List CachedAnswer) (k : CachedAnswer) → i < length xs → All (IsCached r p) xs → k ≡ get_or xs i k
       → string_bytes k.text ≡ text → k.is_kept ≡ true → IsKept r p text i xs
   kept_there text i xs k lt all is same kept =
@@ -47,7 +47,7 @@ module _ (r : ReportValue) (p : Purpose) where
         at_hand = at_place (answers text) xs i k (there xs i k lt is) (subst (λ (t : List ℕ). answers t k) same (cached kept));
       }
 
-  -- places were added
+  -- Places were added.
   grown : (text : List ℕ) (i : ℕ) (xs more : List CachedAnswer) → i < length xs → IfSome (slice_get xs i) (answers text) → IfSome (slice_get (xs ++ more) i) (answers text)
   grown text i [] more lt h = absurd (omega arith)
   grown text zero (x ∷ xs) more lt h = h
@@ -61,7 +61,7 @@ module _ (r : ReportValue) (p : Purpose) where
         at_hand = grown text i xs adds.more kept.within kept.at_hand;
       })
 
-  -- there are places of the empty text alone
+  -- All places have the empty text.
   pub kept_first : (ys : List CachedAnswer) → AddsPlaces [] ys → 0 < length ys → IsKept r p [] 0 ys
   kept_first [] adds some = absurd (omega arith)
   kept_first (k ∷ ks) adds some =
@@ -72,6 +72,6 @@ module _ (r : ReportValue) (p : Purpose) where
         at_hand = (empty 0 k some).answer r p;
       }
 
-  -- the answer of a typed dimension, whose text is not kept
+  -- The answer of a typed dimension, whose text is not cached.
   pub kept_typed : (text : List ℕ) (xs : List CachedAnswer) (k : CachedAnswer) → k.is_kept ≡ false → 0 < length xs → All (IsCached r p) xs → answers text k → IsKept r p text 0 (set xs 0 k)
   kept_typed text xs k other some all answer = kept_set text 0 xs k some all (λ kept. absurd (cc (other, kept))) answer

@@ -17,16 +17,16 @@ by_ok : {A : Type 0} (o : Option CellFault) (x y : A) → unless o (Ok x) ≡ Ok
 by_ok None x y e = cc
 by_ok (Some f) x y e = absurd (cc)
 
--- a dimension
+-- A dimension.
 pub entry_read : (r : ReportValue) (o : Role) (s : Side) (v : Meaning) (e : Option (Option (List ℕ))) → value_read r o s v ≡ Ok e → e ≡ entry_given r o s v
 entry_read r o s v e is = by_ok (least (value_faults_of r o s v)) (entry_given r o s v) e is
 
--- a unit that is written
+-- A unit that is written.
 pub unit_written : (r : ReportValue) (s : Side) (t : List ℕ) → unit_of r.namespaces t ≡ Some Written → quoted t ++ codes "," ≡ dimension_json (entry_given r AUnit s (Text t))
 unfolding value_text
 unit_written r s t e = rw e refl
 
--- a member
+-- A member.
 pub member_given : (r : ReportValue) (s : Side) (t : List ℕ) → quoted t ++ codes "," ≡ dimension_json (entry_given r Explicit s (Text t))
 unfolding value_text
 member_given r s t = refl

@@ -22,7 +22,7 @@ set_all P (z ∷ xs) zero y p q (suc k) d h = p (suc k) d h
 set_all P (z ∷ xs) (suc i) y p q zero d h = p zero d (omega arith)
 set_all P (z ∷ xs) (suc i) y p q (suc k) d h = set_all P xs i y (λ j e g. p (suc j) e (omega arith)) q k d (omega arith)
 
--- one item more is read
+-- One more item is read.
 pub below_more : {A : Type 0} (P : A → Type 0) (xs : List A) (i : ℕ) (x : A) → i < length xs → x ≡ get_or xs i x → ((k : ℕ) (d : A) → k < i → P (get_or xs k d))
     → P x → (k : ℕ) (d : A) → k < i + 1 → P (get_or xs k d)
 below_more P [] i x b is p q k d h = absurd (omega arith)

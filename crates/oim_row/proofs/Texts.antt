@@ -1,4 +1,5 @@
--- What the texts mean that a reference has where no cell and no parameter is given, and where it is the number of the row.
+-- The meaning of a reference's text if neither a cell nor a parameter is given, and if it is the
+-- number of the row.
 use Rattle.std.proofs.Common.{◌≡◌, ℕ, ◌<◌, ◌^◌, List, [], ◌∷◌, length, get_or, sym, subst, arith}
 use Rattle.std.specs.Prelude.{decimal}
 use Rattle.std.specs.Char.{digit_value}
@@ -15,7 +16,7 @@ digits_meaning [] h = absurd (omega (arith, h.0))
 digits_meaning (c ∷ cs) h =
     sym (meaning_law (plain c cs (λ e. let bad : digit_value 35 < 10 = subst (λ k. digit_value k < 10) e h.1.0 in absurd (omega (arith, bad)))))
 
--- a text that does not begin with `#` means itself
+-- A text that does not begin with `#` means itself.
 pub plain_meaning : (s : List ℕ) (d : ℕ) → 0 < length s → (get_or s 0 d ≡ 35 → ⊥) → meaning_of s ≡ Text s
 plain_meaning [] d some other = absurd (omega arith)
 plain_meaning (c ∷ cs) d some other = sym (meaning_law (plain c cs other))

@@ -10,26 +10,27 @@ use Rattle.oim_row.specs.declared.answer.Answer.{Answer}
 use Rattle.oim_row.specs.declared.purpose.Purpose.{Purpose}
 use Rattle.oim_row.specs.declared.purpose.Purpose.TheVariants.{Dimension, Decimals}
 
--- a dimension's value with a comma behind it: no text where it gives nothing
+-- A dimension's value and a comma, or no text if it gives nothing.
 abbrev pub dimension_json : Option (Option (List ℕ)) → List ℕ
 dimension_json None = []
 dimension_json (Some v) = value_text v ++ codes ","
 
--- the decimals that a value states, with a comma behind them: no text where it states none, or that a number is exact
+-- The decimals that a value states and a comma, or no text if it states none or that a number is
+-- exact.
 abbrev pub decimals_json : Meaning → List ℕ
 decimals_json v = decimals_text (option_and_then places (stated_accuracy (Read v)))
 
--- a value has no fault for a purpose
+-- A value has no fault for a purpose.
 abbrev pub is_sound_for : ReportValue → Purpose → Meaning → Bool
 is_sound_for r (Dimension o s) v = is_ok (value_read r o s v)
 is_sound_for r Decimals v = is_ok (stated_read (Read v))
 
--- what it gives then, as JSON
+-- What it gives then, as JSON.
 abbrev pub json_for : ReportValue → Purpose → Meaning → List ℕ
 json_for r (Dimension o s) v = dimension_json (entry_given r o s v)
 json_for r Decimals v = decimals_json v
 
--- what an answer says of a value. One that is not sound says nothing
+-- What an answer asserts about a value. An answer that is not sound asserts nothing.
 pub record IsAnswer (r : ReportValue) (p : Purpose) (v : Meaning) (a : Answer) : Type 0 where
   pub sound : a.is_sound ≡ true → is_sound_for r p v ≡ true
   pub json : a.is_sound ≡ true → a.json.items ≡ json_for r p v

@@ -6,17 +6,17 @@ use Rattle.oim_report.specs.declared.data.Column.{Column}
 use Rattle.oim_resolve.specs.declared.fact.Row.{Row}
 use Rattle.oim_rows.specs.RowFacts.{TableHeaderValue, row_of}
 
--- a row of a table: its table's header, its number, and its fields under the header
+-- A row of a table: its table's header, its number, and its fields under the header.
 pub record RowValue : Type 0 where
   pub header : TableHeaderValue
   pub number : ℕ
   pub fields : Record
 
--- the row with a cell for each column of the template
+-- The row with a cell for each column of the template.
 abbrev pub row_in : RowValue → Row
 row_in x = row_of x.header x.number x.fields
 
--- the columns of the table's template
+-- The columns of the table's template.
 abbrev pub columns_in : TableHeaderValue → List Column
 columns_in f = columns_of f.report f.table
 

@@ -20,18 +20,19 @@ use oim_resolve::{Entry, Role, read_concept, read_value};
 use oim_text::{TextBuffer, put_quoted, put_quoted_front};
 use std::alloc::{AllocError, Global};
 
-/// What a value gives for a purpose. One that is not sound says nothing of its value.
+/// What a value gives for a purpose. An answer that is not sound gives nothing about its value.
 #[derive(Drop)]
 pub struct Answer {
-    /// Whether it says anything: then the value has no fault for the purpose.
+    /// Whether the answer holds. Then the value has no fault for the purpose.
     pub is_sound: bool,
-    /// The JSON text with a comma behind it, a dimension's value or the member of decimals. Empty where nothing is given.
+    /// The JSON text and a comma: a dimension's value or the member of decimals. Empty if the value
+    /// gives nothing.
     pub json: TextBuffer,
-    /// The kind of the concept that it names, where it was read for a concept and names one.
+    /// The kind of the concept that the value names, if it was read for a concept and names one.
     pub kind: Option<Kind>,
 }
 
-/// Appends a number of decimals with a comma behind it. Fails where memory is short.
+/// Appends a number of decimals and a comma.
 fn put_places(out: &mut TextBuffer, places: i32) -> Result<(), AllocError>
     ensures { OnOk result (out.new.items ≡ out.old.items ++ decimals_text (Some places)) }
 {
@@ -41,7 +42,7 @@ fn put_places(out: &mut TextBuffer, places: i32) -> Result<(), AllocError>
     out.push(b',')
 }
 
-/// Appends the decimals of a number with a comma behind them: nothing where it is exact. Fails where memory is short.
+/// Appends the decimals of a number and a comma, or nothing if the number is exact.
 #[tactic(auto, unfolding(oim_json::specs::JsonText::decimals_text))]
 pub fn put_decimals(out: &mut TextBuffer, accuracy: Accuracy) -> Result<(), AllocError>
     ensures { OnOk result (out.new.items ≡ out.old.items ++ decimals_text (places accuracy)) }
@@ -52,8 +53,7 @@ pub fn put_decimals(out: &mut TextBuffer, accuracy: Accuracy) -> Result<(), Allo
     }
 }
 
-/// Appends the decimals that a value states, and answers whether it has no fault as decimals. Fails where memory is
-/// short.
+/// Appends the decimals that a value states, and returns whether it has no fault as decimals.
 #[tactic(auto, unfolding(oim_json::specs::JsonText::decimals_text))]
 fn put_stated(out: &mut TextBuffer, value: CellMeaning<'_>) -> Result<bool, AllocError>
     ensures sound { IfOk result (λ sound. sound ≡ is_ok (stated_read (Read (seen_meaning value.entry)))) }
@@ -72,7 +72,7 @@ fn put_stated(out: &mut TextBuffer, value: CellMeaning<'_>) -> Result<bool, Allo
     }
 }
 
-/// Appends what a dimension gives a fact, with a comma behind it. Fails where memory is short.
+/// Appends what a dimension gives a fact, and a comma.
 #[tactic(auto, using(std::proofs::Common::append_assoc), unfolding(oim_json::specs::JsonText::value_text))]
 fn put_entry(out: &mut TextBuffer, entry: &Entry) -> Result<(), AllocError>
     ensures { OnOk result (out.new.items ≡ out.old.items ++ dimension_json entry.now) }
@@ -88,8 +88,7 @@ fn put_entry(out: &mut TextBuffer, entry: &Entry) -> Result<(), AllocError>
     }
 }
 
-/// Appends a text as it stands with a comma behind it, where it has the form that is asked for, and answers whether it has. Fails where
-/// memory is short.
+/// Appends a text and a comma if it has the required form, and returns whether it has.
 #[tactic(auto, using(std::proofs::Common::append_assoc))]
 fn put_formed(out: &mut TextBuffer, has_form: bool, text: &str) -> Result<bool, AllocError>
     ensures header { IfOk result (λ sound. sound ≡ has_form) }
@@ -102,8 +101,8 @@ fn put_formed(out: &mut TextBuffer, has_form: bool, text: &str) -> Result<bool, 
     Ok(has_form)
 }
 
-/// Appends what a value that may be given in another form than it has gives a dimension, and answers whether it has no fault there. Fails
-/// where memory is short.
+/// Appends what a value gives a dimension, by reading it first because its written form may differ.
+/// Returns whether it has no fault there.
 fn put_read(
     alloc: Global,
     out: &mut TextBuffer,
@@ -123,8 +122,9 @@ fn put_read(
     Ok(true)
 }
 
-/// Appends what a value gives a dimension, and answers whether it has no fault there. A text that is given as it stands is not copied
-/// first. Fails where memory is short.
+/// Appends what a value gives a dimension, and returns whether it has no fault there.
+///
+/// A text that is given unchanged is not copied first.
 fn put_dimension(
     alloc: Global,
     out: &mut TextBuffer,
@@ -150,8 +150,8 @@ fn put_dimension(
     }
 }
 
-/// Appends what a value gives for a purpose, with a comma behind it, and answers whether it has no fault for that. Fails where
-/// memory is short.
+/// Appends what a value gives for a purpose and a comma, and returns whether it has no fault for
+/// it.
 fn put_for(
     alloc: Global,
     out: &mut TextBuffer,
@@ -168,7 +168,8 @@ fn put_for(
     }
 }
 
-/// The kind of the concept that a value names, where it is read for a concept and has no fault as that.
+/// Returns the kind of the concept that a value names, if it is read for a concept and has no fault
+/// as one.
 fn concept_of(report: &Report, purpose: Purpose, value: CellMeaning<'_>) -> Option<Kind>
     ensures { IfSome result (λ kind. concept_read report.now (seen_meaning value.entry) ≡ Ok kind) }
 {
@@ -182,7 +183,7 @@ fn concept_of(report: &Report, purpose: Purpose, value: CellMeaning<'_>) -> Opti
 }
 
 impl Answer {
-    /// The answer to a value that says nothing. It takes no memory.
+    /// Makes the answer to an absent value. It takes no memory.
     pub fn new(alloc: Global) -> Answer
         ensures { (report : ReportValue) (purpose : PurposeValue) → IsAnswer report purpose nothing_said result }
     {
@@ -193,7 +194,7 @@ impl Answer {
         }
     }
 
-    /// Says nothing any more. The memory is kept.
+    /// Makes the answer unsound and empty, and keeps its memory.
     pub(crate) fn forget(&mut self)
         ensures silent { IsSilent self.new }
         ensures json { self.new.json.items ≡ [] }
@@ -203,7 +204,7 @@ impl Answer {
         self.kind = None;
     }
 
-    /// Reads a value, in place of the one that was read before. Fails where memory is short, and then says nothing.
+    /// Reads a value and replaces the last one. If memory runs out, the answer is not sound.
     #[inline(never)]
     pub fn read(
         &mut self,
@@ -222,8 +223,8 @@ impl Answer {
         Ok(())
     }
 
-    /// Reads the first `len` bytes of a text as the value of a typed dimension. Fails where memory is short, and then says
-    /// nothing.
+    /// Reads the first `len` bytes of a text as the value of a typed dimension. If memory runs out,
+    /// the answer is not sound.
     #[inline(always)]
     pub(crate) fn read_typed(&mut self, text: &[u8], len: usize) -> Result<(), AllocError>
         requires { len ≤ length text.now }

@@ -14,10 +14,10 @@ use oim_cells::meaning;
 use oim_report::Report;
 use std::alloc::{AllocError, Global};
 
-/// How many bytes a text has at most that is kept. A longer one seldom comes back.
+/// The most bytes of a text that is cached. A longer one seldom recurs.
 const LONGEST: usize = 1 << 16;
 
-/// A text, where it is kept, and what it gives for a purpose. At first it is the empty text.
+/// A text, if it is cached, and what it gives for a purpose. At first it is the empty text.
 #[derive(Drop)]
 pub(crate) struct CachedAnswer {
     pub(crate) text: String,
@@ -26,7 +26,7 @@ pub(crate) struct CachedAnswer {
 }
 
 impl CachedAnswer {
-    /// The empty text, which gives nothing. It takes no memory.
+    /// Makes the empty text, which gives nothing. It takes no memory.
     pub(crate) fn new(alloc: Global) -> CachedAnswer
         ensures { IsEmptyText result }
     {
@@ -37,7 +37,7 @@ impl CachedAnswer {
         }
     }
 
-    /// Whether it is kept for a text.
+    /// Returns true only if `text` is cached here.
     #[inline(always)]
     pub(crate) fn is_of(&self, text: &str) -> bool
         ensures kept { result ≡ true → self.now.is_kept ≡ true }
@@ -46,7 +46,8 @@ impl CachedAnswer {
         self.is_kept && is_same(self.text.as_str(), text)
     }
 
-    /// Reads a text, in place of the text that was kept. A long one is not kept. Fails where memory is short, and then says nothing.
+    /// Reads a text and replaces the cached one. A long text is not cached. If memory runs out, the
+    /// answer is not sound.
     #[inline(never)]
     pub(crate) fn read(
         &mut self,
@@ -69,8 +70,8 @@ impl CachedAnswer {
         self.answer.read(alloc, report, purpose, meaning(text))
     }
 
-    /// Reads the first `len` bytes of a text as the value of a typed dimension. It is not kept. Fails where memory is short, and then
-    /// says nothing.
+    /// Reads the first `len` bytes of a text as the value of a typed dimension, without caching it.
+    /// If memory runs out, the answer is not sound.
     #[inline(always)]
     pub(crate) fn read_typed(&mut self, text: &[u8], len: usize) -> Result<(), AllocError>
         requires { len ≤ length text.now }

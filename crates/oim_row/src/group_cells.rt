@@ -13,7 +13,7 @@ ghost use Rattle.oim_row.specs.References.{Grows};
 ghost use Rattle.oim_row.specs.Rows.{column_in, columns_in};
 
 use crate::group_hints::GroupHints;
-use crate::source::place_in;
+use crate::reference_target::place_in;
 use crate::table_row::TableRow;
 use crate::words::is_same;
 use oim_cells::{CellMeaning, meaning};
@@ -22,17 +22,18 @@ use oim_report::Level;
 use oim_rows::TableHeader;
 use std::alloc::{AllocError, Global};
 
-/// What a row's cell says in a column of property groups.
+/// What a row's cell gives in a column of property groups.
 #[derive(Clone, Copy)]
 pub enum Choice {
     Nothing,
-    /// The place of the group that it names.
+    /// The index of the group that it names.
     Group(usize),
-    /// It is not known: facts of columns that take from it are not by the fast way.
+    /// It is not known. Facts of columns that take from it do not go the fast way.
     Unknown,
 }
 
-/// A column of property groups: its place in the template and in the header, its groups, and what the row at hand says.
+/// A column of property groups: its index in the template and in the header, its groups, and what
+/// the current row gives.
 #[derive(Drop)]
 pub struct GroupCell<'a> {
     pub column: usize,
@@ -49,10 +50,10 @@ pub struct GroupCells<'a> {
     hints: GroupHints,
 }
 
-/// How many groups are looked through one by one at most.
+/// The most groups that are searched one by one.
 const FEW: usize = 8;
 
-/// The place of the group of a name among a few, where it is found.
+/// Returns the index of the group with this name among a few, if it is found.
 fn place_among(groups: &[(Text, Level)], name: &str) -> Choice
     requires { IsRising (keys_of groups.now) }
     ensures { (column : ColumnValue) → groups.now ≡ column.groups → Says column (a_text name.now) result }
@@ -65,7 +66,7 @@ fn place_among(groups: &[(Text, Level)], name: &str) -> Choice
     Choice::Unknown
 }
 
-/// The place of the group of a name, where it is found.
+/// Returns the index of the group with this name, if it is found.
 fn place_of(groups: &[(Text, Level)], name: &str) -> Choice
     requires { IsRising (keys_of groups.now) }
     ensures { (column : ColumnValue) → groups.now ≡ column.groups → Says column (a_text name.now) result }
@@ -79,7 +80,8 @@ fn place_of(groups: &[(Text, Level)], name: &str) -> Choice
     }
 }
 
-/// Notes where the group stands that a name names, where it was not guessed and there are many groups.
+/// Records the index of the group that a name names, if the guess was wrong and there are many
+/// groups.
 #[inline(always)]
 fn note_found(hints: &mut GroupHints, name: &str, guess: usize, cell: &GroupCell<'_>) {
     if let Choice::Group(place) = cell.choice {
@@ -90,7 +92,9 @@ fn note_found(hints: &mut GroupHints, name: &str, guess: usize, cell: &GroupCell
 }
 
 impl<'a> GroupCell<'a> {
-    /// The group of a name. Often it is the one that the last row named, or stands where it is guessed to stand.
+    /// Returns the group with this name.
+    ///
+    /// Often it is the group that the last row named, or it is at the guessed index.
     #[inline(always)]
     fn find(&self, name: &str, guess: usize) -> Choice
         requires { IsRising (keys_of self.now.groups.now) }
@@ -107,7 +111,7 @@ impl<'a> GroupCell<'a> {
         place_of(self.groups, name)
     }
 
-    /// What a row says, where the group that it names is guessed to stand at a place.
+    /// Returns what a row gives. `guess` is the guessed index of the group that it names.
     #[inline(always)]
     fn choice_in(&self, row: &TableRow<'_, '_>, guess: usize) -> Choice
         requires { IsGroupCell row.now.header self.now }
@@ -122,7 +126,7 @@ impl<'a> GroupCell<'a> {
 }
 
 impl<'a> GroupCells<'a> {
-    /// No columns. It takes no memory.
+    /// Makes an empty list of columns. It takes no memory.
     pub fn new(alloc: Global) -> GroupCells<'a>
         ensures { result.list.items ≡ [] }
     {
@@ -132,7 +136,7 @@ impl<'a> GroupCells<'a> {
         }
     }
 
-    /// The place of a column of the template that is there already.
+    /// Returns the index of a column of the template that is in the list already.
     fn find(&self, column: usize) -> Option<usize>
         ensures { IfSome result (λ place. option_map (λ g. g.column) (slice_get self.now.list.items place) ≡ Some column) }
     {
@@ -144,7 +148,7 @@ impl<'a> GroupCells<'a> {
         None
     }
 
-    /// The place of a column of the template, which is added where it is not there. Fails where memory is short.
+    /// Returns the index of a column of the template, and adds the column if it is missing.
     pub fn place_for(
         &mut self,
         header: &TableHeader<'a>,
@@ -174,7 +178,7 @@ impl<'a> GroupCells<'a> {
         Ok(place)
     }
 
-    /// Goes on to a row.
+    /// Moves on to a row.
     #[inline(always)]
     pub fn refresh(&mut self, row: &TableRow<'_, '_>)
         requires { All (IsGroupCell row.now.header) self.old.list.items }
@@ -191,7 +195,7 @@ impl<'a> GroupCells<'a> {
         }
     }
 
-    /// What the row at hand says in a column.
+    /// Returns what the current row gives in a column.
     #[inline(always)]
     pub fn choice(&self, place: usize) -> Choice
         requires { place < length self.now.list.items }
@@ -200,7 +204,7 @@ impl<'a> GroupCells<'a> {
         self.list[place].choice
     }
 
-    /// The level of the group that the row at hand names in a column.
+    /// Returns the level of the group that the current row names in a column.
     pub fn level(&self, place: usize) -> Option<&'a Level>
         requires { place < length self.now.list.items }
         ensures { option_map (λ l. l.now) result ≡ option_and_then level_chosen (slice_get self.now.list.items place) }

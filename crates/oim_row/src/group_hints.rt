@@ -1,13 +1,14 @@
-//! Where the groups were found that rows named.
+//! Guesses of where the groups are that rows name.
 
-use crate::text_places::{TextPlaces, number_of};
+use crate::text_places::{TextPlaces, hash_of_text};
 use std::alloc::{AllocError, Global};
 
-/// How many names are looked for among the groups before places are kept.
+/// The number of names that are searched for among the groups before their indexes are cached.
 const SEVERAL: u32 = 64;
 
-/// The places of groups that rows named, by a number of each name. No answer depends on it: who asks compares the name of the group
-/// there. So nothing need be known of it.
+/// An index from a name's hash to the group that rows named by it.
+///
+/// It is only a hint. Callers compare the name of the group, so no contract speaks of it.
 #[derive(Drop)]
 pub(crate) struct GroupHints {
     slots: TextPlaces,
@@ -15,7 +16,7 @@ pub(crate) struct GroupHints {
     missed: u32,
 }
 
-/// How many places are kept for so many groups, a power of two.
+/// Returns the number of places for `groups` groups, a power of two.
 fn slots_for(groups: usize) -> usize {
     if groups <= 1 << 9 {
         1 << 10
@@ -27,7 +28,7 @@ fn slots_for(groups: usize) -> usize {
 }
 
 impl GroupHints {
-    /// No places. It takes no memory.
+    /// Makes an empty index. It takes no memory.
     pub(crate) fn new(alloc: Global) -> GroupHints {
         GroupHints {
             slots: TextPlaces::new(alloc),
@@ -36,25 +37,26 @@ impl GroupHints {
         }
     }
 
-    /// Where the group of a name may stand.
+    /// Returns the index at which the group with this name may be.
     #[inline(always)]
     pub(crate) fn guess(&self, name: &str) -> usize {
         let count = self.places.len();
         if count == 0 {
             return usize::MAX;
         }
-        let slot = self.slots.likely(number_of(name.as_bytes()), count);
+        let slot = self.slots.likely(hash_of_text(name.as_bytes()), count);
         self.places[slot] as usize
     }
 
-    /// Room for the places of so many groups. Fails where memory is short.
+    /// Reserves the places for `groups` groups.
     fn open(&mut self, groups: usize) -> Result<(), AllocError> {
         let count = slots_for(groups);
         self.slots.widen(count)?;
         self.places.resize(count, u32::MAX)
     }
 
-    /// Notes the place of the group of a name among so many. Where memory is short, nothing is kept.
+    /// Records the index of the group with this name among `groups` groups. If memory runs out, it
+    /// records nothing.
     #[inline(never)]
     pub(crate) fn note(&mut self, name: &str, place: usize, groups: usize) {
         if self.places.is_empty() {
@@ -63,14 +65,14 @@ impl GroupHints {
                 return;
             }
         }
-        let number = number_of(name.as_bytes());
+        let hash = hash_of_text(name.as_bytes());
         let count = self.places.len();
         if count == 0 || place >= u32::MAX as usize {
             return;
         }
-        let _ = self.slots.count(number, count);
-        let slot = self.slots.free(number, count);
-        self.slots.note(number, slot);
+        let _ = self.slots.count(hash, count);
+        let slot = self.slots.free(hash, count);
+        self.slots.note(hash, slot);
         self.places[slot] = place as u32;
     }
 }

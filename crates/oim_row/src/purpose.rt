@@ -1,11 +1,11 @@
-//! What a text is read for.
+//! The purpose for which a text is read.
 
 ghost use Rattle.std.specs.Prelude.{◌≡◌, true};
 
 use oim_report::Side;
 use oim_resolve::Role;
 
-/// What a text is read for.
+/// The purpose for which a text is read.
 #[derive(Clone, Copy)]
 pub enum Purpose {
     /// A dimension, or a side of it.
@@ -13,7 +13,7 @@ pub enum Purpose {
     Decimals,
 }
 
-/// Whether two roles are the same.
+/// Returns whether two roles are the same.
 fn is_same_role(first: Role, second: Role) -> bool
     ensures same { result ≡ true → first ≡ second }
     ensures all { first ≡ second → result ≡ true }
@@ -29,7 +29,7 @@ fn is_same_role(first: Role, second: Role) -> bool
     }
 }
 
-/// Whether two sides are the same.
+/// Returns whether two sides are the same.
 pub fn is_same_side(first: Side, second: Side) -> bool
     ensures same { result ≡ true → first ≡ second }
     ensures all { first ≡ second → result ≡ true }
@@ -42,7 +42,7 @@ pub fn is_same_side(first: Side, second: Side) -> bool
 }
 
 impl Purpose {
-    /// Whether two purposes are the same.
+    /// Returns whether two purposes are the same.
     pub(crate) fn is_same(self, other: Purpose) -> bool
         ensures same { result ≡ true → self ≡ other }
         ensures all { self ≡ other → result ≡ true }

@@ -1,4 +1,6 @@
 //! The references of a table.
+//!
+//! Not proved: `most`. Callers test it where they use it.
 
 ghost use Rattle.std.specs.Prelude.{◌≡◌, ◌<◌, [], IfOk, IfSome, OnOk, length, map};
 ghost use Rattle.std.specs.List.{All, slice_get};
@@ -7,8 +9,8 @@ ghost use Rattle.oim_row.specs.References.{Grows, HasKey, IsFresh, IsOfReport, k
 
 use crate::answer::Answer;
 use crate::purpose::Purpose;
-use crate::reference::Reference;
-use crate::source::Source;
+use crate::reference_target::ReferenceTarget;
+use crate::row_reference::RowReference;
 use crate::table_row::TableRow;
 use std::alloc::{AllocError, Global};
 use std::marker::Model;
@@ -16,8 +18,8 @@ use std::marker::Model;
 /// The references of a table, each once. A contract sees the list of them.
 #[derive(Drop)]
 pub struct References<'a> {
-    list: Vec<Reference<'a>>,
-    /// How many bytes one gives at most in the row at hand. It is tested where it is used.
+    list: Vec<RowReference<'a>>,
+    /// The most bytes that one of them gives in the current row. Callers test it where they use it.
     most: u32,
 }
 
@@ -30,7 +32,7 @@ impl<'a> Model for References<'a> {
     ghost view = { λ a. a.list.items };
 }
 
-/// A number of bytes, or the largest number where there are more.
+/// Returns a number of bytes, at most the largest number of 32 bits.
 #[inline(always)]
 fn counted(bytes: usize) -> u32 {
     if bytes < 0xffff_ffff {
@@ -40,11 +42,11 @@ fn counted(bytes: usize) -> u32 {
     }
 }
 
-/// Goes on to a row with each of these, and answers how many bytes one gives at most. Fails where memory is short.
+/// Moves each reference on to a row, and returns the most bytes that one gives.
 #[inline(always)]
 fn refresh_all<'a>(
     alloc: Global,
-    list: &mut Vec<Reference<'a>>,
+    list: &mut Vec<RowReference<'a>>,
     row: &TableRow<'a, '_>,
 ) -> Result<u32, AllocError>
     requires { All (IsOfReport row.now.header.report) list.old.items }
@@ -65,7 +67,7 @@ fn refresh_all<'a>(
 }
 
 impl<'a> References<'a> {
-    /// No references. It takes no memory.
+    /// Makes an empty list of references. It takes no memory.
     pub fn new(alloc: Global) -> References<'a>
         ensures { result ≡ [] }
     {
@@ -75,7 +77,7 @@ impl<'a> References<'a> {
         }
     }
 
-    /// Goes on to a row: each has the text that the row gives. Fails where memory is short.
+    /// Moves on to a row: each reference takes the text that the row gives.
     #[inline(always)]
     pub fn refresh(&mut self, alloc: Global, row: &TableRow<'a, '_>) -> Result<(), AllocError>
         requires { All (IsOfReport row.now.header.report) self.old }
@@ -87,8 +89,8 @@ impl<'a> References<'a> {
         Ok(())
     }
 
-    /// The place of a reference that is there already.
-    fn find(&self, purpose: Purpose, source: Source<'_>) -> Option<usize>
+    /// Returns the index of a reference that is in the list already.
+    fn find(&self, purpose: Purpose, source: ReferenceTarget<'_>) -> Option<usize>
         ensures { IfSome result (HasKey self.now (key_seen purpose source.entry)) }
     {
         for i in 0..self.list.len() {
@@ -99,14 +101,14 @@ impl<'a> References<'a> {
         None
     }
 
-    /// The place of a reference, which is made where there is none, and then has the text that the row gives. Fails where
-    /// memory is short.
+    /// Returns the index of a reference, and adds it if it is missing, with the text that the row
+    /// gives.
     pub fn place_for(
         &mut self,
         alloc: Global,
         row: &TableRow<'a, '_>,
         purpose: Purpose,
-        source: Source<'a>,
+        source: ReferenceTarget<'a>,
     ) -> Result<usize, AllocError>
         requires { All (IsFresh row.now) self.old }
         ensures place { IfOk result (HasKey self.new (key_seen purpose source.entry)) }
@@ -116,7 +118,7 @@ impl<'a> References<'a> {
         if let Some(place) = self.find(purpose, source) {
             return Ok(place);
         }
-        let mut reference = Reference::new(alloc, row.report(), purpose, source)?;
+        let mut reference = RowReference::new(alloc, row.report(), purpose, source)?;
         reference.refresh(alloc, row)?;
         let size = counted(reference.answer().json.len());
         let place = self.list.len();
@@ -127,7 +129,7 @@ impl<'a> References<'a> {
         Ok(place)
     }
 
-    /// What the reference at a place gives in the row at hand.
+    /// Returns what the reference at an index gives in the current row.
     #[inline(always)]
     pub fn at(&self, place: usize) -> &Answer
         requires { place < length self.now }
@@ -137,7 +139,7 @@ impl<'a> References<'a> {
         reference.answer()
     }
 
-    /// How many bytes one gives at most in the row at hand. Who writes them tests it: no answer depends on it.
+    /// Returns the most bytes that one of them gives in the current row.
     #[inline(always)]
     pub fn most(&self) -> u32 {
         self.most

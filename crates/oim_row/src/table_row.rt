@@ -8,8 +8,8 @@ use oim_report::Report;
 use oim_rows::TableHeader;
 use std::marker::Model;
 
-/// A row of a table: its fields under the table's header, and its number. A contract sees that header, its number,
-/// and its fields.
+/// A row of a table: its fields under the table's header, and its number. A contract sees all
+/// three.
 #[derive(Drop)]
 pub struct TableRow<'a, 'r> {
     header: &'r TableHeader<'a>,
@@ -26,7 +26,7 @@ impl<'a, 'r> Model for TableRow<'a, 'r> {
 }
 
 impl<'a, 'r> TableRow<'a, 'r> {
-    /// The row of a number.
+    /// Makes row `number`.
     #[inline(always)]
     pub fn new(
         header: &'r TableHeader<'a>,
@@ -42,7 +42,7 @@ impl<'a, 'r> TableRow<'a, 'r> {
         }
     }
 
-    /// What the rows of its table are read by.
+    /// Returns the header of its table.
     #[inline(always)]
     pub fn header(&self) -> &'r TableHeader<'a>
         ensures { result.now ≡ self.now.header }
@@ -50,7 +50,7 @@ impl<'a, 'r> TableRow<'a, 'r> {
         self.header
     }
 
-    /// The report of its table.
+    /// Returns the report of its table.
     #[inline(always)]
     pub fn report(&self) -> &'a Report
         ensures { result.now ≡ self.now.header.report }
@@ -58,7 +58,7 @@ impl<'a, 'r> TableRow<'a, 'r> {
         self.header.report()
     }
 
-    /// The place of its table in the report.
+    /// Returns the index of its table in the report.
     #[inline(always)]
     pub fn table(&self) -> usize
         ensures value { result ≡ self.now.header.table }
@@ -67,7 +67,7 @@ impl<'a, 'r> TableRow<'a, 'r> {
         self.header.table()
     }
 
-    /// Its number.
+    /// Returns its number.
     #[inline(always)]
     pub fn number(&self) -> u32
         ensures value { result ≡ self.now.number }
@@ -76,7 +76,7 @@ impl<'a, 'r> TableRow<'a, 'r> {
         self.number
     }
 
-    /// The text at a place of the header, or the empty text.
+    /// Returns the text at an index of the header, or the empty text if it does not exist.
     #[inline(always)]
     pub fn text_at(&self, place: Option<usize>) -> &'r str
         ensures { result.now ≡ field_or_empty self.now.fields place }
@@ -90,8 +90,8 @@ impl<'a, 'r> TableRow<'a, 'r> {
         }
     }
 
-    /// The bytes of the text at a place, with others behind them where some can be read, and how many the text's are. Of the others
-    /// nothing is said.
+    /// Returns the bytes from the text at an index on, with bytes after the text if they can be
+    /// read, and the text's length. No contract fixes the bytes after the text.
     #[inline(always)]
     pub fn bytes_at(&self, place: usize) -> (&'r [u8], usize)
         ensures bytes { take result.1 result.0.now ≡ field_or_empty self.now.fields (Some place) }

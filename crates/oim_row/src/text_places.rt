@@ -1,49 +1,51 @@
-//! Where the texts of a reference may be kept.
+//! Where the texts of a reference may be cached.
 
 ghost use Rattle.std.specs.Prelude.{◌<◌};
 
 use crate::words::{half_word_at, word_at};
 use std::alloc::{AllocError, Global};
 
-/// How many places there are where few texts come back, and how many at most.
+/// The number of places up to which the cache grows even if few texts recur, and the most places.
 const MANY: usize = 256;
 
 const MOST: usize = 8192;
 
-/// How many places a text may have.
+/// The number of places at which a text may be cached.
 const WAYS: usize = 4;
 
-/// How many words of a long text its number is made of at most.
+/// The most words of a long text that its hash is made of.
 const WORDS: usize = 64;
 
-/// Where texts may be kept, by a number of each, and how many were read in vain. No answer depends on it: who asks compares the text
-/// that is kept there. So nothing need be known of it.
+/// An index from a text's hash to the places that may cache it, with a count of the misses.
+///
+/// It is only a hint. Callers compare the cached text, so no contract speaks of it.
 #[derive(Drop)]
 pub(crate) struct TextPlaces {
-    /// The number of the text that is kept at each place, or 0.
-    numbers: Vec<u32>,
-    /// The texts that were read since counting began: how many, and the numbers of the first of them and of a later one.
+    /// The hash of the text that is cached at each place, or 0.
+    hashes: Vec<u32>,
+    /// The misses since counting began: their number, and the hashes of the first one and of a
+    /// later one.
     count: u32,
     first: u32,
     later: u32,
 }
 
-/// A number for the words that a long text begins with.
+/// Returns a hash of the first words of a long text.
 #[inline(never)]
-fn words_of(text: &[u8]) -> u64 {
+fn hash_of_words(text: &[u8]) -> u64 {
     let all = text.len() / 8;
     let words = if all < WORDS { all } else { WORDS };
-    let mut number = 0;
+    let mut hash = 0;
     for i in 0..words {
-        number = (number ^ word_at(text, 8 * i)).wrapping_mul(0x9e37_79b9_7f4a_7c15);
-        number ^= number >> 29;
+        hash = (hash ^ word_at(text, 8 * i)).wrapping_mul(0x9e37_79b9_7f4a_7c15);
+        hash ^= hash >> 29;
     }
-    number
+    hash
 }
 
-/// A number for the bytes of a text.
+/// Returns a hash of the bytes of a text.
 #[inline(always)]
-fn bytes_of(text: &[u8]) -> u64 {
+fn hash_of_bytes(text: &[u8]) -> u64 {
     let len = text.len();
     if len >= 8 {
         let first = word_at(text, 0);
@@ -51,7 +53,7 @@ fn bytes_of(text: &[u8]) -> u64 {
         let last = word_at(text, len - 8);
         let ends = first ^ middle.rotate_left(21) ^ last.rotate_left(42);
         return if len > 24 {
-            ends ^ words_of(text)
+            ends ^ hash_of_words(text)
         } else {
             ends
         };
@@ -61,31 +63,31 @@ fn bytes_of(text: &[u8]) -> u64 {
         let last = u64::from(half_word_at(text, len - 4));
         return first ^ last.rotate_left(27) ^ (len as u64);
     }
-    let mut number = len as u64;
+    let mut hash = len as u64;
     for i in 0..len {
-        number = (number << 8) ^ u64::from(text[i]);
+        hash = (hash << 8) ^ u64::from(text[i]);
     }
-    number
+    hash
 }
 
-/// A number for a text. Others seldom have the same.
+/// Returns the hash of a text. Different texts seldom share one.
 #[inline(always)]
-pub(crate) fn number_of(text: &[u8]) -> u32 {
-    (bytes_of(text).wrapping_mul(0x9e37_79b9_7f4a_7c15) >> 32) as u32
+pub(crate) fn hash_of_text(text: &[u8]) -> u32 {
+    (hash_of_bytes(text).wrapping_mul(0x9e37_79b9_7f4a_7c15) >> 32) as u32
 }
 
-/// The own place of a number among so many, a power of two of them.
+/// Returns the home of a hash among `places` places, a power of two.
 #[inline(always)]
-fn own_place(number: u32, places: usize) -> usize
+fn home(hash: u32, places: usize) -> usize
     requires { 0 < places }
     ensures { result < places }
 {
-    (number >> 8) as usize & (places - 1)
+    (hash >> 8) as usize & (places - 1)
 }
 
-/// The place at a step beside a place among so many, a power of two of them.
+/// Returns the neighbour at a step from a place among `places` places, a power of two.
 #[inline(always)]
-fn beside(place: usize, step: usize, places: usize) -> usize
+fn neighbour(place: usize, step: usize, places: usize) -> usize
     requires { 0 < places }
     ensures { result < places }
 {
@@ -93,84 +95,88 @@ fn beside(place: usize, step: usize, places: usize) -> usize
 }
 
 impl TextPlaces {
-    /// No places. It takes no memory.
+    /// Makes an empty index. It takes no memory.
     pub(crate) fn new(alloc: Global) -> TextPlaces {
         TextPlaces {
-            numbers: Vec::new(alloc),
+            hashes: Vec::new(alloc),
             count: 0,
             first: 0,
             later: 0,
         }
     }
 
-    /// Goes on to so many places. Fails where memory is short.
+    /// Grows the index to `places` places.
     pub(crate) fn widen(&mut self, places: usize) -> Result<(), AllocError> {
-        self.numbers.resize(places, 0)
+        self.hashes.resize(places, 0)
     }
 
-    /// Whether this number is noted at a place.
+    /// Returns whether this hash is recorded at a place.
     #[inline(always)]
-    fn is_at(&self, place: usize, number: u32) -> bool {
-        place < self.numbers.len() && self.numbers[place] == number
+    fn is_at(&self, place: usize, hash: u32) -> bool {
+        place < self.hashes.len() && self.hashes[place] == hash
     }
 
-    /// The place among so many where the text of a number may be kept.
+    /// Returns the place at which the text with this hash may be cached.
     #[inline(always)]
-    pub(crate) fn likely(&self, number: u32, places: usize) -> usize
+    pub(crate) fn likely(&self, hash: u32, places: usize) -> usize
         requires { 0 < places }
         ensures { result < places }
     {
-        let own = own_place(number, places);
-        if self.is_at(own, number) {
+        let own = home(hash, places);
+        if self.is_at(own, hash) {
             return own;
         }
-        self.likely_beside(own, number, places)
+        self.likely_near(own, hash, places)
     }
 
-    /// The same among the places beside its own.
+    /// Returns that place among the neighbours of the hash's home.
     #[inline(never)]
-    fn likely_beside(&self, own: usize, number: u32, places: usize) -> usize
+    fn likely_near(&self, own: usize, hash: u32, places: usize) -> usize
         requires { own < places }
         ensures { result < places }
     {
         for step in 1..WAYS {
-            let other = beside(own, step, places);
-            if self.is_at(other, number) {
+            let other = neighbour(own, step, places);
+            if self.is_at(other, hash) {
                 return other;
             }
         }
         own
     }
 
-    /// The place for a text that is not kept: its own where none is noted there, else its own or one of those beside it, in turn.
-    pub(crate) fn free(&self, number: u32, places: usize) -> usize
+    /// Returns the place for a text that is not cached: its home if that is free, else its home or
+    /// one of the neighbours, in turn.
+    pub(crate) fn free(&self, hash: u32, places: usize) -> usize
         requires { 0 < places }
         ensures { result < places }
     {
-        let own = own_place(number, places);
+        let own = home(hash, places);
         if self.is_at(own, 0) {
             return own;
         }
-        beside(own, self.count as usize % WAYS, places)
+        neighbour(own, self.count as usize % WAYS, places)
     }
 
-    /// Notes the number of a text at a place.
-    pub(crate) fn note(&mut self, number: u32, place: usize) {
-        if place < self.numbers.len() {
-            self.numbers[place] = number;
+    /// Records the hash of a text at a place.
+    pub(crate) fn note(&mut self, hash: u32, place: usize) {
+        if place < self.hashes.len() {
+            self.hashes[place] = hash;
         }
     }
 
-    /// Counts a text that was read, and answers whether so many places are too few: below `MANY` where more texts were read than there
-    /// are places, and below `MOST` where one of two texts comes back: the first, or a later one, which is taken anew each time that
-    /// as many again were read, since the first may be kept by now. Then counting begins again.
-    pub(crate) fn count(&mut self, number: u32, places: usize) -> bool {
-        let is_back = self.count > 0 && (self.first == number || self.later == number);
+    /// Records a cache miss, and returns whether the cache should grow from `places`.
+    ///
+    /// Below `MANY` places it should grow after more misses than places. From there up to `MOST` it
+    /// should grow only if a text misses a second time. Two misses are kept as samples: the first,
+    /// and a later one that is replaced at each power of two, because the first may be cached by
+    /// then. Counting restarts when the cache grows, and after `MOST` misses.
+    pub(crate) fn count(&mut self, hash: u32, places: usize) -> bool {
+        let is_back = self.count > 0 && (self.first == hash || self.later == hash);
         if self.count == 0 {
-            self.first = number;
-            self.later = number;
+            self.first = hash;
+            self.later = hash;
         } else if self.count.is_power_of_two() {
-            self.later = number;
+            self.later = hash;
         }
         self.count = self.count.saturating_add(1);
         let count = self.count as usize;

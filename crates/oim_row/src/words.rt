@@ -1,12 +1,12 @@
-//! Texts that are compared by words of eight bytes.
+//! Comparison of short texts by words of eight bytes.
 
 ghost use Rattle.std.specs.Prelude.{◌≡◌, ◌+◌, ◌≤◌, length, slice_range, true};
 ghost use Rattle.std.specs.Int.{to_le_bytes, w32, w64};
 
-/// How many bytes a text has at most that is compared by words.
+/// The most bytes of a text that is compared by words.
 const LONGEST: usize = 16;
 
-/// Eight bytes of a text as a number.
+/// Returns eight bytes of a text as a number.
 #[inline(always)]
 pub(crate) fn word_at(text: &[u8], at: usize) -> u64
     requires { at + 8 ≤ length text.now }
@@ -24,7 +24,7 @@ pub(crate) fn word_at(text: &[u8], at: usize) -> u64
     ])
 }
 
-/// Four bytes of a text as a number.
+/// Returns four bytes of a text as a number.
 #[inline(always)]
 pub(crate) fn half_word_at(text: &[u8], at: usize) -> u32
     requires { at + 4 ≤ length text.now }
@@ -33,7 +33,7 @@ pub(crate) fn half_word_at(text: &[u8], at: usize) -> u32
     u32::from_le_bytes([text[at], text[at + 1], text[at + 2], text[at + 3]])
 }
 
-/// Whether two texts of one length, of at most three bytes, are the same.
+/// Returns whether two texts of the same length, at most three bytes, are equal.
 #[inline(always)]
 fn are_few_same(one: &[u8], other: &[u8]) -> bool
     ensures { result ≡ true → one.now ≡ other.now }
@@ -47,7 +47,7 @@ fn are_few_same(one: &[u8], other: &[u8]) -> bool
     }
 }
 
-/// Whether two texts of one length, of four to eight bytes, are the same.
+/// Returns whether two texts of the same length, four to eight bytes, are equal.
 #[inline(always)]
 fn are_halves_same(one: &[u8], other: &[u8]) -> bool
     requires length { length one.now ≡ length other.now }
@@ -59,7 +59,7 @@ fn are_halves_same(one: &[u8], other: &[u8]) -> bool
         && half_word_at(one, last) == half_word_at(other, last)
 }
 
-/// Whether two texts of one length, of eight to sixteen bytes, are the same.
+/// Returns whether two texts of the same length, eight to sixteen bytes, are equal.
 #[inline(always)]
 fn are_words_same(one: &[u8], other: &[u8]) -> bool
     requires length { length one.now ≡ length other.now }
@@ -70,7 +70,7 @@ fn are_words_same(one: &[u8], other: &[u8]) -> bool
     word_at(one, 0) == word_at(other, 0) && word_at(one, last) == word_at(other, last)
 }
 
-/// Whether two texts of any length are the same.
+/// Returns whether two texts of any length are equal.
 #[inline(never)]
 fn are_long_same(one: &[u8], other: &[u8]) -> bool
     ensures { result ≡ true → one.now ≡ other.now }
@@ -78,7 +78,7 @@ fn are_long_same(one: &[u8], other: &[u8]) -> bool
     one == other
 }
 
-/// Whether the bytes of two texts are the same.
+/// Returns whether the bytes of two texts are equal.
 #[inline(always)]
 fn are_bytes_same(one: &[u8], other: &[u8]) -> bool
     ensures { result ≡ true → one.now ≡ other.now }
@@ -95,7 +95,7 @@ fn are_bytes_same(one: &[u8], other: &[u8]) -> bool
     }
 }
 
-/// Whether two texts are the same. Short ones are compared by words.
+/// Returns whether two texts are equal. Short ones are compared by words.
 #[inline(always)]
 pub(crate) fn is_same(one: &str, other: &str) -> bool
     ensures { result ≡ true → one.now ≡ other.now }

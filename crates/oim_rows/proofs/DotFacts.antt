@@ -12,21 +12,21 @@ use Rattle.std.specs.Str.Parse.{AllDigits}
 use Rattle.oim_report.specs.declared.data.Column.{Column}
 use Rattle.oim_names.specs.QName.{Lacks}
 
--- no byte of the text is a dot
+-- No byte of the text is a dot.
 abbrev pub HasNoDot : List ℕ → Type 0
 HasNoDot = Lacks 46
 
 abbrev pub fact_id : List ℕ → List ℕ → List ℕ → List ℕ
 fact_id table row column = table ++ codes "." ++ row ++ codes "." ++ column
 
--- no two columns have one identifier
+-- No two columns share an identifier.
 abbrev pub HasDistinctColumns : List Column → Type 0
 HasDistinctColumns columns = IsDistinct bytes_eq (map (λ (c : Column). c.id) columns)
 
 pub differing : (b : Bool) → b ≡ true → b ≡ false → ⊥
 differing b t f = let no : true ≡ false = rw t at f in cc no
 
--- what stands before the first dot is determined
+-- The text before the first dot is determined.
 pub dot_seam : (a b c d : List ℕ) → HasNoDot a → HasNoDot c → a ++ 46 ∷ b ≡ c ++ 46 ∷ d → (a ≡ c) × (b ≡ d)
 dot_seam [] b [] d ha hc e = (refl, cc)
 dot_seam [] b (y ∷ ys) d ha hc e = let at : y ≡ 46 = cc in absurd (differing (y == 46) (eq-eqb y 46 at) hc.0)
@@ -57,7 +57,7 @@ bytes_apart a b h = false_from_ne_true (bytes_eq a b) (λ t. h ((bytes_eq-Decide
 pub bytes_same : (a b : List ℕ) → a ≡ b → bytes_eq a b ≡ true
 bytes_same a b e = (bytes_eq-Decides a b).1 e
 
--- no digit is a dot
+-- A digit is not a dot.
 digits-no_dot : (t : List ℕ) → AllDigits 10 t → HasNoDot t
 digits-no_dot [] h = tt
 digits-no_dot (b ∷ bs) h =
@@ -79,7 +79,7 @@ pub all_mapped : {X Y : Type 0} (f : X → Y) (P : Y → Type 0) (xs : List X) �
 all_mapped f P [] a = tt
 all_mapped f P (x ∷ xs) a = (a.0, all_mapped f P xs a.1)
 
--- columns with one identifier stand at one place
+-- Columns with the same identifier have the same index.
 id_at : (t : List ℕ) (columns : List Column) (i : ℕ) (x : Column) → AllByRecursion (λ k. bytes_eq t k ≡ false) (map (λ (c : Column). c.id) columns) → slice_get columns i ≡ Some x
     → bytes_eq t x.id ≡ false
 id_at t [] i x h at = cc at
@@ -110,7 +110,7 @@ pub or_right : (a b : Bool) → (a || b) ≡ false → b ≡ false
 or_right true b e = cc e
 or_right false b e = e
 
--- the last item of a longer list
+-- The last item of a longer list.
 pub any_last : {X : Type 0} (p : X → Bool) (xs : List X) (x : X) → p x ≡ true → list_any p (xs ++ x ∷ []) ≡ true
 any_last p [] x e = rw e refl
 any_last p (y ∷ ys) x e = rw (any_last p ys x e) (or_true (p y))

@@ -1,4 +1,4 @@
--- The first two steps of a cell settle its answer whatever memory there is.
+-- The first two steps of a cell settle its result whatever memory is left.
 use Rattle.std.proofs.Common.{◌≡◌, ◌+◌, ℕ, Bool, true, false, ◌++◌, Option, Some, None, Result, Ok, Err, ap, subst, sym, option_map, IfSome}
 use Rattle.std.specs.Prelude.{if◌then◌else◌}
 use Rattle.std.specs.Option.{option_or}
@@ -46,7 +46,7 @@ no_memory false (Some f) y first second e = first (cc e)
 no_memory false None (Some f) first second e = second (cc e)
 no_memory false None None first second e = cc e
 
--- no cell is refused memory in its first two steps
+-- A cell does not run out of memory in its first two steps.
 never_early : (c : Cell) → early_result c ≡ Some (Err Memory) → ⊥
 unfolding early_result
 never_early c e =
@@ -57,12 +57,12 @@ not_settled : (table n p : ℕ) (o : Option (Result (Option Fact) CellFault)) (x
 not_settled table n p None x never h = tt
 not_settled table n p (Some a) x never h = absurd (never (ap Some (sym h)))
 
--- where memory was refused, they settle nothing
+-- If memory ran out, they settle nothing.
 refused_late : (table n p : ℕ) (c : Cell) (x : Result (Option Fact) TableFault) → IfSome (early_result c) (λ a. Err Memory ≡ a)
     → IfSome (option_map (at_place table n p) (early_result c)) (λ a. x ≡ a)
 refused_late table n p c x h = not_settled table n p (early_result c) x (never_early c) h
 
--- and so the cell under a header cell
+-- The same for the cell under a header cell.
 pub refused_at : (report : ReportValue) (table : ℕ) (row : Row) (p : ℕ) (o : Option ℕ) (c : ℕ) (x : Result (Option Fact) TableFault) → o ≡ Some c → is_fact_column (columns_of report table) c ≡ true
     → IfSome (early_result (cell_of report table row c)) (λ a. Err Memory ≡ a) → IfSome (early_fact_at report table row p o) (λ a. x ≡ a)
 refused_at report table row p o c x is fact h =

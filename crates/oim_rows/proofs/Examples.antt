@@ -1,4 +1,4 @@
--- The definitions, executed on worked cases.
+-- Worked cases of the definitions (xBRL-CSV 1.0, table files).
 use Rattle.std.proofs.Common.{◌≡◌, ◌++◌, ◌∷◌, [], ap, arith, ℕ, List, Some, None, Ok, Err, Bool, true, false, codes, map, refl}
 use Rattle.std.proofs.lemmas.Fmt.{decimal_digit}
 use Rattle.oim_report.specs.Readers.{holds_facts, no_level}
@@ -38,7 +38,7 @@ columns =
     record { id = codes "cash"; kind = content.Fact; level = record { dimensions = (codes "concept", written.Text (codes "eg:Note")) ∷ []; decimals = None }; groups = []; from = [] }
     ∷ record { id = codes "k"; kind = content.Plain; level = no_level; groups = []; from = [] } ∷ []
 
--- a report of one table with these two columns, a text and the row identifier
+-- A report of one table with these two columns, a text and the row identifier.
 abbrev report : Bool → ReportValue
 report optional = record {
   info = record { base_url = None; taxonomy = [] };
@@ -89,7 +89,7 @@ numbered_row = ap (λ (t : List ℕ). codes "r_" ++ t) (decimal_digit 7 (omega a
 great_place : fault_at 0 1 5000000000 kind.NotUtf8 ≡ fault_at 0 1 4294967295 kind.NotUtf8
 great_place = refl
 
--- ROWS: the first fault of a row, in the order 26, 27, 41, 28, 29, 30, then its cells
+-- ROWS: the first fault of a row, in the order 26, 27, 41, 28, 29, 30, then its cells.
 abbrev line : List ℕ → List ℕ → Record
 line cash k = cash ∷ k ∷ []
 
@@ -135,7 +135,7 @@ stream_to_the_limit : stream_of (report false) 0 1 (file (line (codes "x") (code
 unfolding stream_from cell_result rest_faults fact_of meaning_of chars is_row_identifier is_plain_char is_ncname is_name_char is_name_start qname_of field_at is_utf8 lib.Utf8.encode
 stream_to_the_limit = refl
 
--- THE FAULTS by number and name: a cell's fault has its own. And the places of a fault
+-- THE FAULTS by number and name, where a cell's fault has its own, and the places of a fault.
 fault_numbers :
     map number_of
     (kind.NoFile ∷ kind.Read ∷ kind.NoHeader ∷ kind.UnknownHeader ∷ kind.RepeatedHeader ∷ kind.NoRowIdColumn ∷ kind.Ragged ∷ kind.NotUtf8 ∷ kind.MissingRowId ∷ kind.BadRowId
@@ -160,7 +160,8 @@ fault_of_a_file = refl
 last_place : fault_at 3 2 4_294_967_296 kind.BadRowId ≡ record { table = 3; row = 2; column = 4_294_967_295; kind = kind.BadRowId }
 last_place = refl
 
--- HEADERS AND COLUMNS: an empty header cell names nothing; a template may have no column of row identifiers; only a column of facts holds facts
+-- HEADERS AND COLUMNS: an empty header cell names nothing, a template may have no column of row
+-- identifiers, and only a column of facts holds facts.
 places_of_columns : (source_of_column (None ∷ Some 0 ∷ []) 0 ≡ Some 1) × (is_column 0 None ≡ false) × (names_row_id None [] ≡ true) × (names_row_id (Some 1) (Some 0 ∷ []) ≡ false)
 places_of_columns = (refl, refl, refl, refl)
 
@@ -173,14 +174,15 @@ columns_of_facts = refl
 past_the_columns : is_fact_column columns 2 ≡ false
 past_the_columns = refl
 
--- the fault of a cell stands at its place in the header, from 1: here behind an empty header cell
+-- The fault of a cell is at its place in the header, from 1: here after an empty header cell.
 place_of_a_cell : facts_from (report false) 0 (record { number = 4; id = codes "a"; cells = codes "#foo" ∷ codes "a" ∷ [] }) 0 (None ∷ Some 1 ∷ Some 0
     ∷ []) ≡ Err (fault_at 0 4 3 (kind.Cell cell.UnknownSpecial))
 unfolding cell_result rest_faults fact_of meaning_of chars
 place_of_a_cell = refl
 
--- what the first two steps of a cell settle, here of row 4 under an empty header cell, then k and cash: no fact where no column of facts stands or the
--- cell says nothing; the fault at its place in the header; of a cell that these steps pass they say nothing, whatever its third step comes to
+-- What the first two steps of a cell settle, here of row 4 under an empty header cell, then k and
+-- cash: no fact if the column holds no facts or the cell is absent, else the fault at its place in
+-- the header. If a cell passes these steps, they settle nothing, whatever its third step gives.
 abbrev cell_four : List ℕ → Row
 cell_four cash = record { number = 4; id = codes "a"; cells = cash ∷ codes "#foo" ∷ [] }
 
@@ -194,7 +196,7 @@ early_fault : early_fact_at (report false) 0 (cell_four (codes "#foo")) 2 (Some 
 unfolding early_result meaning_of chars
 early_fault = refl
 
--- the column states no concept
+-- The column states no concept.
 abbrev no_concept : ReportValue
 no_concept = record (report false) {
   templates = record { id = codes "m"; columns = record { id = codes "cash"; kind = content.Fact; level = no_level; groups = []; from = [] } ∷ []; row_id_column = None; level = no_level } ∷ [];
@@ -208,12 +210,13 @@ late_fact : (early_fact_at (report false) 0 (cell_four (codes "x")) 2 (Some 0) �
 unfolding early_result cell_result rest_faults fact_of meaning_of chars is_ncname is_name_char is_name_start qname_of is_utf8 lib.Utf8.encode
 late_fact = (refl, refl)
 
--- HASHES of identifiers of three bytes, of eight, and of more than sixteen, worked out by a program in another language
+-- HASHES of identifiers of three bytes, of eight, and of more than sixteen, computed by a program
+-- in another language.
 hashes : map hash_of (codes "r12" ∷ codes "row-0012" ∷ codes "identifier-000001" ∷ []) ≡ 13954843398969203645 ∷ 3660796589564607624 ∷ 12505539127986117002 ∷ []
 unfolding hash_of write initial folded_multiply read_u32 read_u64 read_short mix_blocks
 hashes = refl
 
--- what a failed reader gives, and an answer that takes no memory
+-- What a failed reader gives, and a result that takes no memory.
 faults_of_reads : (fault_of_read 2 read.Read ≡ file_fault 2 kind.Read) × (fault_of_read 2 read.Memory ≡ file_fault 2 kind.Memory)
 faults_of_reads = (refl, refl)
 
@@ -225,7 +228,7 @@ early_rows : early_row_answer reading 1 [] (Ok false) [] ∷ early_row_answer re
     ≡ Some (Ok None) ∷ Some (Err (file_fault 0 kind.Memory)) ∷ Some (Err (fault_at 0 1 0 kind.Ragged)) ∷ []
 early_rows = refl
 
--- ALL ROWS AT ONCE: rows are counted from 1, and a row follows the identifiers of those before it
+-- ALL ROWS AT ONCE: rows are counted from 1, and a row follows the identifiers of those before it.
 rows_by_place : (row_at (codes "ab") 0 ≡ Some 97) × (row_at (codes "ab") 1 ≡ Some 98) × (row_at (codes "a") 1 ≡ None)
 rows_by_place = (refl, refl, refl)
 
@@ -237,7 +240,7 @@ second_row : row_after reading (line (codes "x") (codes "a") ∷ []) (line (code
 unfolding stream_from cell_result rest_faults fact_of meaning_of chars is_row_identifier is_plain_char is_ncname is_name_char is_name_start qname_of field_at is_utf8 lib.Utf8.encode
 second_row = refl
 
--- a table without a file has no facts, and its place is counted
+-- A table without a file has no facts, and its index is counted.
 facts_of_two_tables : facts_of_tables (report true) 9 0 (None ∷ []) ≡ []
 facts_of_two_tables = refl
 
@@ -245,7 +248,8 @@ facts_of_a_stream : facts_of (record { rows = (note (codes "a") (codes "x") ∷ 
     ≡ note (codes "a") (codes "x") ∷ note (codes "b") (codes "y") ∷ []
 facts_of_a_stream = refl
 
--- two tables with files, each with its own header: the facts of both, each under its table's identifier
+-- Two tables with files, each with its own header: the facts of both, each under its table's
+-- identifier.
 abbrev two : ReportValue
 two = record (report false) {
   tables = record { id = codes "t1"; url = codes "t1.csv"; is_optional = false; template = 0; parameters = [] }
@@ -258,7 +262,7 @@ unfolding stream_from cell_result rest_faults fact_of meaning_of chars is_row_id
     records_left records_from strip_bom next_record
 facts_of_two_files = refl
 
--- ANSWERS: after a row comes what is left; after the end or a fault the same comes again
+-- RESULTS: after a row the rest is left. After the end or a fault the same result is repeated.
 answers_of_rows : (row_answer (Ok []) ≡ Ok (Some [])) × (row_answer (Err (file_fault 0 kind.Read)) ≡ Err (file_fault 0 kind.Read))
 answers_of_rows = (refl, refl)
 

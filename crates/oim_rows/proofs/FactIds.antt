@@ -48,7 +48,7 @@ repeat_tail n front o h none = by (repeats front o) refl
     by true e = let some : Some n ≡ None = rw e at none in cc some
     by false e = rw e at none
 
--- a column of the front stands nowhere after it
+-- A column of the prefix does not occur after it.
 repeat_front : (n : ℕ) (front h : Header) → repeat_from n front h ≡ None → (c : ℕ) → list_any (is_column c) front ≡ true → list_any (is_column c) h ≡ false
 repeat_front n front [] none c at = refl
 repeat_front n front (None ∷ h) none c at = repeat_front (n + 1) (front ++ None ∷ []) h (repeat_tail n front None h none) c (any_grown (is_column c) front None at)
@@ -68,7 +68,7 @@ repeat_head n front c h none = repeat_front (n + 1) (front ++ Some c ∷ []) h (
 
 -- THE FACTS OF ONE ROW
 
--- a fact of a column of this header
+-- A fact of a column of this header.
 abbrev IsFactUnder : List ℕ → List ℕ → List Column → Header → Fact → Type 0
 IsFactUnder table row columns h f = (c : ℕ) × (x : Column) × (list_any (is_column c) h ≡ true) × (slice_get columns c ≡ Some x) × (f.id ≡ fact_id table row x.id)
 
@@ -167,7 +167,7 @@ checked_ok : (o : Option TableFault) (b : Result (List Fact) TableFault) (fs : L
 checked_ok None b fs e = (refl, e)
 checked_ok (Some x) b fs e = cc e
 
--- a row identifier that a row from number n on may have, where the rows before it have these
+-- A row identifier that a row from number n on may have, if the rows before it have these.
 abbrev IsLaterId : Option ℕ → ℕ → ℕ → List Field → Field → Type 0
 IsLaterId None limit n ids t = (m : ℕ) × (n ≤ m) × (m ≤ limit) × (t ≡ codes "r_" ++ decimal m)
 IsLaterId (Some p) limit n ids t = list_any (bytes_eq t) ids ≡ false
@@ -176,7 +176,7 @@ later_id : (o : Option ℕ) (limit n : ℕ) (ids : List Field) (r : Record) (t :
 later_id None limit n ids r t (m, low, high, is) = (m, omega arith, high, is)
 later_id (Some p) limit n ids r t h = any_front (bytes_eq t) ids (unwrap_or (field_at r p) [] ∷ []) h
 
--- a later row has another identifier
+-- A later row has another identifier.
 later_apart : (o : Option ℕ) (limit n : ℕ) (ids : List Field) (r : Record) (t : Field) → limit < 2 ^ 32 → n ≤ limit → IsLaterId o limit (n + 1) (ids_after o ids r) t → row_id_text o n r ≡ t → ⊥
 later_apart None limit n ids r t small within (m, low, high, is) same =
     let texts : codes "r_" ++ decimal n ≡ codes "r_" ++ decimal m = same ∙ is in
@@ -210,7 +210,7 @@ row_ok g n ids r e =
     let within = if_none (nat_lt g.limit n) (fault_at g.table n 0 kind.TooManyRows) None few.0 in
     (ltb-false g.limit n within.0, few.1)
 
--- facts of two lists that differ, each from each
+-- Facts of two lists that differ, each from each.
 joined : (P Q : Fact → Type 0) → ((f g : Fact) → P f → Q g → bytes_eq f.id g.id ≡ false) → (fs gs : List Fact) → AllByRecursion P fs → AllByRecursion Q gs → HaveOwnIds fs → HaveOwnIds gs
     → HaveOwnIds (fs ++ gs)
 unfolding IsDistinct
@@ -221,7 +221,7 @@ joined P Q h (f ∷ fs) gs a b c d = (
   joined P Q h fs gs a.1 b c.1 d,
 )
 
--- a fact of a row from number n on, where the rows before it have these identifiers
+-- A fact of a row from number n on, if the rows before it have these identifiers.
 abbrev IsLaterFact : TableHeaderValue → ℕ → List Field → Fact → Type 0
 IsLaterFact g n ids f = (t : Field) × (k : List ℕ) × HasNoDot t × IsLaterId (id_place_of g) g.limit n ids t × (f.id ≡ fact_id (table_of g.report g.table).id t k)
 
@@ -290,7 +290,7 @@ fact_ids_differ report table limit (r ∷ rows) small distinct = by (header_faul
     by (Some x) e = rw e tt
     by None e = rw e ((table_facts (table_header_of report table limit r) small distinct (header_ok report table r e) 1 [] rows).1)
 
--- a fact with an identifier of this table
+-- A fact with an identifier of this table.
 abbrev IsFactOf : List ℕ → Fact → Type 0
 IsFactOf table f = (t : List ℕ) × (k : List ℕ) × (f.id ≡ fact_id table t k)
 
@@ -309,13 +309,13 @@ facts_of_table report table limit (r ∷ rows) small distinct = by (header_fault
 
 -- THE FACTS OF A REPORT
 
--- names that rise differ
+-- Rising names differ.
 names_apart : (names : List (List ℕ)) → IsRising names → IsDistinct bytes_eq names
 unfolding IsStrictlySortedBy IsDistinct
 names_apart [] h = tt
 names_apart (x ∷ xs) h = (all_weaker (λ y. slice_cmp nat_cmp x y ≡ Less) (λ y. bytes_eq x y ≡ false) (below-differs x) xs h.0, names_apart xs h.1)
 
--- what is so of all is so at each place, where it is so of what stands for a place out of range
+-- What holds for all holds at each index, if it holds for the default of an index out of range.
 each_at : {X : Type 0} (P : X → Type 0) (xs : List X) (d : X) → AllByRecursion P xs → P d → (k : ℕ) → P (slice_index_or xs k d)
 each_at P [] d all other k = other
 each_at P (x ∷ xs) d all other zero = all.0
@@ -363,7 +363,7 @@ unfolding IsDistinct
 table_facts_are report i limit None small distinct = (tt, tt)
 table_facts_are report i limit (Some bytes) small distinct = (facts_of_table report i limit (grid bytes) small distinct, fact_ids_differ report i limit (grid bytes) small distinct)
 
--- a fact of a table from place i on
+-- A fact of a table from index i on.
 abbrev IsFactFrom : ReportValue → ℕ → Fact → Type 0
 IsFactFrom report i f = (k : ℕ) × (i ≤ k) × (k < length report.tables) × IsFactOf (table_of report k).id f
 

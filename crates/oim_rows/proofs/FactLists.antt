@@ -7,7 +7,7 @@ use Rattle.oim_rows.specs.Header.{Header}
 use Rattle.oim_rows.specs.RowFacts.{fact_at, facts_from, in_front}
 use Rattle.oim_rows.specs.declared.fault.TableFault.{TableFault}
 
--- these facts, and then those of the answer
+-- These facts, then those of the result.
 abbrev pub after_these : List Fact → Result (List Fact) TableFault → Result (List Fact) TableFault
 after_these fs (Ok more) = Ok (fs ++ more)
 after_these fs (Err e) = Err e
@@ -16,7 +16,7 @@ pub after_these-none : (r : Result (List Fact) TableFault) → after_these [] r 
 after_these-none (Ok more) = refl
 after_these-none (Err e) = refl
 
--- a cell with no fact, with one, and with a fault
+-- A cell without a fact, with one, and with a fault.
 pub after_these-pass : (fs : List Fact) (o : Result (Option Fact) TableFault) (r : Result (List Fact) TableFault) → o ≡ Ok None → after_these fs (in_front o r) ≡ after_these fs r
 after_these-pass fs o r e = rw e refl
 
@@ -28,7 +28,7 @@ after_these-fact fs f o (Err x) e = rw e refl
 pub after_these-fault : (fs : List Fact) (o : Result (Option Fact) TableFault) (r : Result (List Fact) TableFault) (x : TableFault) → o ≡ Err x → after_these fs (in_front o r) ≡ Err x
 after_these-fault fs o r x e = rw e refl
 
--- the cell at a place comes first of those from there on
+-- The cell at an index is the first of those from it on.
 pub facts_from-next : (report : ReportValue) (table : ℕ) (row : Row) (i : ℕ) (h rest : Header) (o : Option ℕ) → drop i h ≡ o ∷ rest
     → facts_from report table row i (drop i h) ≡ in_front (fact_at report table row i o) (facts_from report table row (i + 1) rest)
 facts_from-next report table row i h rest o e = rw e refl

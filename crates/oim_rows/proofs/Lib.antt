@@ -8,3 +8,4 @@ mod WholeLaw
 mod DotFacts
 mod FactIds
 mod Examples
+mod OrderedIds

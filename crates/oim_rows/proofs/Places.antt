@@ -1,4 +1,4 @@
--- One turn of a loop over the places of a list.
+-- One step of a loop over the indexes of a list.
 use Rattle.std.proofs.Common.{◌≡◌, ◌≤◌, ◌+◌, ℕ, zero, suc, List, [], ◌∷◌, ◌++◌, length, take, drop, Some, None, Bool, true, false, refl, ap, arith, map, add-zero}
 use Rattle.std.specs.List.{list_any, position_from, range_with_len, slice_get}
 use Rattle.std.specs.Str.{is_utf8}
@@ -7,7 +7,7 @@ use Rattle.std.proofs.lemmas.Str.{IsUtf8-from_is_utf8}
 use Rattle.csv.specs.Records.{field_at}
 use Rattle.oim_rows.specs.RowFacts.{is_not_text}
 
--- the field at a place comes first after those before it
+-- The field at an index is the first of those from it on.
 pub drop-field_at : (xs : List (List ℕ)) (i : ℕ) (x : List ℕ) → field_at xs i ≡ Some x → drop i xs ≡ x ∷ drop (i + 1) xs
 unfolding field_at
 drop-field_at [] i x e = cc e
@@ -26,21 +26,21 @@ take-field_at (f ∷ fs) (suc i) x e = rw (suc-add i) (ap (λ (t : List (List �
     suc-add : (n : ℕ) → suc n + 1 ≡ suc (n + 1)
     suc-add n = omega arith
 
--- the field at a place is the item there
+-- The field at an index is the item there.
 pub field_there : (xs : List (List ℕ)) (i : ℕ) → field_at xs i ≡ slice_get xs i
 unfolding field_at
 field_there [] i = refl
 field_there (f ∷ fs) zero = refl
 field_there (f ∷ fs) (suc i) = field_there fs i
 
--- a place below the length has a field
+-- An index below the length has a field.
 pub field_at-none : (xs : List (List ℕ)) (i : ℕ) → field_at xs i ≡ None → length xs ≤ i
 unfolding field_at
 field_at-none [] i e = omega arith
 field_at-none (f ∷ fs) zero e = cc e
 field_at-none (f ∷ fs) (suc i) e = let more : length fs ≤ i = field_at-none fs i e in omega arith
 
--- the search goes on past a field that fails the test, and stops at one that passes
+-- The search continues past a field that fails the test, and stops at one that passes.
 pub position_from-next : (t : List ℕ → Bool) (xs : List (List ℕ)) (i : ℕ) (x : List ℕ) → field_at xs i ≡ Some x → t x ≡ false
     → position_from t i (drop i xs) ≡ position_from t (i + 1) (drop (i + 1) xs)
 position_from-next t xs i x at fails = rw (drop-field_at xs i x at, fails) refl
@@ -48,7 +48,7 @@ position_from-next t xs i x at fails = rw (drop-field_at xs i x at, fails) refl
 pub position_from-here : (t : List ℕ → Bool) (xs : List (List ℕ)) (i : ℕ) (x : List ℕ) → field_at xs i ≡ Some x → t x ≡ true → position_from t i (drop i xs) ≡ Some i
 position_from-here t xs i x at passes = rw (drop-field_at xs i x at, passes) refl
 
--- a record of texts has a text at each place
+-- A record of texts has a text at each index.
 pub utf8-field_at : (n i : ℕ) (r : List (List ℕ)) (f : List ℕ) → position_from is_not_text n r ≡ None → field_at r i ≡ Some f → IsUtf8 f
 unfolding field_at
 utf8-field_at n i [] f none at = cc at

@@ -1,4 +1,4 @@
--- The cells of which a row is resolved.
+-- The cells from which a row is resolved.
 use Rattle.std.proofs.Common.{◌≡◌, ◌<◌, ℕ, zero, suc, List, [], ◌∷◌, arith, length, refl, true}
 use Rattle.std.specs.Prelude.{slice_index_or}
 use Rattle.oim_report.specs.Readers.{columns_of, holds_facts, no_column}
@@ -10,7 +10,7 @@ use Rattle.oim_resolve.specs.Cell.{IsCell, cell_of}
 use Rattle.oim_resolve.specs.declared.fact.Row.{Row}
 use Rattle.oim_rows.specs.RowFacts.{is_fact_column}
 
--- a column that holds facts is there, and of the kind of facts
+-- A column that holds facts exists and is of the fact kind.
 of_facts : (columns : List Column) (c : ℕ) → is_fact_column columns c ≡ true → (c < length columns) × ((slice_index_or columns c no_column).kind ≡ Fact)
 of_facts [] c e = cc e
 of_facts (x ∷ xs) zero e = (omega arith, by x.kind e)
@@ -22,7 +22,7 @@ of_facts (x ∷ xs) zero e = (omega arith, by x.kind e)
     by Plain e = cc e
 of_facts (x ∷ xs) (suc c) e = let rest = of_facts xs c e in (omega arith, rest.1)
 
--- a cell of a column that holds facts, where the row has a cell for each column
+-- A cell of a column that holds facts, if the row has a cell for each column.
 pub is_cell : (r : ReportValue) (t : ℕ) (row : Row) (c : ℕ) → t < length r.tables → length row.cells ≡ length (columns_of r t) → is_fact_column (columns_of r t) c ≡ true → IsCell (cell_of r t row c)
 is_cell r t row c range cells fact =
     let held = of_facts (columns_of r t) c fact in

@@ -1,4 +1,4 @@
--- Header cells that name a column, and columns that stand in the front of a header.
+-- Header cells that name a column, and columns that occur in a prefix of a header.
 use Rattle.std.proofs.Common.{◌≡◌, ℕ, ◌+◌, ◌<◌, zero, suc, List, [], ◌∷◌, ◌++◌, length, take, drop, get_or, set, replicate, Option, Some, None, Bool, true, false, refl, sym, ap, ◌∙◌, arith, ◌≢◌}
 use Rattle.std.specs.Prelude.{IfSome, ◌||◌, ◌==◌, if◌then◌else◌}
 use Rattle.std.specs.List.{All, list_any}
@@ -14,7 +14,7 @@ use Rattle.oim_report.specs.Readers.{no_column, place_of_name}
 use Rattle.oim_report.specs.declared.data.Column.{Column}
 use Rattle.oim_rows.specs.Header.{Header, header_of, is_column, named_column, repeat_from, repeats}
 
--- A CELL NAMES A COLUMN THAT IS THERE
+-- A CELL NAMES A COLUMN THAT EXISTS
 
 IsBelow : ℕ → Option ℕ → Type 0
 IsBelow n o = IfSome o (λ c. c < n)
@@ -32,13 +32,13 @@ header_below columns [] k d lt = absurd (omega (arith, lt))
 header_below columns (f ∷ fs) zero d lt = cell_below columns f
 header_below columns (f ∷ fs) (suc k) d lt = header_below columns fs k d (omega (arith, lt))
 
--- FLAGS OF THE COLUMNS IN A FRONT
+-- FLAGS OF THE COLUMNS IN A PREFIX
 
--- there is a flag for each column, set where the column stands in the front
+-- Each column has a flag, set if the column occurs in the prefix.
 abbrev pub AreFlags : List Bool → ℕ → Header → Type 0
 AreFlags seen count front = (length seen ≡ count) × ((c : ℕ) → c < count → get_or seen c false ≡ list_any (is_column c) front)
 
--- no column stands in an empty front
+-- No column occurs in an empty prefix.
 pub flags_none : (seen : List Bool) (count : ℕ) → seen ≡ replicate count false → AreFlags seen count []
 flags_none seen count e = (ap length e ∙ length-replicate count false, λ c lt. ap (λ s. get_or s c false) e ∙ get_or-replicate count c false false lt)
 
@@ -54,13 +54,13 @@ or_false : (b : Bool) → (b || false) ≡ b
 or_false true = refl
 or_false false = refl
 
--- a cell that names no column sets no flag
+-- A cell that names no column sets no flag.
 pub flags_stay : (seen : List Bool) (count : ℕ) (header : Header) (i : ℕ) (d : Option ℕ) → i < length header → get_or header i d ≡ None
     → AreFlags seen count (take i header) → AreFlags seen count (take (i + 1) header)
 flags_stay seen count header i d lt at flags =
     (flags.0, λ c within. flags.1 c within ∙ sym (more_in_front header i None d lt at c ∙ or_false (list_any (is_column c) (take i header))))
 
--- a cell that names a column sets its flag
+-- A cell that names a column sets its flag.
 pub flags_set : (seen : List Bool) (count : ℕ) (header : Header) (i x : ℕ) (d : Option ℕ) → i < length header → get_or header i d ≡ Some x → x < count
     → AreFlags seen count (take i header) → AreFlags (set seen x true) count (take (i + 1) header)
 flags_set seen count header i x d lt at inside flags = (length-set seen x true ∙ flags.0, λ c within. one c within (c == x) refl ∙ sym (more_in_front header i (Some x) d lt at c))
@@ -73,11 +73,11 @@ flags_set seen count header i x d lt at inside flags = (length-set seen x true �
         let apart : c ≢ x = eqb-false c x h in
         rw (h, or_false (list_any (is_column c) (take i header))) (get_or-set_other seen x c true false apart ∙ flags.1 c within)
 
--- the flag of a cell's column says whether it stands in the front
+-- The flag of a cell's column is whether it occurs in the prefix.
 pub flag_is : (seen : List Bool) (count : ℕ) (front : Header) (x : ℕ) (b : Bool) → AreFlags seen count front → x < count → b ≡ get_or seen x b → b ≡ repeats front (Some x)
 flag_is seen count front x b flags inside at = at ∙ get_or_default seen x b false (omega (arith, flags.0)) ∙ flags.1 x inside
 
--- ONE TURN OF THE SEARCH
+-- ONE STEP OF THE SEARCH
 
 turn : (header : Header) (i : ℕ) (o d : Option ℕ) → i < length header → get_or header i d ≡ o
     → repeat_from i (take i header) (drop i header) ≡ (if repeats (take i header) o then Some i else repeat_from (i + 1) (take (i + 1) header) (drop (i + 1) header))
@@ -96,7 +96,7 @@ pub goes_on : (header : Header) (i : ℕ) (o d : Option ℕ) → i < length head
     → repeats (take i header) o ≡ false → repeat_from 0 [] header ≡ repeat_from (i + 1) (take (i + 1) header) (drop (i + 1) header)
 goes_on header i o d lt at whole h = whole ∙ turn header i o d lt at ∙ rw h refl
 
--- a cell that is not some column is none
+-- A cell that is not any column gives `None`.
 pub no_column_there : (o : Option ℕ) → ((x : ℕ) → o ≡ Some x → ⊥) → o ≡ None
 no_column_there None h = refl
 no_column_there (Some x) h = absurd (h x refl)

@@ -1,4 +1,4 @@
--- One row more of a table's stream.
+-- One more row of a table's stream.
 use Rattle.std.proofs.Common.{◌≡◌, ◌⊎◌, ◌+◌, ℕ, Bool, List, [], ◌∷◌, true, false, Option, Some, None, Result, Ok, Err, refl, sym, ap, subst, inl, inr, option_map, IfOk, IfSome, MatchResult, OnSome}
 use Rattle.oim_records.specs.Grids.{Field, Record, grid}
 use Rattle.oim_records.specs.Reads.{StartsFile, TakesRecord}
@@ -46,7 +46,7 @@ pub outside : (table : ℕ) (f : ReadFault) → IsOutside table (fault_of_read t
 outside table read.Read = inl refl
 outside table read.Memory = inr refl
 
--- the answer for the cells of a row that has no other fault is the answer for the row
+-- The result for the cells of a row without other faults is the result for the row.
 pub cells_answer : (g p : TableHeaderValue) (n : ℕ) (ids : List Field) (r : Record) (result : Result (List Fact) TableFault) → row_fault g n ids r ≡ None → p ≡ g
     → OrNoMemory p.table result (facts_from p.report p.table (row_of p n r) 0 p.columns) → OrNoMemory g.table result (row_result g n ids r)
 cells_answer g p n ids r result none same given =
@@ -57,13 +57,13 @@ known_or_not : {A : Type 0} (o : Option A) (P : A → Type 0) → ((a : A) → P
 known_or_not None P h = tt
 known_or_not (Some a) P h = h a
 
--- a fault of the row itself
+-- A fault of the row itself.
 pub early_fault : (o : Option TableFault) (x : TableFault) → IfSome o (λ f. ◌≡◌ {A = Result (List Fact) TableFault} (Err x) (Err f))
     → IfSome (option_map Err o) (λ a. ◌≡◌ {A = Result (Option (List Fact)) TableFault} (Err x) a)
 early_fault None x h = tt
 early_fault (Some f) x h = ap row_answer h
 
--- the reader's answer for a row, and what is made of it
+-- The reader's result for a row, and what follows from it.
 pub gives_answer : (n : ℕ) (g : TableHeaderValue) (ids ids2 : List Field) (old new : Option (List Record)) (r : Record) (found : Result Bool ReadFault) (result : Result (Option (List Fact)) TableFault)
     → IfOk found (λ b. TakesRecord old b r new) → IfSome (early_row_answer g n ids found r) (λ a. result ≡ a)
     → (found ≡ Ok true → OrNoMemory g.table result (row_answer (row_result g n ids r))) → IfOk result (λ o. OnSome o (ids2 ≡ ids_after (id_place_of g) ids r))
@@ -116,7 +116,7 @@ no_header report table None new r took = tt
 no_header report table (Some []) new r took = refl
 no_header report table (Some (y ∷ rs)) new r took = cc took.0
 
--- the reader's answer for the header
+-- The reader's result for the header.
 took_one : (old new : Option (List Record)) (r : Record) (found : Result Bool ReadFault) → IfOk found (λ b. TakesRecord old b r new) → found ≡ Ok true → TakesRecord old true r new
 took_one old new r found h e = subst (λ x. IfOk x (λ b. TakesRecord old b r new)) e h
 
@@ -137,7 +137,7 @@ header_refused report table old new r (Ok true) x took early late = by (late ref
     by (inl e) = inl (inr e)
     by (inr e) = inr (faulty_header report table old new r x took e)
 
--- what is said of the records is said of the bytes that they were made of
+-- What holds for the records holds for the bytes that they were made of.
 pub IfSome-mapped : {A B : Type 0} (f : A → B) (o : Option A) (P : B → Type 0) → IfSome (option_map f o) P → IfSome o (λ x. P (f x))
 IfSome-mapped f None P h = tt
 IfSome-mapped f (Some x) P h = h
@@ -147,19 +147,19 @@ opened_at : (report : ReportValue) (table limit : ℕ) (rs : List Record) (new :
 opened_at report table limit [] new h took = absurd took
 opened_at report table limit (r ∷ rows) new h took = (rw (took.2, took.1, took.0) refl, took.0)
 
--- the rows under a header with no fault are those of the table's stream
+-- The rows under a header without a fault are those of the table's stream.
 pub opened_stream : (report : ReportValue) (table limit : ℕ) (known : Option (List ℕ)) (old new : Option (List Record)) (h : Header) (g : TableHeaderValue) (ids : List Field) → StartsFile known old
     → TakesHeader report table old h new → g ≡ record { report = report; table = table; limit = limit; columns = h } → ids ≡ []
     → IfSome known (λ bytes. (option_map (stream_from g 1 ids) new ≡ Some (stream_of report table limit (grid bytes))) × (file_header_fault report table (grid bytes) ≡ None))
 opened_stream report table limit None old new h g ids e took reading none = tt
 opened_stream report table limit (Some bytes) old new h g ids e took reading none = rw (reading, none) (opened_at report table limit (grid bytes) new h (rw e at took))
 
--- what is said of an answer, where it is Ok
+-- What holds for a result, if it is Ok.
 pub when_ok : {A E : Type 0} (r : Result A E) (P : A → Type 0) (Q : E → Type 0) → MatchResult r P Q → IfOk r P
 when_ok (Ok a) P Q h = h
 when_ok (Err e) P Q h = tt
 
--- a header was refused, seen from the bytes of the file
+-- A header was refused, in terms of the bytes of the file.
 pub refused_header : (report : ReportValue) (table : ℕ) (file : Option (List ℕ)) (records : Option (List Record)) (e : TableFault) → StartsFile file records
     → IsOutside table e ⊎ IfSome records (λ rs. file_header_fault report table rs ≡ Some e)
     → IfSome file (λ bytes. IsOutside table e ⊎ (file_header_fault report table (grid bytes) ≡ Some e))
@@ -167,13 +167,13 @@ refused_header report table None records e is h = tt
 refused_header report table (Some bytes) records e is (inl o) = inl o
 refused_header report table (Some bytes) records e is (inr h) = inr (subst (λ x. IfSome x (λ rs. file_header_fault report table rs ≡ Some e)) is h)
 
--- the reader failed at the start of a file, or memory was refused there
+-- The reader failed at the start of a file, or memory ran out there.
 pub refused_start : (report : ReportValue) (table : ℕ) (file : Option (List ℕ)) (f : ReadFault) (e : TableFault) → e ≡ fault_of_read table f
     → IfSome file (λ bytes. IsOutside table e ⊎ (file_header_fault report table (grid bytes) ≡ Some e))
 refused_start report table None f e is = tt
 refused_start report table (Some bytes) f e is = inl (subst (λ x. IsOutside table x) (sym is) (outside table f))
 
--- memory was refused for a table, whatever its file
+-- Memory ran out for a table, whatever its file.
 pub refused_memory : (report : ReportValue) (table : ℕ) (file : Option (List ℕ)) (e : TableFault) → e ≡ file_fault table kind.Memory
     → IfSome file (λ bytes. IsOutside table e ⊎ (file_header_fault report table (grid bytes) ≡ Some e))
 refused_memory report table None e is = tt

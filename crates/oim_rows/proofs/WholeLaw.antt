@@ -16,7 +16,7 @@ pub ids_of-more : (p : Option ℕ) (earlier : List Record) (r : Record) → ids_
 ids_of-more None earlier r = refl
 ids_of-more (Some p) earlier r = sym (map-append (λ (q : Record). unwrap_or (field_at q p) []) earlier (r ∷ []))
 
--- a row after the first is one of the rows after it
+-- A row after the first is one of the rows after it.
 gives_later : (g : TableHeaderValue) (earlier rows : List Record) (r : Record) (m : ℕ) (answer : Result (List Fact) TableFault) → RowGives g (earlier ++ r ∷ []) rows m answer
     → RowGives g earlier (r ∷ rows) (suc m) answer
 gives_later g earlier rows r m answer h = (h.0, h.1, rw (append_assoc earlier (r ∷ []) (take m rows)) at h.2)
@@ -35,7 +35,7 @@ end_row : (g : TableHeaderValue) (earlier rows : List Record) (r : Record) (firs
 end_row g earlier rows r first more None h = omega arith
 end_row g earlier rows r first more (Some x) h = gives_later g earlier rows r (length more) (Err x) h
 
--- the row in front, and the rows after it
+-- The first row, and the rows after it.
 row_first : (g : TableHeaderValue) (earlier rows : List Record) (r : Record) (first : List Fact) (s : Stream) → row_after g earlier r ≡ Ok first → IsStreamOf g (earlier ++ r ∷ []) rows s
     → IsStreamOf g earlier (r ∷ rows) (row_in_front (Ok first) s)
 row_first g earlier rows r first s e h = record { good = good_rows g earlier rows r first s e h; end = end_row g earlier rows r first s.rows s.fault h.end }
@@ -69,7 +69,7 @@ ids_of-none (Some p) = refl
 pub stream_is_of_all_rows : (g : TableHeaderValue) (rows : List Record) → IsStreamOf g [] rows (stream_from g 1 [] rows)
 stream_is_of_all_rows g rows = rw (ids_of-none (id_place_of g)) at (stream_is_whole g [] rows)
 
--- NO OTHER STREAM SAYS THIS
+-- NO OTHER STREAM HAS THIS PROPERTY
 
 stream_after-end : (g : TableHeaderValue) (earlier : List Record) → stream_after g earlier [] ≡ ending None
 unfolding stream_from
@@ -129,7 +129,7 @@ pub table_stream_is_of_all_rows : (report : ReportValue) (table limit : ℕ) (fi
 table_stream_is_of_all_rows report table limit None s = (λ e. e, λ e. e)
 table_stream_is_of_all_rows report table limit (Some bytes) s = file_stream report table limit (grid bytes) s
 
--- what is left of a file whose rows are not begun
+-- What is left of a file before its first row is read.
 pub left_is_of_all_rows : (report : ReportValue) (table limit : ℕ) (bytes : List ℕ) (left : Option Stream) → left ≡ Some (stream_of report table limit (grid bytes))
     → IfSome left (IsTableStream report table limit (Some bytes))
 left_is_of_all_rows report table limit bytes left e =

@@ -1,5 +1,5 @@
--- The facts of one row of a table, or its first fault.
--- xBRL-CSV 1.0, table files: a row has a cell for each column of the header; the row identifier is the text of the template's column for it.
+-- The facts of one row of a table, or its first fault. (xBRL-CSV 1.0, table files: a row has a cell
+-- for each column of the header. The row identifier is the text of the template's column for it.)
 use Rattle.std.specs.Prelude.{◌≡◌, List, [], ◌∷◌, ◌++◌, ℕ, ◌+◌, Bool, false, not, ◌==◌, nat_lt, if◌then◌else◌}
 use Rattle.std.specs.Prelude.{Option, Some, None, option_map, map, length, Result, Ok, Err, codes, decimal, unwrap_or, slice_get}
 use Rattle.std.specs.List.{enumerate_from, list_any, position_from, range_with_len}
@@ -21,14 +21,15 @@ use Rattle.oim_rows.specs.declared.fault.TableFault.{TableFault}
 use Rattle.oim_rows.specs.declared.fault.TableKind.{TableKind}
 use Rattle.oim_rows.specs.declared.fault.TableKind.TheVariants as kind
 
--- the header of a table as it was read: the report and the table's place there, the most rows that it may have, and the column of each cell of the header
+-- The header of a table as it was read: the report and the table's index there, the most rows that
+-- it may have, and the column of each cell of the header.
 pub record TableHeaderValue : Type 0 where
   pub report : ReportValue
   pub table : ℕ
   pub limit : ℕ
   pub columns : Header
 
--- the place in the header of a column of the template
+-- The index in the header of a column of the template.
 abbrev pub source_of_column : Header → ℕ → Option ℕ
 source_of_column h c = position_from (is_column c) 0 h
 
@@ -36,32 +37,34 @@ abbrev pub field_or_empty : Record → Option ℕ → Field
 field_or_empty r None = []
 field_or_empty r (Some p) = unwrap_or (field_at r p) []
 
--- the cell of a column: the empty text where the header omits the column
+-- The cell of a column: the empty text if the header omits the column.
 abbrev pub cell_at : Header → Record → ℕ → Field
 cell_at h r c = field_or_empty r (source_of_column h c)
 
 abbrev pub is_not_text : Field → Bool
 is_not_text f = not (is_utf8 f)
 
--- each field is text
+-- Each field is text.
 abbrev pub IsTextRecord : Record → Type 0
 IsTextRecord r = position_from is_not_text 0 r ≡ None
 
--- the place in the header of the row identifier, where the template has a column for it
+-- The index in the header of the row identifier, if the template has a column for it.
 abbrev pub row_id_place : Option ℕ → Header → Option ℕ
 row_id_place None h = None
 row_id_place (Some c) h = source_of_column h c
 
--- the place in the header of a table's row identifier
+-- The index in the header of a table's row identifier.
 abbrev pub id_place_of : TableHeaderValue → Option ℕ
 id_place_of g = row_id_place (template_of g.report g.table).row_id_column g.columns
 
--- the identifier of row n: the text at its place, or `r_` and the row number where the table has no column for it
+-- The identifier of row `n`: the text of its cell, or `r_` and the row number if the table has no
+-- column for it.
 abbrev pub row_id_text : Option ℕ → ℕ → Record → Field
 row_id_text None n r = codes "r_" ++ decimal n
 row_id_text (Some p) n r = unwrap_or (field_at r p) []
 
--- row n as the resolution of cells takes it: a cell for each column of the template, in the template's order
+-- Row `n` as cells are resolved from it: a cell for each column of the template, in the template's
+-- order.
 abbrev pub row_of : TableHeaderValue → ℕ → Record → Row
 row_of g n r = record {
   number = n;
@@ -69,7 +72,7 @@ row_of g n r = record {
   cells = map (cell_at g.columns r) (range_with_len 0 (length (columns_of g.report g.table)));
 }
 
--- what is wrong with a row identifier, where the earlier rows have these
+-- The fault of a row identifier, if `ids` are those of the earlier rows.
 abbrev pub id_kind : List Field → Field → Option TableKind
 id_kind ids f =
     if is_empty f then Some kind.MissingRowId
@@ -80,52 +83,53 @@ abbrev pub id_fault : TableHeaderValue → Option ℕ → ℕ → List Field →
 id_fault g None n ids r = None
 id_fault g (Some p) n ids r = option_map (fault_at g.table n (p + 1)) (id_kind ids (unwrap_or (field_at r p) []))
 
--- another length than the header's
+-- The row and the header differ in length.
 abbrev pub ragged_fault : TableHeaderValue → ℕ → Record → Option TableFault
 ragged_fault g n r = if not (length r == length g.columns) then Some (fault_at g.table n 0 kind.Ragged) else None
 
--- a cell that is not UTF-8
+-- A cell is not UTF-8.
 abbrev pub text_fault : TableHeaderValue → ℕ → Record → Option TableFault
 text_fault g n r = option_map (λ p. fault_at g.table n (p + 1) kind.NotUtf8) (position_from is_not_text 0 r)
 
--- more rows than the limit
+-- The table has more rows than the limit.
 abbrev pub limit_fault : TableHeaderValue → ℕ → Option TableFault
 limit_fault g n = if nat_lt g.limit n then Some (fault_at g.table n 0 kind.TooManyRows) else None
 
--- the faults of row n apart from those of its cells, in the order in which they count
+-- The faults of row `n` apart from those of its cells, the first to report first.
 abbrev pub row_faults : TableHeaderValue → ℕ → List Field → Record → List (Option TableFault)
 row_faults g n ids r = ragged_fault g n r ∷ text_fault g n r ∷ limit_fault g n ∷ id_fault g (id_place_of g) n ids r ∷ []
 
 abbrev pub row_fault : TableHeaderValue → ℕ → List Field → Record → Option TableFault
 row_fault g n ids r = first_of (row_faults g n ids r)
 
--- the place is that of a column that holds facts
+-- The index is that of a column that holds facts.
 abbrev pub is_fact_column : List Column → ℕ → Bool
 is_fact_column columns c = option_map_or (λ (x : Column). holds_facts x.kind) (slice_get columns c) false
 
--- a result of a cell of row n under place p of the header, from 1
+-- The result of a cell of row `n` at place `p` of the header, from 1.
 abbrev pub at_place : ℕ → ℕ → ℕ → Result (Option Fact) CellFault → Result (Option Fact) TableFault
 at_place table n p (Ok o) = Ok o
 at_place table n p (Err k) = Err (fault_at table n p (kind.Cell k))
 
--- what the header cell at place p gives in a row: nothing where its column holds no facts
+-- What the header cell at index `p` gives in a row: nothing if its column holds no facts.
 abbrev pub fact_at : ReportValue → ℕ → Row → ℕ → Option ℕ → Result (Option Fact) TableFault
 fact_at report table row p None = Ok None
 fact_at report table row p (Some c) = if is_fact_column (columns_of report table) c then at_place table row.number (p + 1) (cell_result (cell_of report table row c)) else Ok None
 
--- one more answer in front
+-- One more result before the others.
 abbrev pub in_front : Result (Option Fact) TableFault → Result (List Fact) TableFault → Result (List Fact) TableFault
 in_front (Err e) r = Err e
 in_front (Ok None) r = r
 in_front (Ok (Some f)) (Ok fs) = Ok (f ∷ fs)
 in_front (Ok (Some f)) (Err e) = Err e
 
--- the facts of all answers, or the first fault
+-- The facts of all results, or the first fault.
 abbrev pub all_or_first : List (Result (Option Fact) TableFault) → Result (List Fact) TableFault
 all_or_first [] = Ok []
 all_or_first (answer ∷ answers) = in_front answer (all_or_first answers)
 
--- the facts of a row in header order, where the header's first place is p, or the fault of the first cell that has one
+-- The facts of a row in header order, or the fault of the first cell that has one. The first index
+-- of the header is `p`.
 abbrev pub facts_from : ReportValue → ℕ → Row → ℕ → Header → Result (List Fact) TableFault
 facts_from report table row p h = all_or_first (map (λ cell. fact_at report table row cell.0 cell.1) (enumerate_from p h))
 
@@ -133,11 +137,11 @@ abbrev pub checked : Option TableFault → Result (List Fact) TableFault → Res
 checked (Some e) r = Err e
 checked None r = r
 
--- row n, where the rows before it have these row identifiers: its facts, or its first fault
+-- Row `n`, if the rows before it have the identifiers `ids`: its facts, or its first fault.
 abbrev pub row_result : TableHeaderValue → ℕ → List Field → Record → Result (List Fact) TableFault
 row_result g n ids r = checked (row_fault g n ids r) (facts_from g.report g.table (row_of g n r) 0 g.columns)
 
--- the row identifiers after row r, where the table has a column for them
+-- The row identifiers after row `r`, if the table has a column for them.
 abbrev pub ids_after : Option ℕ → List Field → Record → List Field
 ids_after None ids r = ids
 ids_after (Some p) ids r = ids ++ unwrap_or (field_at r p) [] ∷ []

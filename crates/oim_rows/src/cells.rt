@@ -6,7 +6,7 @@ ghost use Rattle.oim_rows.specs.RowFacts.{IsTextRecord, field_or_empty};
 
 use oim_records::{Fields, TextFields};
 
-/// The cell at a place.
+/// Returns the cell at index `i`.
 pub(crate) fn field<'a>(row: &Fields<'a>, i: usize) -> &'a [u8]
     requires { i < length row.now }
     ensures { field_at row.now i ≡ Some result.now }
@@ -17,7 +17,7 @@ pub(crate) fn field<'a>(row: &Fields<'a>, i: usize) -> &'a [u8]
     }
 }
 
-/// The text of a cell, or the empty text where there is none.
+/// Returns the text of a cell, or the empty text if the cell does not exist.
 pub(crate) fn text_at<'a>(row: &Fields<'a>, place: Option<usize>) -> &'a str
     requires { IsTextRecord row.now }
     ensures { result.now ≡ field_or_empty row.now place }
@@ -34,7 +34,7 @@ pub(crate) fn text_at<'a>(row: &Fields<'a>, place: Option<usize>) -> &'a str
     }
 }
 
-/// How many cells a row has whose cells are all text.
+/// Returns the number of cells of a row whose cells are all text.
 #[inline(always)]
 pub(crate) fn count_of_texts(row: &TextFields<'_>) -> usize
     ensures count { result ≡ length row.now }
@@ -43,7 +43,7 @@ pub(crate) fn count_of_texts(row: &TextFields<'_>) -> usize
     row.len()
 }
 
-/// The same as `text_at`, of a row whose cells are all text.
+/// Returns what `text_at` returns, for a row whose cells are all text.
 #[inline(always)]
 pub(crate) fn known_text_at<'a>(row: &TextFields<'a>, place: Option<usize>) -> &'a str
     ensures { result.now ≡ field_or_empty row.now place }

@@ -1,4 +1,4 @@
-//! How the records of one table become the facts of its rows.
+//! Turns the records of one table into the facts of its rows.
 
 ghost use Rattle.std.specs.Prelude.{◌≡◌, ◌≤◌, Err, IfOk, IfSome, OnErr, OnOk};
 ghost use Rattle.oim_rows.specs.RowFacts.{IsTextRecord, id_place_of, ids_after, row_fault, row_result};
@@ -16,8 +16,8 @@ use oim_resolve::Fact;
 use std::alloc::{AllocError, Global};
 use std::marker::Model;
 
-/// How the records of one table become the facts of its rows: its header, and how the cells under it become facts. A contract
-/// sees the report, the table, the limit and the header.
+/// A table's header, and its plan for the cells under it. A contract sees the report, the table,
+/// the limit and the header.
 #[derive(Drop)]
 pub(crate) struct Decoder<'a> {
     header: TableHeader<'a>,
@@ -36,7 +36,7 @@ impl<'a> Model for Decoder<'a> {
 }
 
 impl<'a> Decoder<'a> {
-    /// How the rows under this header become facts. Fails where memory is short.
+    /// Prepares the decoding of the rows under `header`.
     pub(crate) fn new(alloc: Global, header: TableHeader<'a>) -> Result<Decoder<'a>, AllocError>
         ensures { IfOk result (λ p. p ≡ header.entry) }
     {
@@ -46,14 +46,15 @@ impl<'a> Decoder<'a> {
 }
 
 impl Decoder<'_> {
-    /// The place of the table in its report.
+    /// Returns the index of the table in its report.
     pub(crate) fn table(&self) -> usize
         ensures { result ≡ (self.now).table }
     {
         self.header.table()
     }
 
-    /// Adds the identifier of a row to those before it. Where memory is short nothing is added.
+    /// Adds the identifier of a row to those of the rows before it. If memory runs out, nothing is
+    /// added.
     fn add_id(&self, alloc: Global, ids: &mut RowIds, row: &Fields<'_>) -> Result<(), AllocError>
         requires texts { IsTextRecord row.now }
         requires new { IsNewId (id_place_of self.now) ids.old row.now }
@@ -66,7 +67,8 @@ impl Decoder<'_> {
         Ok(())
     }
 
-    /// The facts of row `number`. The row's identifier joins those of the rows before it, and none does where the row is refused.
+    /// Returns the facts of row `number`, and adds its identifier to `ids`. Adds none if the row
+    /// has a fault.
     pub(crate) fn facts(
         &self,
         alloc: Global,

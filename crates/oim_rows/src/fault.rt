@@ -1,4 +1,4 @@
-//! What is wrong with a table, and where.
+//! The faults of a table, and where they occur.
 
 ghost use Rattle.std.specs.Prelude.{◌≡◌};
 ghost use Rattle.std.specs.Prelude.{◌+◌};
@@ -12,7 +12,7 @@ use std::error::Error;
 use std::fmt;
 use std::fmt::{Display, Formatter};
 
-/// What a fault of a table is.
+/// The kind of a table's fault.
 #[derive(Clone, Copy, PartialEq, Eq, Debug)]
 pub enum TableKind {
     /// 20: a table that is not optional has no file.
@@ -23,11 +23,11 @@ pub enum TableKind {
     NoHeader,
     /// 23: a header cell that is not empty does not name a column of the template.
     UnknownHeader,
-    /// 24: a column stands twice in the header.
+    /// 24: a column occurs twice in the header.
     RepeatedHeader,
     /// 25: the template's column of row identifiers is not in the header.
     NoRowIdColumn,
-    /// 26: a record has another length than the header.
+    /// 26: a record and the header differ in length.
     Ragged,
     /// 27: a cell is not UTF-8.
     NotUtf8,
@@ -39,7 +39,8 @@ pub enum TableKind {
     BadRowId,
     /// 30: an earlier row of the table has the same row identifier.
     RepeatedRowId,
-    /// 31 to 40, and 44: a cell has this fault. Where memory runs out for a cell, that is `Memory`.
+    /// 31 to 40, and 44: a cell has this fault. If memory runs out for a cell, the fault is
+    /// `Memory`.
     Cell(CellFault),
     /// 42: memory ran out.
     Memory,
@@ -86,7 +87,8 @@ impl TableKind {
 impl Error for TableKind {}
 
 impl TableKind {
-    /// What is wrong, as a sentence for people without capital and full stop; a cell's fault has its own.
+    /// Returns an explanation for people, as a sentence without capital and full stop. A cell's
+    /// fault has its own.
     pub fn explanation(&self) -> &'static str {
         match self {
             TableKind::NoFile => "a table that is not optional has no file",
@@ -108,7 +110,7 @@ impl TableKind {
     }
 }
 
-/// A kind prints its name.
+/// Writes the kind's name.
 impl Display for TableKind {
     fn fmt<W: fmt::Write>(&self, f: &mut Formatter<W>) -> fmt::Result {
         f.write_str(self.name())
@@ -116,7 +118,7 @@ impl Display for TableKind {
 }
 
 impl TableKind {
-    /// The fault's number, 20 to 44; a cell's fault has its own.
+    /// Returns the fault's number, 20 to 44. A cell's fault has its own.
     pub fn number(&self) -> u32
         ensures { result ≡ number_of self.now }
     {
@@ -139,7 +141,7 @@ impl TableKind {
         }
     }
 
-    /// The fault's name, as it is printed; a cell's fault has its own.
+    /// Returns the fault's name, as it is printed. A cell's fault has its own.
     pub fn name(&self) -> &'static str
         ensures { result.now ≡ name_of self.now }
     {
@@ -163,43 +165,43 @@ impl TableKind {
     }
 }
 
-/// A fault of a table, and where it stands.
+/// A fault of a table, and where it occurs.
 #[derive(Clone, Copy, PartialEq, Eq, Debug, thiserror::Error)]
 #[error("table {table}, row {row}, column {column}: {kind}")]
 pub struct TableFault {
-    /// The table's place in its report, from 0.
+    /// The table's index in its report, from 0.
     pub table: usize,
     /// The row, from 1, or 0 for the file and its header.
     pub row: u32,
-    /// The place in the header, from 1, or 0 where there is none. A place above the greatest
-    /// 32-bit number is given as that.
+    /// The column's place in the header, from 1, or 0 for no column. A place above the greatest
+    /// 32-bit number is given as that number.
     pub column: u32,
-    /// What is wrong.
+    /// The kind of the fault.
     pub kind: TableKind,
 }
 
 impl TableFault {
-    /// The number of its kind, 20 to 44.
+    /// Returns the number of its kind, 20 to 44.
     pub fn number(&self) -> u32
         ensures { result ≡ number_of (self.now).kind }
     {
         self.kind.number()
     }
 
-    /// The name of its kind, as it is printed.
+    /// Returns the name of its kind, as it is printed.
     pub fn name(&self) -> &'static str
         ensures { result.now ≡ name_of (self.now).kind }
     {
         self.kind.name()
     }
 
-    /// What is wrong, as its kind explains it.
+    /// Returns the explanation of its kind.
     pub fn explanation(&self) -> &'static str {
         self.kind.explanation()
     }
 }
 
-/// A fault of a table's file as a whole.
+/// Makes a fault of a table's file as a whole.
 pub fn whole_fault(table: usize, kind: TableKind) -> TableFault
     ensures { result ≡ file_fault table kind }
 {
@@ -211,7 +213,7 @@ pub fn whole_fault(table: usize, kind: TableKind) -> TableFault
     }
 }
 
-/// A fault of a row as a whole.
+/// Makes a fault of a row as a whole.
 pub(crate) fn fault_of_whole_row(table: usize, row: u32, kind: TableKind) -> TableFault
     ensures { result ≡ fault_at table row 0 kind }
 {
@@ -223,7 +225,8 @@ pub(crate) fn fault_of_whole_row(table: usize, row: u32, kind: TableKind) -> Tab
     }
 }
 
-/// A fault of a row at a place in the header, from 0. A place above the greatest 32-bit number is given as that number.
+/// Makes a fault of a row at a place in the header, from 0. A place above the greatest 32-bit
+/// number is given as that number.
 pub fn fault_at_place(table: usize, row: u32, place: usize, kind: TableKind) -> TableFault
     ensures { result ≡ fault_at table row (place + 1) kind }
 {
@@ -240,7 +243,7 @@ pub fn fault_at_place(table: usize, row: u32, place: usize, kind: TableKind) -> 
     }
 }
 
-/// The fault of a table whose reader failed: Read, or Memory.
+/// Makes the fault of a table whose reader failed: Read or Memory.
 pub fn fault_of_read(table: usize, fault: ReadFault) -> TableFault
     ensures { result ≡ fault_of_read table fault }
 {

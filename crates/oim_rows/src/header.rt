@@ -1,4 +1,4 @@
-//! The header of a table file.
+//! Reads the header of a table file.
 
 ghost use Rattle.std.specs.Prelude.{◌≡◌, ◌<◌, ◌⊎◌, [], IfOk, IfErr, IfSome, OnOk, None, Some, Ok, Err, true, take, length};
 ghost use Rattle.std.specs.List.{All, list_any, position_from};
@@ -14,7 +14,7 @@ use oim_report::Report;
 use std::alloc::{AllocError, Global};
 use std::io::Read;
 
-/// The place of the column with this identifier.
+/// Returns the index of the column with this identifier.
 fn place_of_cell(report: &Report, table: usize, cell: &[u8]) -> Option<usize>
     requires { table < length report.now.tables }
     ensures { result ≡ column_named report.now table cell.now }
@@ -22,7 +22,7 @@ fn place_of_cell(report: &Report, table: usize, cell: &[u8]) -> Option<usize>
     report.place_of_column(table, cell)
 }
 
-/// The place of the column that a header cell names.
+/// Returns the index of the column that a header cell names.
 fn column_of_cell(report: &Report, table: usize, cell: &[u8]) -> Option<usize>
     requires { table < length report.now.tables }
     ensures { result ≡ named_column (columns_in report.now table) cell.now }
@@ -41,7 +41,7 @@ fn is_unknown_cell(report: &Report, table: usize, cell: &[u8]) -> bool
     !cell.is_empty() && place_of_cell(report, table, cell).is_none()
 }
 
-/// The place of the first header cell that is not empty and does not name a column.
+/// Returns the index of the first header cell that is not empty and does not name a column.
 fn first_unknown(report: &Report, table: usize, row: &Fields<'_>) -> Option<usize>
     requires { table < length report.now.tables }
     ensures { result ≡ position_from (is_unknown (columns_in report.now table)) 0 row.now }
@@ -54,7 +54,7 @@ fn first_unknown(report: &Report, table: usize, row: &Fields<'_>) -> Option<usiz
     None
 }
 
-/// The column of each header cell.
+/// Returns the column of each header cell.
 fn columns_of(
     alloc: Global,
     report: &Report,
@@ -80,7 +80,7 @@ fn is_place(place: Option<usize>, column: usize) -> bool
     }
 }
 
-/// The place of a column in a header, or in its front.
+/// Returns the index of a column in a header, or in a prefix of one.
 pub(crate) fn source_of(header: &[Option<usize>], column: usize) -> Option<usize>
     ensures { result ≡ position_from (is_column column) 0 header.now }
 {
@@ -93,7 +93,9 @@ fn has_column(header: &[Option<usize>], column: usize) -> bool
     header.iter().any(|place| is_place(*place, column))
 }
 
-/// The first place whose column stands at an earlier place too, in a header that names columns of a template of `count`.
+/// Returns the first index whose column also occurs at an earlier one.
+///
+/// The header names columns of a template of `count` columns.
 fn first_repeated(
     alloc: Global,
     count: usize,
@@ -123,7 +125,7 @@ fn names_row_id_column(column: Option<usize>, header: &[Option<usize>]) -> bool
     }
 }
 
-/// The first fault of a header record's columns.
+/// Returns the first fault of a header record's columns.
 fn columns_fault(
     alloc: Global,
     report: &Report,
@@ -143,7 +145,9 @@ fn columns_fault(
     Ok(None)
 }
 
-/// The columns of a table's header, where `found` is the reader's answer for it and `row` the record.
+/// Returns the columns of a table's header. `found` is the reader's result for it, and `row` the
+/// record.
+///
 /// Memory is taken only once each cell is empty or names a column.
 fn take_header(
     alloc: Global,
@@ -177,7 +181,7 @@ fn take_header(
     }
 }
 
-/// The columns of a table's header, the first record.
+/// Reads the first record and returns the columns of a table's header.
 pub(crate) fn read_header<R: Read + Drop>(
     alloc: Global,
     report: &Report,

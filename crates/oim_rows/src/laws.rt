@@ -1,4 +1,4 @@
-//! Laws over the definitions that the contracts cite.
+//! Laws about the definitions that the contracts use.
 
 ghost use Rattle.std.specs.Prelude.{◌≡◌, ◌↔◌, List, ℕ, Option, []};
 ghost use Rattle.oim_records.specs.Grids.{Record};
@@ -10,22 +10,22 @@ ghost use Rattle.oim_rows.specs.WholeTable.{IsStreamOf, IsTableStream};
 
 use oim_report::Report;
 
-/// The stream of a table's rows, said of all of them at once: it has the facts of each row before
-/// the first bad one, and that row's fault.
+/// Proves what the stream of a table is for all its rows at once: the facts of each row before the
+/// first bad one, and that row's fault.
 pub fn stream_is_of_all_rows()
     ensures { (g : TableHeaderValue) (rows : List Record) → IsStreamOf g [] rows (stream_from g 1 [] rows) }
 {}
 
-/// The stream of a table is the one stream that says this of its file: the fault of its header, or the
-/// facts of each row before the first bad one and that row's fault. So each contract that names the
-/// stream speaks of all rows at once.
+/// Proves that a table's stream is the only one with the fault of its header, or the facts of each
+/// row before the first bad one and that row's fault.
+///
+/// So each contract that names the stream covers all rows at once.
 pub fn table_stream_is_of_all_rows()
     ensures { (r : ReportValue) (table limit : ℕ) (file : Option (List ℕ)) (s : Stream)
         → (IsTableStream r table limit file s ↔ (s ≡ table_stream r table limit file)) }
 {}
 
-/// No two facts of a report have one identifier, whatever files its tables have: the facts of all its
-/// tables, each at its place, differ in their identifiers.
+/// Proves that no two facts of a report have the same identifier, whatever files its tables have.
 pub fn fact_identifiers_differ(report: &Report)
     ensures { FactIdsDiffer report.now }
 {

@@ -1,18 +1,19 @@
 //! The facts of one table, row by row.
 //!
-//! `Rows` reads a table's file record by record: the first record is the header, and each further record
-//! is a row. Over a reader that tells its bytes, what it gives is exactly the table's stream: the
-//! facts of each row before the first bad one, in header order, and then the end or the table's
-//! first fault, with its row and its place in the header. A row with any fault does not give any fact.
-//! Only a failed read or running out of memory may end a table earlier. After the end or a fault
-//! it answers the same again and takes no further record. A table ends at the limit of rows at the latest.
+//! `Rows` reads a table's file (xBRL-CSV 1.0) record by record. The first record is the header, and
+//! each further record is a row. If the reader's contract gives its bytes, the results are exactly
+//! the table's stream: the facts of each row before the first bad one, in header order, then the
+//! end or the table's first fault with its row and its place in the header. A row with any fault
+//! gives no facts.
 //!
-//! Table files are those of xBRL-CSV 1.0.
+//! Only a failed read or running out of memory can end a table earlier. After the end or a fault,
+//! each call returns the same again and takes no further record. A table ends at the limit of rows
+//! at the latest.
 //!
 //! A call:
 //!
 //! ```
-//! /// The facts of the first row of a report's first table, whose file has these bytes.
+//! /// Returns the facts of the first row of a report's first table, whose file has these bytes.
 //! fn first_row(alloc: Global, report: &Report, file: &[u8]) -> Result<Option<RowFacts>, TableFault> {
 //!     if report.tables() == 0 {
 //!         return Ok(None);
@@ -26,8 +27,10 @@
 mod cells;
 mod decoder;
 mod fault;
+mod group_counts;
 mod header;
 mod ids;
+mod kept_ids;
 mod laws;
 mod row_id;
 mod row_plan;

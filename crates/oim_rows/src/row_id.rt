@@ -14,21 +14,22 @@ use std::alloc::{AllocError, Global};
 use std::hash::{FoldHasher, Hash, Hasher};
 use std::marker::Model;
 
-/// Where the text of an identifier stands.
+/// The text of an identifier, inside the value or on the heap.
 #[derive(Drop)]
 enum Kept {
     Short(ShortText),
     Long(String),
 }
 
-/// The identifier of a row, with its hash. One of up to 23 bytes stands in the value itself, so that it takes no memory of its own. A contract
-/// sees its bytes.
+/// The identifier of a row, with its hash. A contract sees its bytes.
+///
+/// Up to 23 bytes are kept in the value itself, so that a short identifier allocates nothing.
 pub struct RowId {
     hash: u64,
     kept: Kept,
 }
 
-// By hand, so that who lets one go elsewhere makes one call.
+// Written by hand so that each place that drops one makes a single call.
 impl Drop for RowId {
     fn drop(self) {
         let Self { hash: _, kept: _ } = self;
@@ -48,7 +49,7 @@ impl Model for RowId {
     ghost invariant = { λ a. a.hash ≡ hash_in (bytes_kept a.kept) };
 }
 
-/// A text that is looked for among identifiers, with its hash. A contract sees its bytes.
+/// A text to look up among identifiers, with its hash. A contract sees its bytes.
 #[derive(Drop)]
 pub(crate) struct Sought<'a> {
     hash: u64,
@@ -67,7 +68,7 @@ impl<'a> Model for Sought<'a> {
     ghost invariant = { λ a. a.hash ≡ hash_in a.text.now };
 }
 
-/// The hash of a text.
+/// Returns the hash of a text.
 #[inline]
 #[tactic(auto, unfolding(crate::specs::state::Hashes::hash_of))]
 fn hash_of(text: &str) -> u64
@@ -79,7 +80,7 @@ fn hash_of(text: &str) -> u64
 }
 
 impl<'a> Sought<'a> {
-    /// This text.
+    /// Makes a lookup of `text`.
     #[inline]
     pub(crate) fn new(text: &'a str) -> Sought<'a>
         ensures { result ≡ text.now }
@@ -92,7 +93,13 @@ impl<'a> Sought<'a> {
 }
 
 impl RowId {
-    /// A copy of a text. Fails where memory is short, which it is not for a text of up to 23 bytes.
+    /// Returns the hash of the text.
+    #[inline(always)]
+    pub(crate) fn hash(&self) -> u64 {
+        self.hash
+    }
+
+    /// Copies a text. A text of up to 23 bytes takes no memory, so it does not fail.
     #[inline(always)]
     pub fn new(alloc: Global, text: &str) -> Result<RowId, AllocError>
         ensures { IfOk result (λ id. id ≡ text.now) }
@@ -107,7 +114,7 @@ impl RowId {
         })
     }
 
-    /// The text.
+    /// Returns the text.
     #[inline]
     pub fn as_str(&self) -> &str
         ensures { result.now ≡ self.now }

@@ -1,4 +1,4 @@
-//! How the cells of a row become its facts.
+//! Turns the cells of a row into its facts.
 
 ghost use Rattle.std.specs.Prelude.{◌≡◌, ◌<◌, Err, IfOk, IfSome, OnOk, length, map};
 ghost use Rattle.std.specs.List.{range_with_len};
@@ -21,13 +21,13 @@ use std::alloc::{AllocError, Global};
 use std::marker::Model;
 use std::snapshot::Snapshot;
 
-/// How the cells of a table's rows become their facts: the plan of the table's template under a header. A contract sees the
-/// header.
+/// The plan of a table's template under a header, which turns the cells of a row into its facts. A
+/// contract sees the header.
 #[derive(Drop)]
 pub struct RowPlan<'a> {
     plan: Plan<'a>,
     columns: &'a [Column],
-    // the place in the header of each column of the template
+    // the index in the header of each column of the template
     sources: Vec<Option<usize>>,
     header: Snapshot<TableHeader<'a>>,
 }
@@ -57,7 +57,7 @@ fn sources_of(
     Ok(sources)
 }
 
-/// The cells under these places of the header.
+/// Returns the cells at these indexes of the header.
 fn cells_of(
     alloc: Global,
     sources: &[Option<usize>],
@@ -73,7 +73,7 @@ fn cells_of(
     Ok(cells)
 }
 
-/// Whether the column at a place holds facts.
+/// Returns whether the column at an index holds facts.
 fn is_fact(columns: &[Column], column: usize) -> bool
     ensures { result ≡ is_fact_column columns.now column }
 {
@@ -83,7 +83,7 @@ fn is_fact(columns: &[Column], column: usize) -> bool
     }
 }
 
-/// The identifier of row `number`.
+/// Returns the identifier of row `number`.
 fn id_text(
     alloc: Global,
     header: &TableHeader<'_>,
@@ -104,7 +104,7 @@ fn id_text(
 }
 
 impl<'a> RowPlan<'a> {
-    /// How the cells of the rows under this header become facts. Fails where memory is short.
+    /// Makes the plan for the rows under `header`.
     pub fn new(alloc: Global, header: &TableHeader<'a>) -> Result<RowPlan<'a>, AllocError>
         ensures { IfOk result (λ p. p ≡ header.now) }
     {
@@ -121,7 +121,7 @@ impl<'a> RowPlan<'a> {
 }
 
 impl RowPlan<'_> {
-    /// A record as a row, with a cell for each column of the template. Fails where memory is short.
+    /// Copies a record into a row, with a cell for each column of the template.
     fn row(
         &self,
         alloc: Global,
@@ -138,8 +138,9 @@ impl RowPlan<'_> {
         Ok(Row::new(number, Text::new(id), cells))
     }
 
-    /// The fact under one header cell of a row of the table at this place. Where the first two steps of its cell settle it, that
-    /// is the answer, however much memory there is.
+    /// Returns the fact under one header cell of a row of `table`.
+    ///
+    /// If one of the first two steps of its cell settles the result, it does not depend on memory.
     fn fact_of_cell(
         &self,
         alloc: Global,
@@ -166,9 +167,9 @@ impl RowPlan<'_> {
         }
     }
 
-    /// The facts of a row, in header order, for the columns that `header` names.
+    /// Returns the facts of a row in header order, for the columns that `header` names.
     ///
-    /// Fails with the fault of the first cell that has one, and with Memory where memory is short.
+    /// Returns the fault of the first cell that has one, or Memory if memory runs out.
     fn facts_of_row(
         &self,
         alloc: Global,
@@ -194,9 +195,10 @@ impl RowPlan<'_> {
         Ok(facts)
     }
 
-    /// The facts of the cells of row `number`, in header order. The row's own faults, and so those of its identifier, are not looked for.
+    /// Returns the facts of the cells of row `number`, in header order. It does not look for faults
+    /// of the row itself, so not for those of its identifier either.
     ///
-    /// Fails with the fault of the first cell that has one, and with Memory where memory is short.
+    /// Returns the fault of the first cell that has one, or Memory if memory runs out.
     pub fn facts(
         &self,
         alloc: Global,

@@ -23,10 +23,12 @@ use std::marker::Model;
 /// The facts of one row, in header order.
 pub type RowFacts = Items<Fact>;
 
-/// The rows of one table that are left (xBRL-CSV 1.0, table files: the first record is the header, and each
-/// record behind it a row). It borrows the table's report. A contract sees the table's place, the limit,
-/// how many rows were given, what is answered again once it is settled, and, where the reader tells its
-/// bytes, the stream that is left and the records that are unread.
+/// The rows left in one table (xBRL-CSV 1.0, table files: the first record is the header, and each
+/// later record a row). It borrows the table's report.
+///
+/// A contract sees the table's index, the limit, how many rows were returned, and the result that
+/// is repeated once the table has ended. If the reader's contract gives its bytes, a contract also
+/// sees the stream left and the unread records.
 #[derive(Drop)]
 pub struct Rows<'a, R: Read + Drop> {
     alloc: Global,
@@ -58,7 +60,7 @@ impl<'a, R: Read + Drop> Model for Rows<'a, R> {
     ghost invariant = { λ a. (a.given ≤ a.decoder.limit) × (a.decoder.limit < 2 ^ 32 - 1) };
 }
 
-/// The facts of row `number`, where `found` is the reader's answer for it and `row` the record.
+/// Returns the facts of row `number`. `found` is the reader's result for it, and `row` the record.
 fn take_row(
     alloc: Global,
     decoder: &Decoder,
@@ -83,7 +85,7 @@ fn take_row(
     }
 }
 
-/// The facts of row `number`, if there is one.
+/// Reads row `number`, if it exists, and returns its facts.
 fn read_row<R: Read + Drop>(
     alloc: Global,
     decoder: &Decoder,
@@ -100,12 +102,13 @@ fn read_row<R: Read + Drop>(
 }
 
 impl<'a, R: Read + Drop> Rows<'a, R> {
-    /// Reads the header of the table at this place of a report, from 0, past one byte-order mark. The rows
-    /// are at most `limits.rows`, itself at most 4,294,967,294; the other limits do not count. (xBRL-CSV 1.0, table files)
+    /// Reads the header of the table at index `table` of a report, and skips one byte-order mark.
     ///
-    /// Fails with the header's first fault, in this order: NoHeader, UnknownHeader, RepeatedHeader,
-    /// NoRowIdColumn. Fails with Read where the reader failed, and with Memory where memory is
-    /// short.
+    /// The table may have at most `limits.rows` rows, itself at most 4,294,967,294. The other
+    /// limits have no effect. (xBRL-CSV 1.0, table files)
+    ///
+    /// Returns the header's first fault, in this order: NoHeader, UnknownHeader, RepeatedHeader,
+    /// NoRowIdColumn. Returns Read if the reader fails, and Memory if memory runs out.
     pub fn open(
         alloc: Global,
         report: &'a Report,
@@ -116,15 +119,15 @@ impl<'a, R: Read + Drop> Rows<'a, R> {
         requires place { table < length report.now.tables }
         requires rows { limits.rows ≤ 4294967294 }
 
-        // The rows of the table, where its header has no fault.
+        // The rows of the table, if its header has no fault.
         ensures start { IfOk result (λ rows. (rows.table ≡ table) × (rows.limit ≡ limits.rows) × (rows.given ≡ 0) × (rows.answered ≡ None)) }
         ensures stream { IfSome (R.remaining reader) (λ bytes. IfOk result (λ rows. rows.left ≡ Some (stream_of report.now table limits.rows (grid bytes)))) }
         ensures header { IfSome (R.remaining reader) (λ bytes. IfOk result (λ _. file_header_fault report.now table (grid bytes) ≡ None)) }
-        // Said of all rows at once.
+        // The same for all rows at once.
         ensures whole { IfSome (R.remaining reader) (λ bytes.
             IfOk result (λ rows. IfSome rows.left (IsTableStream report.now table limits.rows (Some bytes)))) }
 
-        // Its fault, unless the reader failed or memory ran out.
+        // The header's fault, unless the reader failed or memory ran out.
         ensures fault { IfSome (R.remaining reader) (λ bytes. IfErr result (λ e. IsOutside table e
             ⊎ (file_header_fault report.now table (grid bytes) ≡ Some e))) }
     {
@@ -149,12 +152,13 @@ impl<'a, R: Read + Drop> Rows<'a, R> {
         })
     }
 
-    /// The facts of the next row in header order, none of them where the row has none, or None at
-    /// the end. After the end or a fault it answers the same again and takes no further record.
+    /// Returns the facts of the next row in header order, perhaps none, or `None` at the end.
     ///
-    /// Fails with the first fault of the first bad row, in this order: Ragged, NotUtf8,
-    /// TooManyRows, MissingRowId, BadRowId, RepeatedRowId, then the faults of its cells from left
-    /// to right. Fails with Read where the reader failed, and with Memory where memory is short.
+    /// After the end or a fault it returns the same again and takes no further record.
+    ///
+    /// Returns the first fault of the first bad row, in this order: Ragged, NotUtf8, TooManyRows,
+    /// MissingRowId, BadRowId, RepeatedRowId, then the faults of its cells from left to right.
+    /// Returns Read if the reader fails, and Memory if memory runs out.
     pub fn next(&mut self) -> Result<Option<RowFacts>, TableFault>
         ensures next { IfSome self.old.left (λ stream. GivesNext self.old.table stream result self.new.left) }
         ensures kept { self.old.answered ≡ None → self.new.answered ≡ kept_answer result }

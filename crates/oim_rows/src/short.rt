@@ -1,4 +1,4 @@
-//! A short text that stands in the value itself.
+//! A short text kept in the value itself.
 
 ghost use Rattle.std.specs.Prelude.{◌≡◌, ◌≤◌, IfNone, IfSome, ◌<◌, length};
 
@@ -26,7 +26,7 @@ impl Model for ShortText {
 }
 
 impl ShortText {
-    /// A copy of a text, if it has up to 23 bytes.
+    /// Copies a text, if it has up to 23 bytes.
     #[inline(always)]
     pub(crate) fn of(text: &str) -> Option<ShortText>
         ensures text { IfSome result (λ short. short ≡ text.now) }
@@ -44,7 +44,7 @@ impl ShortText {
         })
     }
 
-    /// The text.
+    /// Returns the text.
     #[inline(always)]
     pub(crate) fn as_str(&self) -> &str
         ensures { result.now ≡ self.now }

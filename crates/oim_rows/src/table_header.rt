@@ -1,4 +1,4 @@
-//! The header of a table as it was read: what makes a record a row, before its cells are resolved.
+//! The header of a table as it was read, and the faults of a row that do not come from its cells.
 
 ghost use Rattle.std.specs.Prelude.{◌≡◌, ◌⊎◌, ◌<◌, IfOk, IfErr, IfSome, OnOk, length};
 ghost use Rattle.std.specs.String.{string_bytes};
@@ -17,15 +17,17 @@ use std::alloc::{AllocError, Global};
 use std::io::Read;
 use std::marker::Model;
 
-/// The header of one table as it was read, by which its rows are told. A contract sees the report, the table's place, the most
-/// rows that it may have, and the column of each cell of the header.
+/// The header of one table as it was read. It decides whether a record is a valid row.
+///
+/// A contract sees the report, the table's index, the most rows that it may have, and the column of
+/// each cell of the header.
 #[derive(Drop)]
 pub struct TableHeader<'a> {
     report: &'a Report,
     table: usize,
     limit: u32,
     columns: Vec<Option<usize>>,
-    // the place in the header of the row identifier
+    // the index in the header of the row identifier
     id_place: Option<usize>,
 }
 
@@ -42,7 +44,7 @@ impl<'a> Model for TableHeader<'a> {
         × (a.id_place ≡ row_id_place (template_of a.report.now a.table).row_id_column a.columns.items) };
 }
 
-/// The place in a header of the row identifier, where the template has a column for it.
+/// Returns the index in a header of the row identifier, if the template has a column for it.
 fn place_of_id(header: &[Option<usize>], column: Option<usize>) -> Option<usize>
     ensures { result ≡ row_id_place column header.now }
 {
@@ -53,11 +55,12 @@ fn place_of_id(header: &[Option<usize>], column: Option<usize>) -> Option<usize>
 }
 
 impl<'a> TableHeader<'a> {
-    /// Reads the header of a table: the first record that `records` has left. The rows are at most `limit`.
+    /// Reads the header of a table, the first record left in `records`.
     ///
-    /// Fails with the header's first fault, in this order: NoHeader, UnknownHeader, RepeatedHeader,
-    /// NoRowIdColumn. Fails with Read where the reader failed, and with Memory where memory is
-    /// short.
+    /// The table may have at most `limit` rows.
+    ///
+    /// Returns the header's first fault, in this order: NoHeader, UnknownHeader, RepeatedHeader,
+    /// NoRowIdColumn. Returns Read if the reader fails, and Memory if memory runs out.
     pub fn read<R: Read + Drop>(
         alloc: Global,
         report: &'a Report,
@@ -86,21 +89,21 @@ impl<'a> TableHeader<'a> {
 }
 
 impl<'a> TableHeader<'a> {
-    /// The report of the table.
+    /// Returns the report of the table.
     pub fn report(&self) -> &'a Report
         ensures { result.now ≡ (self.now).report }
     {
         self.report
     }
 
-    /// The place in the header of the row identifier, where the table has a column for it.
+    /// Returns the index in the header of the row identifier, if the table has a column for it.
     pub fn id_place(&self) -> Option<usize>
         ensures { result ≡ id_place_of self.now }
     {
         self.id_place
     }
 
-    /// The place of the table in its report.
+    /// Returns the index of the table in its report.
     pub fn table(&self) -> usize
         ensures value { result ≡ (self.now).table }
         ensures within { result < length (self.now).report.tables }
@@ -108,15 +111,17 @@ impl<'a> TableHeader<'a> {
         self.table
     }
 
-    /// The column of each header cell, none for an empty one.
+    /// Returns the column of each header cell, or `None` for an empty cell.
     pub fn columns(&self) -> &[Option<usize>]
         ensures { result.now ≡ (self.now).columns }
     {
         self.columns.as_slice()
     }
 
-    /// The first fault of row `number` apart from those of its cells, where `ids` are the identifiers of
-    /// the rows before it: Ragged, NotUtf8, TooManyRows, MissingRowId, BadRowId or RepeatedRowId.
+    /// Returns the first fault of row `number` apart from those of its cells.
+    ///
+    /// `ids` are the identifiers of the rows before it. The order is Ragged, NotUtf8, TooManyRows,
+    /// MissingRowId, BadRowId, RepeatedRowId.
     pub fn fault_of_row(&self, number: u32, ids: &RowIds, row: &Fields<'_>) -> Option<TableFault>
         ensures { result ≡ row_fault self.now number ids.now row.now }
     {
@@ -134,7 +139,8 @@ impl<'a> TableHeader<'a> {
         Some(fault_at_place(self.table, number, place, kind))
     }
 
-    /// The same of a row whose fields are known to be text, none of which is tested again.
+    /// Returns what `fault_of_row` returns, for a row whose fields are known to be text. It tests
+    /// no field.
     #[inline(always)]
     pub fn fault_of_texts(
         &self,
@@ -156,7 +162,8 @@ impl<'a> TableHeader<'a> {
         Some(fault_at_place(self.table, number, place, kind))
     }
 
-    /// The same of the record that a reader has at hand. Where it is known to be text, no field is tested again.
+    /// Returns what `fault_of_row` returns, for the current record of `records`. If it is known to
+    /// be text, no field is tested again.
     #[inline]
     pub fn fault_of_record<R: Read + Drop>(
         &self,
@@ -176,7 +183,8 @@ impl<'a> TableHeader<'a> {
 ghost use Rattle.std.specs.Prelude.{◌++◌, codes, decimal, OnErr, Some};
 
 /// Appends the identifier of a row of a table that has no column for it: `r_` and the row's number.
-/// Fails where memory is short, and then nothing is appended.
+///
+/// If memory runs out, nothing is appended.
 pub fn push_row_number(id: &mut String, number: u32) -> Result<(), AllocError>
     ensures added { OnOk result (string_bytes id.new ≡ string_bytes id.old ++ (codes "r_" ++ decimal number)) }
     ensures same { OnErr result (string_bytes id.new ≡ string_bytes id.old) }

@@ -1,4 +1,5 @@
--- What a conversion writes is a beginning of the defined text, whatever faults its tables have.
+-- The text that a conversion writes is a prefix of the defined text, whatever faults its tables
+-- have.
 use Rattle.std.proofs.Common.{◌≡◌, ◌∙◌, ℕ, ◌+◌, refl, List, [], ◌∷◌, ◌++◌, ap, append-nil, append_assoc, inl, inr, sym, subst}
 use mathlib.Core.List.{IsPrefix}
 use Rattle.oim_convert.proofs.SerialLaws.{document_first, text_first}
@@ -25,7 +26,7 @@ use Rattle.oim_rows.specs.declared.fault.TableFault.{TableFault}
 use Rattle.oim_rows.specs.declared.fault.TableKind.TheVariants as kind
 use Rattle.oim_run.specs.Outcomes.{Begins}
 
--- no table was refused, so there was a thread, or there are no tables
+-- No table was refused, so threads could be made, or there are no tables.
 open_unserved : (i : ℕ) (ss : List Stream) (hs : List (List Item)) → AreUnserved i ss hs → refusals (all_of hs) ≡ [] → AreStreams ss hs
 open_unserved i [] [] all none = tt
 open_unserved i [] (h ∷ hs) all none = absurd all

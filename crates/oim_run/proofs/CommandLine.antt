@@ -1,4 +1,4 @@
--- What the getters of a parse give, in terms of the rows that the parse made.
+-- The values of a parse's getters, by the rows that the parse made.
 use Rattle.std.proofs.Common.{◌≡◌, ◌∙◌, ap, ap₂, ℕ, false, List, [], ◌∷◌, Option, Some, None, Result, Ok, refl}
 use Rattle.std.specs.Borrow.{Bor}
 use Rattle.std.specs.Str.Parse.{ParsesUnsigned}
@@ -8,7 +8,7 @@ use Rattle.clap.specs.declared.builder.texts.Texts.TheVariants.{One}
 use Rattle.clap.specs.declared.builder.value_parser.ValueParser.{ValueParser}
 use Rattle.oim_run.specs.CommandLine.{IsNumberOf}
 
--- a number that a typed getter read
+-- A number that a typed getter read.
 pub number_read : (E : Type 0) (G : List ℕ → Result ℕ E → Type 0) (text : Option Text) (n : ℕ)
     → (text ≡ None → Some n ≡ None) → ((t : Text) → text ≡ Some t → ReadsOne G t (Some n))
     → ((t : Text) → G t (Ok n) → ParsesUnsigned {E = E} 64 10 t (Ok n)) → IsNumberOf text n
@@ -17,7 +17,7 @@ number_read E G None n none value only =
     cc
 number_read E G (Some t) n none value only = (only t (value t refl)).1
 
--- an argument that is given a parser and then one default value
+-- An argument with a parser and one default value.
 pub chosen : (a b c : Arg) (parser : ValueParser) (d : Bor Text) (r : Rule) → b ≡ record a { value_parser = b.value_parser } → b.value_parser ≡ Some parser
     → c ≡ record b { default_vals = One d } → rule_of a ≡ r → a.global ≡ false
     → (rule_of c ≡ record r { parser = Some parser; defaults = d.now ∷ [] }) × (c.global ≡ false)

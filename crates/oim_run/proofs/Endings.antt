@@ -1,4 +1,4 @@
--- How a run ends, from how its conversion ends.
+-- The end of a run, from the end of its conversion.
 use Rattle.std.specs.Prelude.{◌≡◌, ◌⊎◌, Bool, true, false, if◌then◌else◌, ℕ, suc, List, [], ◌∷◌, ◌++◌, map, take, ◌+◌, ◌<◌, Option, Some, None, IfOk, IfSome, Result, Ok, Err, length, slice_index_or}
 use Rattle.std.proofs.Common.{refl, sym, ap, subst, ◌∙◌, inl, inr}
 use Rattle.std.proofs.lemmas.List.{length-append, map_more}
@@ -27,24 +27,24 @@ use Rattle.std.specs.Borrow.{Bor}
 use Rattle.oim_files.specs.Folders.{Files, IsFolderOf, first_at}
 use Rattle.oim_run.specs.state.Naming.{outcome_by, table_ids}
 use Rattle.oim_run.specs.Outcomes.{EndsAs, Leaves}
-use Rattle.oim_run.specs.Runs.{EndsOver, files_of, range_fault, table_file, table_files}
-use Rattle.oim_files.specs.Steps.{GivesReport}
+use Rattle.oim_run.specs.Runs.{Converted, EndsOver, files_of, range_fault, table_file, table_files}
+use Rattle.oim_files.specs.Steps.{GivesReport, steps}
 use Rattle.oim_files.specs.declared.early_fault.EarlyFault.{EarlyFault}
 use Rattle.oim_files.specs.declared.early_fault.EarlyFault.TheVariants as early
-use Rattle.oim_run.specs.Early.{no_memory, outcome_of}
+use Rattle.oim_run.specs.Early.{EndsAt, no_memory, outcome_of}
 use Rattle.oim_run.specs.declared.outcome.Outcome.{Outcome}
 use Rattle.oim_run.specs.declared.outcome.Outcome.TheVariants as outcome
 use Rattle.oim_files.specs.declared.early_fault.Source.{Source}
 use Rattle.oim_files.specs.declared.early_fault.Source.TheVariants as source
 
--- there are as many files as readers
+-- There are as many files as readers.
 pub as_many : {R : Type 0} (told : R → Option (List ℕ)) (rs : List (Option R)) (fs : List (Option (List ℕ))) → AreFilesOf told rs fs → length rs ≡ length fs
 as_many told [] [] are = refl
 as_many told [] (f ∷ fs) are = absurd are
 as_many told (r ∷ rs) [] are = absurd are
 as_many told (r ∷ rs) (f ∷ fs) are = ap suc (as_many told rs fs are.1)
 
--- a conversion for which memory ran out while the names were made
+-- A conversion for which memory ran out while the names were made.
 pub no_memory_ends : (workers : ℕ) (layout : Layout) (early : Option ConvertFault) (report : ReportValue) (ss : List Stream) (sink : SinkView) → EndsAs workers layout early report ss sink sink (outcome.Run fault.Memory)
 no_memory_ends workers layout None report ss sink = (refl, keeps_same sink.told)
 no_memory_ends workers layout (Some f) report ss sink = (inr refl, (refl, keeps_same sink.told))
@@ -64,7 +64,7 @@ converted layout workers ring readers limit report files old new r names o named
     (answered workers layout report limit files old new names named (early_fault workers ring readers (length report.tables)) r
     (never_lost workers ring readers (length report.tables)) several histories headline faults writes))
 
--- a report whose tables each have a file or none
+-- A report whose tables each have a file or none.
 run_ends : (layout : Layout) (workers ring : ℕ) (report : ReportValue) (files : List (Option (List ℕ))) (old new : SinkView) (o : Outcome) → length files ≡ length report.tables
     → EndsAs workers layout (early_fault workers ring (length files) (length report.tables)) report (streams report profile.rows files) old new o
     → EndsAs workers layout (range_fault workers ring) report (streams report profile.rows files) old new o
@@ -75,7 +75,7 @@ length_map : {A B : Type 0} (f : A → B) (xs : List A) → length (map f xs) �
 length_map f [] = refl
 length_map f (x ∷ xs) = ap suc (length_map f xs)
 
--- readers of the first tables, and of the next one
+-- Readers of the first tables, and of the next one.
 files_more : {R : Type 0} (told : R → Option (List ℕ)) (rs : List (Option R)) (fs : List (Option (List ℕ))) (r : Option R) (f : Option (List ℕ))
     → AreFilesOf told rs fs → IsFileOf told r f → AreFilesOf told (rs ++ r ∷ []) (fs ++ f ∷ [])
 files_more told [] [] r f are is = (is, tt)
@@ -100,7 +100,7 @@ one_more told (Some at) base path tables i rs rs' r l is more are opened =
 pub one_longer : {A : Type 0} (xs ys : List A) (x : A) (n : ℕ) → ys ≡ xs ++ x ∷ [] → length xs ≡ n → length ys ≡ n + 1
 one_longer xs ys x n more is = ap length more ∙ length-append xs (x ∷ []) ∙ ap (λ k. k + 1) is
 
--- a run through a buffer, of the paths and words that its settings have
+-- A run through a buffer, with the paths and values of its settings.
 pub over_same : (files : Files) (meta meta' types types' : List ℕ) (workers workers' ring ring' : ℕ) (layout layout' : Layout) (old new : Option (List ℕ)) (o : Outcome)
     → (meta ≡ meta') × (types ≡ types') → (workers ≡ workers') × (ring ≡ ring') × (layout ≡ layout')
     → Buffered (EndsOver files meta types workers ring layout) old new o → Buffered (EndsOver files meta' types' workers' ring' layout') old new o
@@ -111,7 +111,7 @@ over_same files meta meta' types types' workers workers' ring ring' layout layou
     (subst (λ t. Buffered (EndsOver files meta' t workers ring layout) old new o) paths.1
     (subst (λ m. Buffered (EndsOver files m types workers ring layout) old new o) paths.0 ends))))
 
--- what holds of files in memory, by what is lent of them
+-- A property of files in memory, by their lent texts.
 pub over_held : (p q r a b x : Bor (List ℕ)) (metadata types table : List ℕ) (P : Files → Type 0) → a.now ≡ metadata → b.now ≡ types → x.now ≡ table
     → P (first_at ((p, a) ∷ (q, b) ∷ (r, x) ∷ [])) → P (files_of ((p.now, metadata) ∷ (q.now, types) ∷ (r.now, table) ∷ []))
 over_held p q r a b x metadata types table P one two three given =
@@ -119,7 +119,7 @@ over_held p q r a b x metadata types table P one two three given =
     (subst (λ z. P (files_of ((p.now, metadata) ∷ (q.now, z) ∷ (r.now, x.now) ∷ []))) two
     (subst (λ z. P (files_of ((p.now, z) ∷ (q.now, b.now) ∷ (r.now, x.now) ∷ []))) one given))
 
--- a run that stops before the conversion
+-- A run that stops before the conversion.
 pub stops : (known : Option Files) (base meta types : List ℕ) (workers ring : ℕ) (layout : Layout) (sink : SinkView) (e : EarlyFault) (o : Outcome) → IsFolderOf base meta
     → IfSome known (λ files. GivesReport files base meta types (Err e)) → o ≡ outcome_of e
     → IfSome known (λ files. EndsOver files meta types workers ring layout sink sink o)
@@ -135,7 +135,7 @@ early_left workers range sink early.Memory = inl (refl, (refl, keeps_same sink.t
 pub early_leaves : (workers : ℕ) (range : Option ConvertFault) (sink : SinkView) (e : EarlyFault) (o : Outcome) → o ≡ outcome_of e → Leaves workers range sink sink o
 early_leaves workers range sink e o told = subst (Leaves workers range sink sink) (sym told) (early_left workers range sink e)
 
--- the conversion of a report's tables
+-- The conversion of a report's tables.
 pub tables_end : {R : Type 0} (told : R → Option (List ℕ)) (known : Option Files) (base : List ℕ) (workers ring : ℕ) (layout : Layout)
     (old new : SinkView) (o : Outcome) (report : ReportValue) (readers : List (Option R))
     → IfSome known (λ files. AreFilesOf told readers (table_files files base report))
@@ -147,7 +147,7 @@ tables_end told (Some files) base workers ring layout old new o report readers a
     let tables = table_files files base report in
     run_ends layout workers ring report tables old new o (length_map (table_file files base) report.tables) (converts tables are)
 
--- the conversion for which memory ran out while the readers of its tables were made
+-- A conversion for which memory ran out while the readers of its tables were made.
 pub short_end : (known : Option Files) (base : List ℕ) (workers ring : ℕ) (layout : Layout) (sink : SinkView) (o : Outcome) (report : ReportValue) → o ≡ no_memory
     → IfSome known (λ files. EndsAs workers layout (range_fault workers ring) report (streams report profile.rows (table_files files base report)) sink sink o)
 short_end None base workers ring layout sink o report none = tt
@@ -156,7 +156,7 @@ short_end (Some files) base workers ring layout sink o report none =
     subst (EndsAs workers layout (range_fault workers ring) report (streams report profile.rows tables) sink sink) (sym none)
     (no_memory_ends workers layout (range_fault workers ring) report (streams report profile.rows tables) sink)
 
--- a run that has its report
+-- A run that has its report.
 pub runs : (known : Option Files) (base meta types : List ℕ) (workers ring : ℕ) (layout : Layout) (old new : SinkView) (o : Outcome) (report : ReportValue) → IsFolderOf base meta
     → IfSome known (λ files. GivesReport files base meta types (Ok report))
     → IfSome known (λ files. EndsAs workers layout (range_fault workers ring) report (streams report profile.rows (table_files files base report)) old new o)
@@ -169,7 +169,36 @@ runs (Some files) base meta types workers ring layout old new o report folder is
       ends = inr (record { report = report; passed = is.0; given = is.1; ends = ends });
     }
 
--- what every outcome leaves behind
+-- A run with one worker, as one with settings in range.
+
+over_ends : (files : Files) (base meta types : List ℕ) (workers ring : ℕ) (layout : Layout) (old new : SinkView) (o : Outcome) → workers ≡ 1 → range_fault workers ring ≡ None
+    → (EndsAt (steps files base meta types) o × Unwritten old new) ⊎ Converted files base meta types 1 1 layout old new o
+    → (EndsAt (steps files base meta types) o × Unwritten old new) ⊎ Converted files base meta types workers ring layout old new o
+over_ends files base meta types workers ring layout old new o one range (inl early) = inl early
+over_ends files base meta types workers ring layout old new o one range (inr is) =
+    let found = streams is.report profile.rows (table_files files base is.report) in
+    inr (record {
+      report = is.report;
+      passed = is.passed;
+      given = is.given;
+      ends = subst (λ w. EndsAs w layout (range_fault workers ring) is.report found old new o) (sym one)
+          (subst (λ (e : Option ConvertFault). EndsAs 1 layout e is.report found old new o) (sym range) is.ends);
+    })
+
+pub alone_over : (known : Option Files) (meta types : List ℕ) (workers ring : ℕ) (layout : Layout) (old new : SinkView) (o : Outcome) → workers ≡ 1 → range_fault workers ring ≡ None
+    → IfSome known (λ files. EndsOver files meta types 1 1 layout old new o)
+    → IfSome known (λ files. EndsOver files meta types workers ring layout old new o)
+alone_over None meta types workers ring layout old new o one range ends = tt
+alone_over (Some files) meta types workers ring layout old new o one range ends =
+    record { base = ends.base; folder = ends.folder; ends = over_ends files ends.base meta types workers ring layout old new o one range ends.ends }
+
+pub alone_left : (workers ring : ℕ) (old new : SinkView) (o : Outcome) → workers ≡ 1 → range_fault workers ring ≡ None
+    → Leaves 1 None old new o → Leaves workers (range_fault workers ring) old new o
+alone_left workers ring old new o one range left =
+    subst (λ w. Leaves w (range_fault workers ring) old new o) (sym one)
+    (subst (λ (e : Option ConvertFault). Leaves 1 e old new o) (sym range) left)
+
+-- What every outcome leaves in the sink.
 pub converted_leaves : (layout : Layout) (workers ring readers : ℕ) (report : ReportValue) (old new : SinkView) (r : Result Run ConvertFault) (names : List (List ℕ)) (o : Outcome)
     → o ≡ outcome_by names r → (early_fault workers ring readers (length report.tables) ≡ None → 1 < workers)
     → AnswersFault (early_fault workers ring readers (length report.tables)) r
@@ -186,9 +215,10 @@ pub run_leaves : (workers ring readers tables : ℕ) (old new : SinkView) (o : O
     → Leaves workers (early_fault workers ring readers tables) old new o → Leaves workers (range_fault workers ring) old new o
 run_leaves workers ring readers tables old new o many = subst (λ early. Leaves workers early old new o) (in_range workers ring readers tables many)
 
--- THROUGH A BUFFER
+-- Through a buffer.
 
--- where old is what the writer held before the run, and a buffer before it tells what it held when the buffer was made
+-- `old` is what the writer held before the run, and the buffer has what it held when the buffer was
+-- made.
 pub behind : (ends : SinkView → SinkView → Outcome → Type 0) (before after : SinkView) (ended o : Outcome) (done : Bool) (old first new : Option (List ℕ))
     → before.mark ≡ «marks».Fine → before.told ≡ told_behind old old [] → ends before after ended
     → (done ≡ true → Keeps after.told (told_behind first new [])) → (rest : List ℕ) × Keeps after.told (told_behind first new rest)

@@ -1,4 +1,4 @@
--- The definitions on worked cases.
+-- The definitions of this crate, executed on worked cases.
 use Rattle.std.proofs.Common.{arith, ◌≡◌, ◌++◌, ◌∷◌, [], ℕ, List, Some, None, true, false, codes, inl, inr, map, refl, if◌then◌else◌}
 use Rattle.std.specs.Fmt.{digits}
 use Rattle.std.specs.Borrow.{Bor}
@@ -41,9 +41,9 @@ use Rattle.oim_files.specs.declared.early_fault.EarlyFault.TheVariants as early
 use Rattle.oim_files.specs.declared.early_fault.Source.TheVariants as source
 use Rattle.oim_run.specs.declared.outcome.Outcome.TheVariants as outcome
 
--- ---- the command line
+-- The command line.
 
--- the words of the layouts, wherever they are in memory
+-- The values of `--layout`, wherever they are in memory.
 abbrev word : Text → Bor Text
 word text = record { ref_ptr = (0, 0); now = text }
 
@@ -106,7 +106,7 @@ full_layout : first_of (codes "layout") (given full) ≡ Some (codes "lines")
 unfolding clap_on_literals command_line
 full_layout = refl
 
--- an option that is not among the rows at all
+-- An option that is not among the rows.
 no_progress : is_given None ≡ false
 no_progress = refl
 
@@ -162,7 +162,7 @@ sixty_five_workers : fault_of (command_line layouts) (codes "--workers" ∷ code
 unfolding clap_on_literals command_line
 sixty_five_workers = refl
 
--- one worker is the least, as is a ring of one block
+-- One worker is the least, as is a ring of one block.
 one_worker : fault_of (command_line layouts) (codes "--workers" ∷ codes "1" ∷ codes "--ring" ∷ codes "1" ∷ least) ≡ []
 unfolding clap_on_literals command_line
 one_worker = refl
@@ -187,7 +187,7 @@ another_word : fault_of (command_line layouts) (codes "more.json" ∷ least) ≡
 unfolding clap_on_literals command_line
 another_word = refl
 
--- ---- the files
+-- The files.
 
 early_outcomes : map outcome_of (early.Report source.Types refused.BadTypes ∷ early.CannotRead (codes "x.csv") ∷ early.Memory ∷ [])
     ≡ outcome.Report source.Types refused.BadTypes ∷ outcome.CannotRead (codes "x.csv") ∷ outcome.Run fault.Memory ∷ []
@@ -216,7 +216,7 @@ report = record {
 files_of_the_tables : table_files held (codes "f/") report ≡ Some (codes "cash\n") ∷ None ∷ None ∷ []
 files_of_the_tables = refl
 
--- ---- settings out of range
+-- Settings out of range.
 
 no_workers : range_fault 0 0 ≡ Some fault.BadWorkers
 no_workers = refl
@@ -236,7 +236,7 @@ largest_ring = refl
 ring_past_the_largest : range_fault 1 65537 ≡ Some fault.BadSize
 ring_past_the_largest = refl
 
--- ---- settings in range
+-- Settings in range.
 
 as_many_readers_as_tables : reader_fault 2 2 ≡ None
 as_many_readers_as_tables = refl
@@ -244,7 +244,7 @@ as_many_readers_as_tables = refl
 too_few_readers : reader_fault 1 2 ≡ Some fault.WrongReaders
 too_few_readers = refl
 
--- ---- outcomes
+-- Outcomes.
 
 abbrev bad_number : TableFault
 bad_number = fault_at 1 2 1 (table.Cell cell.BadNumber)
@@ -289,7 +289,7 @@ lines_of_paths : map line_of (outcome.Done ∷ outcome.CannotRead (codes "t.csv"
     ≡ [] ∷ codes "xbrl-json: cannot read t.csv\n" ∷ codes "xbrl-json: cannot write o.json\n" ∷ []
 lines_of_paths = refl
 
--- a name with a line of its own, and one that colours it; U+009B alone also begins an order
+-- A name with a line feed, and one with a colour command. U+009B by itself also begins a command.
 lines_for_a_terminal : map terminal_line_of (outcome.CannotRead (codes "a\nb" ++ 27 ∷ codes "[31m") ∷ outcome.CannotWrite (codes "o" ++ 127 ∷ 194 ∷ 155 ∷ []) ∷ outcome.Run fault.Memory ∷ [])
     ≡ codes "xbrl-json: cannot read a\\x0ab\\x1b[31m\n" ∷ codes "xbrl-json: cannot write o\\x7f\\x9b\n" ∷ codes "xbrl-json: run: Memory (53)\n" ∷ []
 unfolding chars encode digits
@@ -328,7 +328,7 @@ module _ (layout : Layout) (old new : SinkView) where
   no_tables_without_a_fault : Leaves 1 None old new (outcome.Tables []) → ⊥
   no_tables_without_a_fault leaves = leaves.2 refl
 
-  -- with one worker there is no thread that could be missing, and no ring
+  -- With one worker no thread and no ring is needed.
   threads_missing_for_two : (s : Stream) → AreHistoriesWith 2 (s ∷ []) ((Ending (Refused (file_fault 0 table.NoThread)) ∷ []) ∷ [])
   threads_missing_for_two s = inr (omega arith, (refl, tt))
 
@@ -347,7 +347,7 @@ module _ (layout : Layout) (old new : SinkView) where
   nothing_lost_by_one (inr (inl range)) = let e = range.0 in cc
   nothing_lost_by_one (inr (inr lost)) = omega (arith, lost.2)
 
-  -- a report without tables has no fault of a table
+  -- A report without tables has no fault of a table.
   no_fault_without_a_table : WritesStreams 2 layout report [] old new (unknown_header ∷ []) end.Refused → ⊥
   no_fault_without_a_table given = by given.written.histories given.written.are given.written.merged
     where

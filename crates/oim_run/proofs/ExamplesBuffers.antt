@@ -1,4 +1,4 @@
--- A folder in memory, and what the writer behind a buffer holds, on worked cases.
+-- A folder in memory, and the bytes of a writer after a buffer, on worked cases.
 use Rattle.std.proofs.Common.{◌≡◌, ◌⊎◌, ◌∙◌, ◌++◌, ◌∷◌, [], ℕ, List, Some, None, true, false, ap, codes, drop, take, inl, inr, map, refl, subst, sym}
 use mathlib.Core.List.{IsPrefix}
 use Rattle.std.specs.Str.{bytes_eq}
@@ -13,9 +13,9 @@ use Rattle.oim_run.specs.Runs.{files_of}
 use Rattle.oim_run.specs.declared.outcome.Outcome.{Outcome}
 use Rattle.oim_run.specs.declared.outcome.Outcome.TheVariants as outcome
 
--- ---- a folder in memory
+-- A folder in memory.
 
--- it has the files of its paths, as they are written; of two with one path the first counts
+-- It has the files of its paths as written. If two have one path, the first counts.
 abbrev in_memory : Files
 in_memory = files_of ((codes "f/a.csv", codes "1") ∷ (codes "f/b.csv", codes "2") ∷ (codes "f/a.csv", codes "3") ∷ (codes "f/c.csv", []) ∷ [])
 
@@ -25,23 +25,23 @@ files_in_memory = refl
 no_files_in_memory : map in_memory (codes "f/d.csv" ∷ codes "a.csv" ∷ codes "F/A.CSV" ∷ codes "f/" ∷ [] ∷ []) ≡ None ∷ None ∷ None ∷ None ∷ None ∷ []
 no_files_in_memory = refl
 
--- ---- what a writer holds and what waits before it
+-- The bytes that a writer holds, and those that wait before it.
 
--- both, behind the number of bytes that it held at first
+-- Both, after the count of bytes that it held at first.
 told_of_a_buffer : told_behind (Some (codes "ab")) (Some (codes "abc")) (codes "de") ∷ told_since 3 (codes "abc") [] ∷ []
     ≡ Some (2 ∷ codes "abcde") ∷ Some (3 ∷ codes "abc") ∷ []
 told_of_a_buffer = refl
 
--- nothing is told of a writer that tells nothing, or that holds less than at first
+-- Nothing is known of a writer whose bytes contracts do not see, or that holds less than at first.
 untold : told_behind None (Some (codes "abc")) (codes "de") ∷ told_behind (Some (codes "ab")) None (codes "de") ∷ told_since 4 (codes "abc") [] ∷ [] ≡ None ∷ None ∷ None ∷ []
 untold = refl
 
--- ---- a run through a buffer
+-- A run through a buffer.
 
 abbrev sink : List ℕ → SinkView
 sink bs = sink_at marks.Fine (Some bs)
 
--- a run that wrote two bytes behind another to its buffer, before a writer that held two others
+-- A run that wrote two bytes after another to its buffer, before a writer that held two others.
 abbrev wrote_two : SinkView → SinkView → Outcome → Type 0
 wrote_two before after o = (before ≡ sink (codes "x")) × (after ≡ sink (codes "xyz")) × (o ≡ outcome.Done)
 
@@ -60,7 +60,7 @@ holds_none text e = ([], (codes "yz", two_bytes text e), refl)
 differ : (a b : List ℕ) → bytes_eq a b ≡ false → bytes_eq a a ≡ true → a ≡ b → ⊥
 differ a b apart same e = let t : true ≡ false = sym same ∙ ap (bytes_eq a) e ∙ apart in cc
 
--- the second byte without the first is no beginning
+-- The second byte without the first is not a prefix.
 holds_the_other : HoldsSome (sink (codes "x")) (sink (codes "xyz")) (Some (codes "ab")) (Some (codes "abz")) → ⊥
 holds_the_other holds = by (holds (codes "yz") refl)
   where
@@ -70,7 +70,8 @@ holds_the_other holds = by (holds (codes "yz") refl)
         let whole : codes "z" ++ rest ≡ codes "yz" = ap (λ bs. bs ++ rest) z ∙ e in
         differ (codes "z") (codes "y") refl refl (ap (take 1) whole)
 
--- the writer holds all, or the buffer could not be flushed at the end and it holds a beginning, or memory ran out for the buffer and it holds nothing more
+-- The writer holds all; or the outcome is as after a failed flush and it holds a prefix; or memory
+-- ran out for the buffer and it holds nothing more.
 all_behind : Buffered wrote_two (Some (codes "ab")) (Some (codes "abyz")) outcome.Done
 all_behind = inr (record { ended = outcome.Done; before = sink (codes "x"); after = sink (codes "xyz"); fine = refl; run = (refl, refl, refl); last = inl (refl, holds_both) })
 
@@ -89,7 +90,7 @@ no_room_and_written new (inr b) = absurd (by b.last)
     by (inl l) = let e : outcome.Run fault.Memory ≡ outcome.Done = l.0 ∙ b.run.2 in cc
     by (inr l) = let e : outcome.Run fault.Memory ≡ outcome.Output write.Failed = l.0 ∙ ap flushed b.run.2 in cc
 
--- with Done it holds exactly that
+-- With Done it holds exactly that.
 holds_all_when_done : (new : List ℕ) → Buffered wrote_two (Some (codes "ab")) (Some new) outcome.Done → new ≡ codes "abyz"
 holds_all_when_done new (inl none) = absurd (cc none.0)
 holds_all_when_done new (inr b) = by b.last

@@ -13,7 +13,7 @@ use Rattle.oim_rows.specs.declared.fault.TableKind.TheVariants as table
 use Rattle.oim_run.specs.state.Naming.{outcome_alone, outcome_at, outcome_by, with_names}
 use Rattle.oim_run.specs.declared.outcome.Outcome.TheVariants as outcome
 
--- NAMES
+-- Names.
 abbrev names : List (List ℕ)
 names = codes "a" ∷ codes "b" ∷ codes "c" ∷ []
 
@@ -23,15 +23,15 @@ no_file i = fault_at i 0 0 table.NoFile
 abbrev bad_number : TableFault
 bad_number = fault_at 1 2 1 (table.Cell cell.BadNumber)
 
--- each fault has the name of its own table, whatever the order
+-- Each fault has the name of its own table, whatever the order.
 names_by_place : with_names names (no_file 2 ∷ bad_number ∷ []) ≡ (codes "c", no_file 2) ∷ (codes "b", bad_number) ∷ []
 names_by_place = refl
 
--- a name is given once, and no name stands past the last
+-- A name is used once, and there is no name past the last.
 names_given_once : with_names names (no_file 0 ∷ no_file 0 ∷ no_file 3 ∷ []) ≡ (codes "a", no_file 0) ∷ ([], no_file 0) ∷ ([], no_file 3) ∷ []
 names_given_once = refl
 
--- OUTCOMES
+-- Outcomes.
 failed_write : outcome_at names (no_file 0 ∷ []) (end.Write write.Zero) ≡ outcome.Output write.Zero
 failed_write = refl
 
@@ -46,7 +46,7 @@ did_not_run : map (λ f. outcome_by names (Err f)) (fault.BadWorkers ∷ fault.B
     ≡ outcome.Run fault.BadWorkers ∷ outcome.Run fault.BadSize ∷ outcome.Run fault.WrongReaders ∷ outcome.Run fault.Memory ∷ outcome.Run fault.Lost ∷ []
 did_not_run = refl
 
--- the same on one thread
+-- The same on one thread.
 done_alone : outcome_alone names (Ok tt) ≡ outcome.Done
 done_alone = refl
 

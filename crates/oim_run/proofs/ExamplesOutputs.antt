@@ -1,4 +1,4 @@
--- Where a document goes, whose outcome a run has, and what is told of it, on worked cases.
+-- The output of a document, the outcome of its run, and what is printed of it, on worked cases.
 use Rattle.std.proofs.Common.{◌≡◌, ◌∙◌, ◌++◌, ◌∷◌, [], ℕ, List, Option, Some, None, true, false, ap, arith, codes, inl, inr, refl, subst, sym}
 use Rattle.std.specs.Str.{bytes_eq, chars}
 use lib.Utf8.{encode}
@@ -14,13 +14,13 @@ use Rattle.oim_run.specs.CommandLine.{IsInput}
 use Rattle.oim_run.specs.Lines.{status_of}
 use Rattle.oim_run.specs.Outputs.{Deed, Did, Ended, EndsFor, EndsTold, IsLeftUnwritten, IsToldBy, Opened, RunsOnce, RunsTo, RunsTold, Says, SaysLast}
 use Rattle.oim_run.specs.state.Outputs.{RunsInto}
-use Rattle.oim_run.specs.declared.ending.Ending.{Ending}
-use Rattle.oim_run.specs.declared.ending.Ending.TheVariants as ending
+use Rattle.oim_run.specs.declared.run_end.RunEnd.{RunEnd}
+use Rattle.oim_run.specs.declared.run_end.RunEnd.TheVariants as ending
 use Rattle.oim_run.specs.declared.outcome.Outcome.{Outcome}
 use Rattle.oim_run.specs.declared.outcome.Outcome.TheVariants as outcome
 use Rattle.oim_run.specs.declared.request.Request.{Request}
 
--- DEEDS
+-- Deeds.
 abbrev o_json : List ℕ
 o_json = codes "o.json"
 
@@ -30,7 +30,7 @@ f_csv = codes "f.csv"
 abbrev refused_path : Deed
 refused_path = Opened (Some o_json) None
 
--- what was done stands behind what was done before, and nothing else does
+-- A deed is recorded after the earlier ones, and nothing else is.
 one_deed : Did (Some (refused_path ∷ [])) (refused_path ∷ []) (Some (refused_path ∷ refused_path ∷ []))
 one_deed = refl
 
@@ -40,22 +40,23 @@ deed_left_out did = absurd (cc did)
 deeds_that_are_not_told : Did None (refused_path ∷ []) (Some [])
 deeds_that_are_not_told = tt
 
--- WHAT IS TOLD
+-- The outcome to report.
 told_of_what_is_kept : IsToldBy (Some o_json) (Some f_csv) ending.Kept (outcome.Output write.Zero) (outcome.Output write.Zero)
 told_of_what_is_kept = refl
 
--- a document that is not where it belongs is a failed write; where there was none, the outcome stays
+-- A document that is not in its place is a failed write. If there was no document, the outcome
+-- stays.
 told_of_what_is_not_kept : IsToldBy (Some o_json) (Some f_csv) ending.NotKept outcome.Done (outcome.Output write.Failed)
     × IsToldBy (Some o_json) (Some f_csv) ending.NotKept (outcome.CannotRead (codes "m.json")) (outcome.CannotRead (codes "m.json"))
 told_of_what_is_not_kept = (refl, refl)
 
--- a file that the report reads cannot be written, for which memory may be short
+-- A file that the report reads cannot be written. Memory may run out for its path.
 told_of_a_file_that_is_read : IsToldBy (Some o_json) (Some f_csv) ending.IsRead outcome.Done (outcome.CannotWrite o_json)
     × IsToldBy (Some o_json) (Some f_csv) ending.FaultsAreRead outcome.Done (outcome.CannotWrite f_csv)
     × IsToldBy (Some o_json) (Some f_csv) ending.IsRead outcome.Done (outcome.Run fault.Memory)
 told_of_a_file_that_is_read = (inl refl, inl refl, inr refl)
 
--- there is no such file where the words name none
+-- Without the option there is no such file.
 told_where_no_file_is_named : IsToldBy None None ending.IsRead outcome.Done outcome.Done × IsToldBy None None ending.FaultsAreRead outcome.Done outcome.Done
 told_where_no_file_is_named = (refl, refl)
 
@@ -66,8 +67,7 @@ file_that_is_read_ends_well : IsToldBy (Some o_json) None ending.IsRead outcome.
 file_that_is_read_ends_well (inl e) = absurd (cc e)
 file_that_is_read_ends_well (inr e) = absurd (cc e)
 
--- ONE RUN
--- a run that writes one byte, and is then done
+-- One run: a run that writes one byte, and is then done.
 abbrev writes_x : (old new : Option (List ℕ)) → Outcome → Type 0
 writes_x old new o = Appends old new (codes "x") × (o ≡ outcome.Done)
 
@@ -77,11 +77,11 @@ empty = Some []
 abbrev x : Option (List ℕ)
 x = Some (codes "x")
 
--- an output was opened, and ended so with this in its writer
-abbrev deeds : Option (List ℕ) → Option (List ℕ) → Ending → List Deed
+-- An output was opened, and ended so with these bytes in its writer.
+abbrev deeds : Option (List ℕ) → Option (List ℕ) → RunEnd → List Deed
 deeds path holds how = Opened path (Some empty) ∷ Ended holds outcome.Done how ∷ []
 
--- one run to a file
+-- One run to a file.
 abbrev Once : List Deed → Outcome → Type 0
 Once done o = RunsOnce writes_x (Some o_json) None (Some o_json) (Some []) (Some done) o
 
@@ -100,7 +100,7 @@ opened_and_not_ended once = let e = once.done in absurd (cc e)
 run_twice : Once (deeds (Some o_json) x ending.Kept ++ deeds (Some o_json) x ending.Kept) outcome.Done → ⊥
 run_twice once = let e = once.done in absurd (cc e)
 
--- the path of the first deed, and what the second one tells
+-- The path of the first deed, and the bytes of the second.
 abbrev path_in : Option (List Deed) → Option (List ℕ)
 path_in (Some (Opened path holds ∷ more)) = path
 path_in other = None
@@ -117,14 +117,14 @@ abbrev ran_in : Option (List Deed) → Outcome
 ran_in (Some (one ∷ Ended holds ran how ∷ more)) = ran
 ran_in other = outcome.Done
 
-abbrev how_in : Option (List Deed) → Ending
+abbrev how_in : Option (List Deed) → RunEnd
 how_in (Some (one ∷ Ended holds ran how ∷ more)) = how
 how_in other = ending.IsRead
 
 run_to_another_output : Once (deeds None x ending.Kept) outcome.Done → ⊥
 run_to_another_output once = let e : None ≡ Some o_json = ap path_in once.done in absurd (cc e)
 
--- what the output is ended with is what the run wrote
+-- The output is ended with the bytes that the run wrote.
 run_that_is_thrown_away : Once (deeds (Some o_json) empty ending.Kept) outcome.Done → ⊥
 run_that_is_thrown_away once = absurd (cc wrote)
   where
@@ -140,7 +140,7 @@ run_that_is_thrown_away once = absurd (cc wrote)
     wrote : [] ≡ codes "x"
     wrote = subst (λ (v : Option (List ℕ)). Appends empty v (codes "x")) (sym last) from
 
--- what is told is the outcome of that run, by how its output ended
+-- The outcome to report is that of this run, by the end of its output.
 another_outcome_told : Once (deeds (Some o_json) x ending.Kept) (outcome.Output write.Zero) → ⊥
 another_outcome_told once = absurd (cc told)
   where
@@ -148,7 +148,7 @@ another_outcome_told once = absurd (cc told)
     how = ap how_in once.done
 
     by : IsToldBy (Some o_json) None ending.Kept once.ran (outcome.Output write.Zero)
-    by = subst (λ (v : Ending). IsToldBy (Some o_json) None v once.ran (outcome.Output write.Zero)) (sym how) once.told
+    by = subst (λ (v : RunEnd). IsToldBy (Some o_json) None v once.ran (outcome.Output write.Zero)) (sym how) once.told
 
     told : outcome.Output write.Zero ≡ outcome.Done
     told = by ∙ once.run.1
@@ -163,12 +163,12 @@ not_kept_and_done once = absurd (cc told)
     ran = ap ran_in once.done
 
     by : IsToldBy (Some o_json) None ending.NotKept once.ran outcome.Done
-    by = subst (λ (v : Ending). IsToldBy (Some o_json) None v once.ran outcome.Done) (sym how) once.told
+    by = subst (λ (v : RunEnd). IsToldBy (Some o_json) None v once.ran outcome.Done) (sym how) once.told
 
     told : outcome.Done ≡ outcome.Output write.Failed
     told = subst (λ (v : Outcome). IsToldBy (Some o_json) None ending.NotKept v outcome.Done) (sym ran) by
 
--- THE OUTPUT THAT THE WORDS NAME
+-- The output of `--out`.
 abbrev asked : Option (List ℕ) → Option (List ℕ) → Request
 asked out faults = record {
   settings = record { meta = codes "m.json"; types = codes "t.csv"; workers = 4; ring = 1; out = out; layout = layout.Compact };
@@ -188,18 +188,18 @@ not_an_input (inr e) = differ o_json (codes "t.csv") refl refl e
 abbrev sink : List ℕ → SinkView
 sink bs = sink_at marks.Fine (Some bs)
 
--- a run of which is known only what each outcome leaves behind
+-- A run over a folder whose files contracts do not see: only what each outcome leaves is known.
 runs : RunsTo None (asked None None).settings empty x outcome.Done
 runs = (tt, inr (record { ended = outcome.Done; before = sink []; after = sink (codes "x"); fine = refl; run = (refl, refl); last = inl (refl, λ text e. e) }))
 
--- to an output that is open already, nothing but the run and its end is done
+-- Only the run and its end are done to an output that is open already.
 run_into_an_open_output : RunsInto None (asked None None) empty (Some (refused_path ∷ [])) (Some (refused_path ∷ Ended x outcome.Done ending.Kept ∷ [])) outcome.Done
 run_into_an_open_output = record { last = x; ran = outcome.Done; how = ending.Kept; run = runs; done = refl; told = refl }
 
 open_output_is_not_ended : RunsInto None (asked None None) empty (Some (refused_path ∷ [])) (Some (refused_path ∷ [])) outcome.Done → ⊥
 open_output_is_not_ended into = let e = into.done in absurd (cc e)
 
--- standard output where the words name no file, and else that file
+-- Standard output without `--out`, and else that file.
 to_standard_output : EndsFor None (asked None None) (Some []) (Some (deeds None x ending.Kept)) outcome.Done
 to_standard_output = record { first = empty; last = x; ran = outcome.Done; how = ending.Kept; run = runs; done = refl; told = refl }
 
@@ -214,7 +214,7 @@ to_standard_output_in_place_of_its_file (inr (inr ran)) = let e : None ≡ Some 
 to_a_file_that_is_not_named : EndsFor None (asked None None) (Some []) (Some (deeds (Some o_json) x ending.Kept)) outcome.Done → ⊥
 to_a_file_that_is_not_named once = let e : Some o_json ≡ None = ap path_in once.done in absurd (cc e)
 
--- the file cannot be opened, for which memory may be short
+-- The file cannot be opened. Memory may run out for its path.
 file_cannot_be_opened : EndsFor None (asked (Some o_json) None) (Some []) (Some (refused_path ∷ [])) (outcome.CannotWrite o_json)
 file_cannot_be_opened = inr (inl (not_an_input, refl, inl refl))
 
@@ -227,7 +227,7 @@ unopened_and_done (inr (inl (other, did, inl e))) = absurd (cc e)
 unopened_and_done (inr (inl (other, did, inr e))) = absurd (cc e)
 unopened_and_done (inr (inr ran)) = let e = ran.1.done in absurd (cc e)
 
--- nothing is done for the path of an input
+-- Nothing is done for the path of an input.
 over_the_metadata : EndsFor None (asked (Some (codes "m.json")) None) (Some []) (Some []) (outcome.CannotWrite (codes "m.json"))
 over_the_metadata = inl (inl refl, refl, inl refl)
 
@@ -236,14 +236,14 @@ over_the_types_table did o (inl over) = over.1
 over_the_types_table did o (inr (inl unopened)) = absurd (unopened.0 (inr refl))
 over_the_types_table did o (inr (inr ran)) = absurd (ran.0 (inr refl))
 
--- WHAT IS SAID
+-- Printing.
 abbrev line : List ℕ
 line = codes "xbrl-json: cannot write o.json\n"
 
 abbrev unwritten : Outcome
 unwritten = outcome.CannotWrite o_json
 
--- the line is said as one text behind what was said before, or nothing is, where memory ran out for it
+-- The line is printed as one text after the earlier ones, or nothing is printed.
 line_said : Says (Some false) unwritten (Some (codes "a" ∷ [])) (Some (codes "a" ∷ line ∷ []))
 line_said = inr (inl (refl, refl))
 
@@ -255,7 +255,7 @@ line_said_twice (inl e) = absurd (cc e)
 line_said_twice (inr (inl (is, e))) = absurd (cc e)
 line_said_twice (inr (inr (is, e))) = absurd (cc is)
 
--- no one but a terminal is told a path with its control characters escaped
+-- Only a terminal gets a path with its control characters escaped.
 abbrev wide : Outcome
 wide = outcome.CannotWrite (codes "a\nb")
 
@@ -281,11 +281,11 @@ escaped_in_a_file (inl e) = absurd (cc e)
 escaped_in_a_file (inr (inl (is, e))) = differ (codes "xbrl-json: cannot write a\\x0ab\n") (codes "xbrl-json: cannot write a\nb\n") refl refl (ap said_first e)
 escaped_in_a_file (inr (inr (is, e))) = absurd (cc is)
 
--- THE FILE OF THE FAULTS
+-- The file of the faults.
 abbrev refused : Outcome
 refused = outcome.Tables ((codes "t2", fault_at 1 0 0 table.NoFile) ∷ [])
 
--- it is missed only where the words name it and the status is 0 or 1
+-- It is missed only if the option is given and the status is 0 or 1.
 faults_not_written : IsLeftUnwritten (Some f_csv) refused (outcome.CannotWrite f_csv)
 faults_not_written = (omega arith, inl refl)
 
@@ -303,7 +303,8 @@ faults_of_another_path (status, inl e) = differ o_json f_csv refl refl (ap path_
     path_of other = []
 faults_of_another_path (status, inr e) = absurd (cc e)
 
--- the status is that of the run, and nothing more is said; or that of the file of the faults, and so it is said
+-- The status is that of the run, and nothing more is printed; or it is that of the file of the
+-- faults, which is printed.
 status_of_the_run : SaysLast (Some false) (Some f_csv) refused (Some (line ∷ [])) (Some (line ∷ [])) 1
 status_of_the_run = inl (refl, refl)
 
@@ -322,8 +323,8 @@ refused_tables_without_a_file_of_faults : SaysLast (Some false) None refused (So
 refused_tables_without_a_file_of_faults (inl (same, status)) = absurd (cc status)
 refused_tables_without_a_file_of_faults (inr (last, left, says, status)) = left
 
--- THE PROGRAM
--- the file of the document cannot be opened, that is said once, and the status is 3
+-- The program: the file of the document cannot be opened, that is printed once, and the status is
+-- 3.
 program_without_its_file : EndsTold None (asked (Some o_json) None) (Some []) (Some (refused_path ∷ [])) (Some false) (Some []) (Some (line ∷ [])) 3
 program_without_its_file = record { ended = unwritten; once = file_cannot_be_opened; between = Some (line ∷ []); says = inr (inl (refl, refl)); last = inl (refl, refl) }
 
@@ -333,7 +334,7 @@ program_that_ends_well = record { ended = outcome.Done; once = to_standard_outpu
 program_that_does_nothing : EndsTold None (asked None None) (Some []) (Some []) (Some false) (Some []) (Some []) 0 → ⊥
 program_that_does_nothing ends = let e = ends.once.done in absurd (cc e)
 
--- a run whose outcome is told
+-- A run whose outcome is printed.
 abbrev Told : Option (List (List ℕ)) → ℕ → Type 0
 Told said status = RunsTold writes_x empty x (Some false) (Some []) said status
 

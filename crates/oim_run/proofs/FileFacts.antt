@@ -1,4 +1,4 @@
--- The file of a reader that a folder opened is one of the files of a report's tables.
+-- A file that a folder opened for a reader is one of the files of a report's tables.
 use Rattle.std.proofs.Common.{List, ℕ, Option, IfSome}
 use Rattle.oim_records.specs.Reads.{IsFileOf}
 use Rattle.oim_files.specs.Folders.{Files}

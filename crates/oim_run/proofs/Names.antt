@@ -25,9 +25,9 @@ use Rattle.oim_rows.specs.declared.fault.TableFault.{TableFault}
 use Rattle.oim_run.specs.state.Naming.{with_names, name_in, table_ids}
 use Rattle.oim_run.specs.Outcomes.{named_by, refused_tables}
 
--- ONE FAULT OF A TABLE, IN TABLE ORDER
+-- One fault of a table, in table order.
 
--- the faults are in the order of their tables, at most one of each, from table i on
+-- The faults are in the order of their tables, at most one of each, from table i on.
 abbrev pub Rises : ℕ → List TableFault → Type 0
 Rises i [] = ⊤
 Rises i (e ∷ faults) = (i ≤ e.table) × Rises (e.table + 1) faults
@@ -65,7 +65,7 @@ histories_rise : (report : ReportValue) (limit : ℕ) (files : List (Option (Lis
 histories_rise report limit files hs (inl decoded) = decoded_rises report limit 0 files hs decoded
 histories_rise report limit files hs (inr none) = unserved_rises 0 (streams report limit files) hs none
 
--- THEIR NAMES
+-- Their names.
 
 rising_names : (name : ℕ → List ℕ) (names : List (List ℕ)) (i : ℕ) (faults : List TableFault) → ((p : ℕ) → i ≤ p → name_in names p ≡ name p)
     → Rises i faults → with_names names faults ≡ named_by name faults
@@ -83,7 +83,7 @@ names_are report limit files hs names faults named are is =
     (λ p le. ap (λ ns. name_in ns p) named ∙ get_or-map (λ (t : Table). t.id) report.tables p no_table)
     (subst (λ (l : List TableFault). Rises 0 l) (sym is) (histories_rise report limit files hs are))
 
--- THEIR NUMBER
+-- Their count.
 
 ended_once : (h : List Item) → EndsOnce h → length (refusals h) ≤ 1
 ended_once h once =

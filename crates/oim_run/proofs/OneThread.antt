@@ -1,12 +1,12 @@
 -- The end of a conversion on one thread, as an outcome.
-use Rattle.std.specs.Prelude.{◌≡◌, ◌≢◌, ◌↔◌, ℕ, Bool, true, false, ◌==◌, if◌then◌else◌, List, [], Option, Some, None, Result, Ok, Err}
+use Rattle.std.specs.Prelude.{◌≡◌, ◌≢◌, ◌↔◌, ℕ, Bool, true, false, ◌==◌, if◌then◌else◌, List, [], Option, Some, None, Result, Ok, Err, length}
 use Rattle.std.proofs.Common.{refl, sym, ap, subst, inl, inr, ◌∙◌}
 use Rattle.std.proofs.lemmas.Bool.{eq-eqb, eqb-true}
 use Rattle.oim_convert.proofs.RunHistories.{uncut_streams}
 use Rattle.oim_convert.proofs.StreamHistories.{streams_answer, streams_decoded}
 use Rattle.oim_convert.specs.Answer.{IsAnswer, histories_of, streams}
 use Rattle.oim_convert.specs.Histories.{AreDecoded}
-use Rattle.oim_convert.specs.Runs.{AreHistories}
+use Rattle.oim_convert.specs.Runs.{AreHistories, early_fault}
 use Rattle.oim_convert.specs.Serial as serial
 use Rattle.oim_convert.specs.WrittenHistories.{WritesHistories}
 use Rattle.oim_convert.specs.declared.fault.ConvertFault.{ConvertFault}
@@ -23,19 +23,20 @@ use Rattle.oim_run.proofs.Beginnings.{begun}
 use Rattle.oim_run.proofs.Names.{names_are}
 use Rattle.oim_run.proofs.Stopped.{stops}
 use Rattle.oim_run.proofs.Threads.{no_names, uncut}
-use Rattle.oim_run.specs.state.Courses.{reader_fault}
+use Rattle.oim_run.specs.state.Courses.{alone, reader_fault}
 use Rattle.oim_run.specs.state.Naming.{outcome_alone, with_names, table_ids}
-use Rattle.oim_run.specs.Outcomes.{AreDefined, EndsAs, Leaves, Refuses, WritesStreams}
+use Rattle.oim_run.specs.Outcomes.{AreDefined, ConvertsBy, EndsAs, Leaves, LeavesBy, Refuses, WritesStreams}
+use Rattle.oim_run.specs.declared.conversion.Course.{Course}
 use Rattle.oim_run.specs.declared.outcome.Outcome.{Outcome}
 
 abbrev Answer : Type 0
 Answer = Result (Unit {0}) ConvertFault
 
--- the answer is WrongReaders exactly where there are not as many readers as tables
+-- The answer is WrongReaders exactly if the number of readers is not the number of tables.
 abbrev AnswersReaders : ℕ → ℕ → Answer → Type 0
 AnswersReaders readers tables r = (r ≡ Err fault.WrongReaders) ↔ (readers ≢ tables)
 
--- whether there are as many readers as tables
+-- Whether the number of readers is the number of tables.
 module _ (readers tables : ℕ) (r : Answer) (told : AnswersReaders readers tables r) where
   not_wrong : (readers == tables) ≡ true → r ≡ Err fault.WrongReaders → ⊥
   not_wrong same wrong = told.0 wrong (eqb-true readers tables same)
@@ -46,7 +47,7 @@ module _ (readers tables : ℕ) (r : Answer) (told : AnswersReaders readers tabl
   found_as : (b : Bool) → (readers == tables) ≡ b → reader_fault readers tables ≡ (if b then None else Some fault.WrongReaders)
   found_as b is = ap (λ (c : Bool). if c then None else Some fault.WrongReaders) is
 
--- HOW IT ENDS
+-- The end.
 
 module _ (workers : ℕ) (layout : Layout) (report : ReportValue) (limit : ℕ) (files : List (Option (List ℕ))) (old new : SinkView) (names : List (List ℕ)) (named : names ≡ table_ids report) where
   abbrev said : List Stream
@@ -105,7 +106,7 @@ module _ (workers : ℕ) (layout : Layout) (report : ReportValue) (limit : ℕ) 
       subst (λ (e : Option ConvertFault). EndsBy e o) (sym found)
       (subst (EndsBy (reader_fault readers tables)) (sym ending) (ends_by readers tables r told is (readers == tables) refl))
 
--- WHAT IT LEAVES BEHIND
+-- What it leaves in the sink.
 
 module _ (workers : ℕ) (layout : Layout) (report : ReportValue) (old new : SinkView) (names : List (List ℕ)) where
   left_in_range : (r : Answer) → (r ≡ Err fault.WrongReaders → ⊥) → serial.Leaves old new r → Leaves workers None old new (outcome_alone names r)
@@ -132,3 +133,24 @@ module _ (workers : ℕ) (layout : Layout) (report : ReportValue) (old new : Sin
   alone_leaves readers tables early r o found ending told is =
       subst (λ (e : Option ConvertFault). Leaves workers e old new o) (sym found)
       (subst (Leaves workers (reader_fault readers tables) old new) (sym ending) (left_by readers tables r told is (readers == tables) refl))
+
+-- A conversion by a course with one worker, from one on one thread.
+
+-- The course has one worker, and its settings are in range.
+abbrev IsOne : Course → Type 0
+IsOne c = (readers tables : ℕ) → early_fault c.workers c.ring readers tables ≡ reader_fault readers tables
+
+pub as_alone : {R : Type 0} (told : R → Option (List ℕ)) (c : Course) (report : ReportValue) (readers : List (Option R)) (old new : SinkView) (o : Outcome)
+    → c.workers ≡ 1 → IsOne c → ConvertsBy told (alone c.limits c.layout) report readers old new o → ConvertsBy told c report readers old new o
+as_alone told c report readers old new o one range ends = λ files are.
+    let found = streams report c.limits.rows files in
+    let many = length files in
+    let tables = length report.tables in
+    subst (λ w. EndsAs w c.layout (early_fault c.workers c.ring many tables) report found old new o) (sym one)
+    (subst (λ (e : Option ConvertFault). EndsAs 1 c.layout e report found old new o) (sym (range many tables)) (ends files are))
+
+pub as_alone_leaves : (c : Course) (readers tables : ℕ) (old new : SinkView) (o : Outcome)
+    → c.workers ≡ 1 → IsOne c → LeavesBy (alone c.limits c.layout) readers tables old new o → LeavesBy c readers tables old new o
+as_alone_leaves c readers tables old new o one range left =
+    subst (λ w. Leaves w (early_fault c.workers c.ring readers tables) old new o) (sym one)
+    (subst (λ (e : Option ConvertFault). Leaves 1 e old new o) (sym (range readers tables)) left)

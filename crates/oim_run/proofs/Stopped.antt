@@ -1,4 +1,5 @@
--- What is written where tables are refused: all of the tables before the first of them, and a beginning of that one.
+-- The text written if tables are refused: all of the tables before the first of them, and a prefix
+-- of that one.
 use Rattle.std.specs.Prelude.{◌≡◌, ℕ, ◌+◌, List, [], ◌∷◌, ◌++◌, Option, Some, None, length}
 use Rattle.std.proofs.Common.{arith, refl, sym, ap, ◌∙◌, subst, inl, inr, append-nil, append_assoc}
 use mathlib.Core.List.{IsPrefix}
@@ -29,7 +30,7 @@ use Rattle.oim_rows.specs.declared.fault.TableFault.{TableFault}
 use Rattle.oim_rows.specs.declared.fault.TableKind.TheVariants as kind
 use Rattle.oim_run.specs.Outcomes.{StopsAt, StopsInTable, facts_of_streams}
 
--- ONE TABLE
+-- One table.
 
 closed_none : (o : Option TableFault) → Closed ≡ ending_of o → o ≡ None
 closed_none None e = refl
@@ -45,7 +46,7 @@ given_some i s facts e (inl whole) = subst (λ (fs : List Fact). IsPrefix fs (fa
 given_some i s facts e (inr (inl unread)) = subst (λ (fs : List Fact). IsPrefix fs (facts_of s)) (sym unread.holds) (first_rows unread.rows s.rows unread.some)
 given_some i s facts e (inr (inr short)) = short.some
 
--- the table is whole, and the first refused one comes later
+-- The table is whole, and the first refused one is a later one.
 goes_on : (i : ℕ) (s : Stream) (ss : List Stream) (facts : List Fact) (items : List Item) → (facts ≡ facts_of s) × (s.fault ≡ None) → (f : TableFault)
     → StopsAt (i + 1) ss f (facts_before items) → StopsAt i (s ∷ ss) f (facts ++ facts_before items)
 goes_on i s ss facts items whole f at = record {
@@ -80,7 +81,7 @@ ends_or_goes i s ss facts (Refused x) items given own f rest is go =
       facts = append-nil facts;
     }
 
--- ALL TABLES
+-- All tables.
 
 decoded_stop : (report : ReportValue) (limit i : ℕ) (fs : List (Option (List ℕ))) (hs : List (List Item)) → AreDecoded i (streams_from report limit i fs) hs
     → (f : TableFault) (rest : List TableFault) → refusals (all_of hs) ≡ f ∷ rest → StopsAt i (streams_from report limit i fs) f (facts_before (all_of hs))
@@ -123,7 +124,7 @@ histories_stop : (report : ReportValue) (limit : ℕ) (files : List (Option (Lis
 histories_stop report limit files hs (inl decoded) f rest is = decoded_stop report limit 0 files hs decoded f rest is
 histories_stop report limit files hs (inr unserved) f rest is = unserved_stop 0 (streams report limit files) hs unserved f rest is
 
--- THE TEXT
+-- The text.
 
 module _ (layout : Layout) (report : ReportValue) (limit : ℕ) (files : List (Option (List ℕ))) (old new : SinkView) where
   pub stops : (faults : List TableFault) → WritesHistories (AreHistories (streams report limit files)) layout report old new faults end.Refused

@@ -32,7 +32,7 @@ use Rattle.oim_run.specs.Outcomes.{AreDefined, AreHistoriesWith, EndsAs, Leaves,
 use Rattle.oim_run.specs.Runs.{range_fault}
 use Rattle.oim_run.specs.declared.outcome.Outcome.TheVariants as outcome
 
--- THE FAULT THAT IS FOUND FIRST
+-- The fault that is found first.
 
 chosen : (a b c : Bool) → (if a then Some fault.BadWorkers else if b then Some fault.BadSize else if c then None else Some fault.WrongReaders) ≡ Some fault.Lost → ⊥
 chosen true b c e = cc
@@ -49,7 +49,7 @@ in_range workers ring readers tables same =
     else if nat_lt ring 1 || nat_lt largest_ring ring then Some fault.BadSize
     else if b then None else Some fault.WrongReaders) (eq-eqb readers tables same)
 
--- THE ANSWER THAT IS DEFINED
+-- The answer that is defined.
 
 defined_both : (xs ys : List TableFault) → AreDefined (xs ++ ys) → AreDefined xs × AreDefined ys
 defined_both [] ys all = (tt, all)
@@ -68,7 +68,7 @@ uncut (h ∷ hs) all =
     let both = defined_both (refusals h) (refusals (all_of hs)) (subst (λ (l : List TableFault). AreDefined l) (all_refusals h (all_of hs)) all) in
     (not_cut h both.0, uncut hs both.1)
 
--- THE END
+-- The end.
 
 with_workers : (workers : ℕ) → 1 < workers → (ss : List Stream) (hs : List (List Item)) → AreHistories ss hs → AreHistoriesWith workers ss hs
 with_workers workers several ss hs (inl decoded) = inl decoded
@@ -95,7 +95,7 @@ module _ (workers : ℕ) (layout : Layout) (report : ReportValue) (ss : List Str
   ended names faults end.Refused named gives stop = record { faults = faults; names = named; given = gives; stops = stop refl }
   ended names faults (end.Write w) named gives stop = (faults, gives)
 
--- THE ANSWER
+-- The answer.
 
 ok_no_err : {A B : Type 0} (a : A) (b : B) → Ok a ≡ Err b → ⊥
 ok_no_err a b e = cc
@@ -136,7 +136,7 @@ module _ (workers : ℕ) (layout : Layout) (report : ReportValue) (limit : ℕ) 
   answered (Some f) (Err (fault.Tables e)) never several histories headline faults writes = absurd writes
   answered (Some f) (Err (fault.Write w)) never several histories headline faults writes = absurd writes
 
--- a list with room for one fault of each table
+-- A list with room for one fault of each table.
 pub roomy : (layout : Layout) (report : ReportValue) (tables room : ℕ) (old new : SinkView) (r : Result Run ConvertFault) → room ≡ tables → Writes layout report tables old new r
     → IfOk r (λ run. length run.faults.items ≤ room)
 roomy layout report tables room old new (Ok run) same writes =
@@ -146,7 +146,7 @@ roomy layout report tables room old new (Ok run) same writes =
     omega (arith, few, all, count, same)
 roomy layout report tables room old new (Err f) same writes = tt
 
--- WHAT AN OUTCOME LEAVES BEHIND
+-- What an outcome leaves in the sink.
 
 module _ (workers : ℕ) (layout : Layout) (report : ReportValue) (tables : ℕ) (old new : SinkView) (names : List (List ℕ)) where
   pub no_names : (faults : List TableFault) → with_names names faults ≡ [] → faults ≡ []

@@ -1,4 +1,4 @@
--- What a writer behind a buffer holds, and what waits before it.
+-- The bytes that a writer after a buffer holds, and those that wait before it.
 use Rattle.std.specs.Prelude.{◌≡◌, ℕ, ◌≤◌, ◌<◌, nat_le, if◌then◌else◌, Bool, true, false, List, [], ◌∷◌, ◌++◌, Option, Some, None, length}
 use mathlib.Core.List.{IsPrefix}
 use Rattle.std.proofs.Common.{arith, refl, sym, ap, ◌∙◌, subst, append-nil}
@@ -45,7 +45,7 @@ begin_if before = by (nat_le (length before) (length before)) refl
     by true at = refl
     by false at = absurd (let less : length before < length before = leb-false (length before) (length before) at in omega (arith, less))
 
--- the writer took a beginning of the text that was told, and the rest waits
+-- The writer took a prefix of the text, and the rest waits.
 pub took_some : (before first now : Option (List ℕ)) (waiting text : List ℕ) → Appends (told_behind before before []) (told_behind first now waiting) text
     → (bs : List ℕ) × IsPrefix bs text × Appends before now bs
 took_some None first now waiting text e = ([], (text, refl), tt)
@@ -55,7 +55,7 @@ took_some (Some before) (Some f) (Some x) waiting text e =
     let it = told_first (nat_le (length f) (length x)) f x waiting before text refl (subst (λ o. Appends o (told_since (length f) x waiting) text) (begin_if before) e) in
     (it.0, (waiting, sym it.2), it.1)
 
--- the writer took all of the text that was told, where nothing waits
+-- The writer took all of the text, if nothing waits.
 pub took_all : (before first now : Option (List ℕ)) (text : List ℕ) → Appends (told_behind before before []) (told_behind first now []) text → Appends before now text
 took_all None first now text e = tt
 took_all (Some before) None now text e = absurd (subst (λ o. Appends o None text) (begin_if before) e)

@@ -1,4 +1,4 @@
--- The command line, and the settings that its words give.
+-- The command line, and the settings that its arguments give.
 use Rattle.std.specs.Prelude.{◌≡◌, ◌⊎◌, ℕ, Bool, true, false, List, [], ◌∷◌, Option, Some, None, Result, IfOk, codes, map}
 use Rattle.std.specs.Borrow.{Bor}
 use Rattle.std.specs.Str.{bytes_eq}
@@ -16,43 +16,44 @@ use Rattle.oim_ring.specs.Limits.{largest_ring}
 use Rattle.oim_run.specs.declared.request.Request.{Request}
 use Rattle.oim_run.specs.declared.settings.Settings.{Settings}
 
--- an argument that takes one value, and an option of this name
+-- An argument that takes one value, and an option of this name.
 abbrev pub one_value : Text → Rule
 one_value id = record (new_rule id) { action = Some Set; value_names = 1 }
 
 abbrev pub option : Text → Rule
 option id = record (one_value id) { long = Some id }
 
--- an option whose value is a number from 1 to `most`
+-- An option whose value is a number from 1 to `most`.
 abbrev pub number_option : Text → ℕ → Text → Rule
 number_option id most default =
     record (option id) { parser = Some (Unsigned 1 most); defaults = default ∷ [] }
 
--- the words that may be the value of an option
+-- The possible values of an option.
 abbrev pub Words : Type 0
 Words = Bor (List (Bor Text))
 
--- an option whose value is one of the words
+-- An option whose value is one of `words`.
 abbrev pub word_option : Text → Words → Text → Rule
 word_option id words default =
     record (option id) { parser = Some (Names words); defaults = default ∷ [] }
 
--- an option of this name, without a value
+-- An option of this name, without a value.
 abbrev pub flag : Text → Rule
 flag id = record (new_rule id) { long = Some id; action = Some SetTrue }
 
--- META --types FILE, without the program's name; or --help, or --version
+-- META --types FILE, without the program's name; or --help, or --version.
 abbrev pub inputs : App
 inputs = with_rule
     (with_rule (on_top (λ s. record s { no_binary_name = true; has_version = true }) (new_app (codes "xbrl-json")))
     (record (one_value (codes "meta")) { required = true }))
     (record (option (codes "types")) { required = true })
 
--- the words of the layouts
+-- The values of `--layout`.
 abbrev pub AreLayouts : Words → Type 0
 AreLayouts words = map (λ w. w.now) words.now ≡ codes "compact" ∷ codes "lines" ∷ []
 
--- META --types FILE [--workers N] [--ring K] [--out FILE] [--whole] [--layout WORD] [--progress] [--explain] [--faults FILE]
+-- META --types FILE [--workers N] [--ring K] [--out FILE] [--whole] [--layout compact|lines]
+-- [--progress] [--explain] [--faults FILE]
 unfoldable pub command_line : Words → App
 command_line layouts = with_rule
     (with_rule
@@ -71,22 +72,22 @@ command_line layouts = with_rule
     (flag (codes "explain")))
     (option (codes "faults"))
 
--- the option has a text, which is n in decimal digits
+-- The option has a text, which is n in decimal digits.
 abbrev pub IsNumberOf : Option Text → ℕ → Type 0
 IsNumberOf None n = ⊥
 IsNumberOf (Some text) n = n ≡ digits_value 10 (without_leading_plus text)
 
--- the text is the word of the layout
+-- The text is the value of `--layout` for this layout.
 abbrev pub IsLayoutOf : Option Text → Layout → Type 0
 IsLayoutOf text layout.Compact = text ≡ Some (codes "compact")
 IsLayoutOf text layout.Lines = text ≡ Some (codes "lines")
 
--- the flag is given, as its text says
+-- Whether the flag is given, by its text.
 abbrev pub is_given : Option Text → Bool
 is_given None = false
 is_given (Some text) = bytes_eq text (codes "true")
 
--- the settings are the values that the words give, and the defaults for those that they leave out
+-- The settings are the values of the arguments, and the defaults for omitted ones.
 abbrev pub HasSettings : List Row → Settings → Type 0
 HasSettings rows s = (first_of (codes "meta") rows ≡ Some s.meta)
     × (first_of (codes "types") rows ≡ Some s.types)
@@ -95,7 +96,8 @@ HasSettings rows s = (first_of (codes "meta") rows ≡ Some s.meta)
     × (first_of (codes "out") rows ≡ s.out)
     × IsLayoutOf (first_of (codes "layout") rows) s.layout
 
--- the same, with the flags that are given of those that no setting of a run has, and the file of the tables' faults
+-- The request: the settings, the flags that do not concern a run, and the file of the tables'
+-- faults.
 abbrev pub HasRequest : List Row → Request → Type 0
 HasRequest rows q = HasSettings rows q.settings
     × (q.whole ≡ is_given (first_of (codes "whole") rows))
@@ -103,11 +105,12 @@ HasRequest rows q = HasSettings rows q.settings
     × (q.explain ≡ is_given (first_of (codes "explain") rows))
     × (first_of (codes "faults") rows ≡ q.faults)
 
--- the answer to the words: a value that has what they give, or a refusal of one of the kinds that the command line gives
+-- The answer to the arguments: a value that has what they give, or a refusal of one of the kinds of
+-- the command line.
 pub record Answers {X : Type 0} (has : List Row → X → Type 0) (line : App) (words : List Text) (r : Result X Error) : Type 0 where
   pub values : IfOk r (has (matches_of line words))
   pub fails : FailsBy (fault_of line words) r
 
--- the path of an input file that the settings name
+-- The path of an input file in the settings.
 abbrev pub IsInput : Settings → List ℕ → Type 0
 IsInput s path = (path ≡ s.meta) ⊎ (path ≡ s.types)

@@ -1,4 +1,4 @@
--- How a run ends whose files give no report: with the outcome that names their early fault.
+-- The end of a run whose files give no report: the outcome that has their early fault.
 use Rattle.std.specs.Prelude.{◌≡◌, List}
 use Rattle.oim_convert.specs.declared.fault.ConvertFault.TheVariants as fault
 use Rattle.oim_files.specs.Steps.{Step, Stops}
@@ -15,7 +15,7 @@ outcome_of (early.Report s f) = outcome.Report s f
 outcome_of (early.CannotRead path) = outcome.CannotRead path
 outcome_of early.Memory = no_memory
 
--- the run ends at one of these steps
+-- The run ends at one of these steps.
 pub record EndsAt (steps : List Step) (o : Outcome) : Type 0 where
   pub fault : EarlyFault
   pub stops : Stops steps fault

@@ -1,4 +1,4 @@
--- What the program says of each outcome: its exit status, and its lines on standard error.
+-- The exit status of each outcome, and its lines on standard error.
 use Rattle.std.specs.Prelude.{ℕ, List, [], ◌∷◌, ◌++◌, codes}
 use Rattle.std.specs.Fmt.{decimal}
 use Rattle.clap.specs.declared.error.kind.ErrorKind.{ErrorKind}
@@ -22,14 +22,16 @@ status_of (outcome.CannotWrite path) = 3
 status_of (outcome.Run f) = 3
 status_of (outcome.Output f) = 3
 
--- the exit status for words that the definition of the command line refuses with this kind; help and the version are not failures
+-- The exit status for arguments that the definition of the command line refuses with this kind.
+-- Help and the version are not failures.
 abbrev pub words_status : ErrorKind → ℕ
 words_status kind.DisplayHelp = 0
 words_status kind.DisplayVersion = 0
 words_status kind.OutOfMemory = 3
 words_status _ = 2
 
--- the exit status where what the words ask for cannot be printed: the help and the version are then not given
+-- The exit status if the text for the arguments cannot be printed: then help and the version are
+-- failures.
 abbrev pub unprinted_status : ErrorKind → ℕ
 unprinted_status kind.DisplayHelp = 3
 unprinted_status kind.DisplayVersion = 3
@@ -40,7 +42,7 @@ source_name source.Report = codes "report"
 source_name source.Parameters = codes "parameters"
 source_name source.Types = codes "types"
 
--- the line for a fault at a named place
+-- The line for a fault at a named place.
 abbrev pub fault_text : List ℕ → List ℕ → ℕ → List ℕ
 fault_text place name number =
     codes "xbrl-json: " ++ (place ++ (codes ": " ++ (name ++ (codes " (" ++ (decimal number ++ 41 ∷ 10 ∷ [])))))
@@ -50,16 +52,16 @@ table_text id f =
     fault_text (codes "table " ++ (id ++ (codes ", row " ++ (decimal f.row ++ (codes ", column " ++ decimal f.column)))))
     (table_fault.name_of f.kind) (table_fault.number_of f.kind)
 
--- the lines for refused tables, in order
+-- The lines for refused tables, in order.
 abbrev pub tables_text : List (List ℕ × TableFault) → List ℕ
 tables_text [] = []
 tables_text (named ∷ more) = table_text named.0 named.1 ++ tables_text more
 
--- the line for a file that cannot be read or written
+-- The line for a file that cannot be read or written.
 abbrev pub path_text : List ℕ → List ℕ → List ℕ
 path_text what path = codes "xbrl-json: cannot " ++ (what ++ (codes " " ++ (path ++ 10 ∷ [])))
 
--- the lines for an outcome: none for a whole document, and one for each refused table
+-- The lines for an outcome: none for a whole document, and one for each refused table.
 abbrev pub line_of : Outcome → List ℕ
 line_of outcome.Done = []
 line_of (outcome.Report s f) = fault_text (source_name s) (fault_name f) (fault_number f)
@@ -69,9 +71,9 @@ line_of (outcome.CannotWrite path) = path_text (codes "write") path
 line_of (outcome.Run f) = fault_text (codes "run") (convert_fault.name_of f) (convert_fault.number_of f)
 line_of (outcome.Output f) = codes "xbrl-json: output: Write (56)" ++ 10 ∷ []
 
--- ---- on a terminal
+-- On a terminal.
 
--- the lines for an outcome, where no path has a control character
+-- The lines for an outcome, with the control characters of a path escaped.
 abbrev pub terminal_line_of : Outcome → List ℕ
 terminal_line_of (outcome.CannotRead path) = path_text (codes "read") (shown path)
 terminal_line_of (outcome.CannotWrite path) = path_text (codes "write") (shown path)

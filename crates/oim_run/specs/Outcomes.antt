@@ -1,4 +1,4 @@
--- What the outcome of a conversion means, for every number of workers and every ring size.
+-- The meaning of a conversion's outcome, for every number of workers and every ring size. Sources:
 -- xBRL-CSV 1.0 (a report is the facts of its tables), xBRL-JSON 1.0 (the document).
 use Rattle.std.specs.Prelude.{⊤, ◌≡◌, ◌⊎◌, ◌<◌, ◌+◌, ◌++◌, map, length, ℕ, List, [], ◌∷◌, Option, Some, None}
 use mathlib.Core.List.{IsPrefix}
@@ -26,48 +26,49 @@ use Rattle.oim_run.specs.declared.conversion.Course.{Course}
 use Rattle.oim_run.specs.declared.outcome.Outcome.{Outcome}
 use Rattle.oim_run.specs.declared.outcome.Outcome.TheVariants as outcome
 
--- faults, each with the name of its table
+-- Faults, each with the name of its table.
 abbrev pub named_by : (ℕ → List ℕ) → List TableFault → List (List ℕ × TableFault)
 named_by name faults = map (λ e. (name e.table, e)) faults
 
--- the faults, each with the identifier of its table
+-- The faults, each with the identifier of its table.
 abbrev pub refused_tables : ReportValue → List TableFault → List (List ℕ × TableFault)
 refused_tables report faults = named_by (λ i. (table_of report i).id) faults
 
--- no table ended because memory or threads ran out, or because a read failed
+-- No table ended because memory or threads ran out, or because a read failed.
 abbrev pub AreDefined : List TableFault → Type 0
 AreDefined [] = ⊤
 AreDefined (e ∷ faults) = (¬ IsFromOutside e.kind) × AreDefined faults
 
--- what is written is a beginning of the text that the streams define, or all of it
+-- The text written is a prefix of the text that the streams define, or all of it.
 pub record Begins (layout : Layout) (report : ReportValue) (ss : List Stream) (old new : SinkView) : Type 0 where
   pub text : List ℕ
   pub first : IsPrefix text (answer_text layout report ss)
   pub written : Appends old.told new.told text
 
--- each table was decoded; or, with more than one worker, there was no thread and none was
+-- Each table was decoded; or, with more than one worker, no thread could be made and none was.
 abbrev pub AreHistoriesWith : (workers : ℕ) → List Stream → List (List Item) → Type 0
 AreHistoriesWith workers ss hs = AreDecoded 0 ss hs ⊎ ((1 < workers) × AreUnserved 0 ss hs)
 
--- there are histories of these streams; the faults are theirs, in table order, and their document is written in this layout. If each fault
--- is a table's own, that is the answer that the streams define. Whatever the faults, it is a beginning of that answer's text
+-- There are histories of these streams. The faults are those of the histories, in table order, and
+-- their document is written in this layout. If each fault is a table's own, that is the answer that
+-- the streams define. Whatever the faults, it is a prefix of that answer's text.
 pub record WritesStreams (workers : ℕ) (layout : Layout) (report : ReportValue) (ss : List Stream) (old new : SinkView) (faults : List TableFault) (e : MergeEnd) : Type 0 where
   pub written : WritesHistories (AreHistoriesWith workers ss) layout report old new faults e
   pub answer : AreDefined faults → IsAnswer layout report ss old new faults e
   pub begun : Begins layout report ss old new
 
--- all facts of these tables, in order
+-- All facts of these tables, in order.
 abbrev pub facts_of_streams : List Stream → List Fact
 facts_of_streams [] = []
 facts_of_streams (s ∷ ss) = facts_of s ++ facts_of_streams ss
 
--- none of these tables has a fault
+-- None of these tables has a fault.
 abbrev pub AreSound : List Stream → Type 0
 AreSound [] = ⊤
 AreSound (s ∷ ss) = (s.fault ≡ None) × AreSound ss
 
--- the facts of tables, the first of which is table i, up to the refused one that has this fault: all facts of those before it, which have no
--- fault, and the first of its own
+-- The facts of tables, of which the first is table i, up to the refused one that has this fault:
+-- all facts of those before it, which have no fault, and a prefix of its own.
 pub record StopsAt (i : ℕ) (ss : List Stream) (f : TableFault) (written : List Fact) : Type 0 where
   pub before : List Stream
   pub here : Stream
@@ -79,29 +80,31 @@ pub record StopsAt (i : ℕ) (ss : List Stream) (f : TableFault) (written : List
   pub some : IsPrefix first (facts_of here)
   pub facts : written ≡ facts_of_streams before ++ first
 
--- the unfinished document of these facts is written, where the tables have these faults
+-- The unfinished document of these facts is written, if the tables have these faults.
 abbrev pub StopsInTable : Layout → ReportValue → List Stream → SinkView → SinkView → List TableFault → Type 0
 StopsInTable layout report ss old new [] = ⊥
 StopsInTable layout report ss old new (f ∷ faults) = (facts : List Fact) × StopsAt 0 ss f facts × Wrote old new (text_after layout (head_text report) facts)
 
--- the refused tables, and the unfinished document up to and including the first of them: whatever its fault, it has all facts of the tables
--- before that one and a beginning of its own
+-- The refused tables, and the unfinished document up to and including the first of them. Whatever
+-- that table's fault, the document has all facts of the tables before it and a prefix of its own.
 pub record Refuses (workers : ℕ) (layout : Layout) (report : ReportValue) (ss : List Stream) (old new : SinkView) (named : List (List ℕ × TableFault)) : Type 0 where
   pub faults : List TableFault
   pub names : named ≡ refused_tables report faults
   pub given : WritesStreams workers layout report ss old new faults end.Refused
   pub stops : StopsInTable layout report ss old new faults
 
--- a conversion that broke off: memory ran out, and nothing is written; or, with more than one worker, the end of a ring was lost
+-- A conversion that broke off: memory ran out, and nothing is written; or, with more than one
+-- worker, a ring's token was lost.
 abbrev pub Breaks : (workers : ℕ) → Layout → ReportValue → SinkView → SinkView → ConvertFault → Type 0
 Breaks workers layout report old new fault.Memory = Unwritten old new
 Breaks workers layout report old new fault.Lost = (1 < workers) × IsLost layout report (length report.tables) old new
 Breaks workers layout report old new f = ⊥
 
--- how the conversion of a report with these streams, by so many workers, to a document in this layout, ended. With a fault that is found
--- before anything is prepared, it answers that fault, or that memory ran out, and nothing is written. Otherwise Done means that no table is
--- refused and the whole document is written, Tables has every refused table with its identifier, and Output means that a write failed and a
--- beginning of the document is written
+-- The end of the conversion of a report with these streams, by `workers` workers, to a document in
+-- this layout. With a fault that is found before anything is prepared, the outcome is that fault or
+-- Memory, and nothing is written. Otherwise Done: no table is refused and the whole document is
+-- written. Tables: every refused table with its identifier. Output: a write failed, and a prefix of
+-- the document is written.
 abbrev pub EndsAs : (workers : ℕ) → Layout → Option ConvertFault → ReportValue → List Stream → SinkView → SinkView → Outcome → Type 0
 EndsAs workers layout (Some f) report ss old new o = ((o ≡ outcome.Run f) ⊎ (o ≡ outcome.Run fault.Memory)) × Unwritten old new
 EndsAs workers layout None report ss old new outcome.Done = WritesStreams workers layout report ss old new [] end.Complete
@@ -110,20 +113,22 @@ EndsAs workers layout None report ss old new (outcome.Output w) = (faults : List
 EndsAs workers layout None report ss old new (outcome.Run f) = Breaks workers layout report old new f
 EndsAs workers layout None report ss old new o = ⊥
 
--- the same by a course, of a report whose tables have the files that these readers tell
+-- The same end by a course, for a report whose tables have the files of these readers.
 abbrev pub ConvertsBy : {R : Type 0} → (R → Option (List ℕ)) → Course → ReportValue → List (Option R) → SinkView → SinkView → Outcome → Type 0
 ConvertsBy told c report readers old new o =
     (files : List (Option (List ℕ))) → AreFilesOf told readers files
     → EndsAs c.workers c.layout (early_fault c.workers c.ring (length files) (length report.tables)) report (streams report c.limits.rows files) old new o
 
--- a run that broke off, whatever the readers: memory ran out or the settings are out of range, and nothing is written; or the end of a ring
--- was lost, the settings are in range, and there is more than one worker
+-- A run that broke off, whatever the readers: memory ran out or the settings are out of range, and
+-- nothing is written; or a ring's token was lost, the settings are in range, and there is more than
+-- one worker.
 abbrev pub LeavesRun : (workers : ℕ) → Option ConvertFault → SinkView → SinkView → ConvertFault → Type 0
 LeavesRun workers range old new f =
     ((f ≡ fault.Memory) × Unwritten old new) ⊎ ((range ≡ Some f) × Unwritten old new) ⊎ ((f ≡ fault.Lost) × (range ≡ None) × (1 < workers))
 
--- what an outcome leaves behind, whatever the files and their readers: nothing is written if a file has a fault; the sink has the mark of a
--- failed write exactly if the outcome says so; and a conversion begins only with settings in range
+-- What an outcome leaves in the sink, whatever the files and their readers: nothing is written if a
+-- file has a fault; the sink has the mark of a failed write exactly if the outcome is Output; and a
+-- conversion begins only with settings in range.
 abbrev pub Leaves : (workers : ℕ) → Option ConvertFault → SinkView → SinkView → Outcome → Type 0
 Leaves workers range old new outcome.Done = (range ≡ None) × (new.mark ≡ old.mark)
 Leaves workers range old new (outcome.Report s f) = Unwritten old new
@@ -133,6 +138,6 @@ Leaves workers range old new (outcome.CannotWrite path) = ⊥
 Leaves workers range old new (outcome.Run f) = LeavesRun workers range old new f
 Leaves workers range old new (outcome.Output w) = (range ≡ None) × (new.mark ≡ mark_of w)
 
--- the same of a conversion by a course, where there are so many readers and tables
+-- The same for a conversion by a course, with this many readers and tables.
 abbrev pub LeavesBy : Course → (readers tables : ℕ) → SinkView → SinkView → Outcome → Type 0
 LeavesBy c readers tables old new o = Leaves c.workers (early_fault c.workers c.ring readers tables) old new o

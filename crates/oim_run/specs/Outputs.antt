@@ -1,4 +1,4 @@
--- Where a document goes, what is done with its output, which outcome its run has, and what is said of it.
+-- The output of a document, what is done with it, which outcome its run has, and what is printed.
 use Rattle.std.specs.Prelude.{◌≡◌, ◌⊎◌, ◌≤◌, Bool, true, false, ℕ, List, [], ◌∷◌, ◌++◌, Option, Some, None, IfSome}
 use Rattle.oim_files.specs.Folders.{Files}
 use Rattle.oim_json.specs.declared.layout.Layout.TheVariants as layout
@@ -8,73 +8,79 @@ use Rattle.oim_run.specs.Early.{no_memory}
 use Rattle.oim_run.specs.Lines.{line_of, status_of, terminal_line_of}
 use Rattle.oim_run.specs.Outcomes.{Leaves}
 use Rattle.oim_run.specs.Runs.{EndsOver, files_of, range_fault}
-use Rattle.oim_run.specs.declared.ending.Ending.{Ending}
-use Rattle.oim_run.specs.declared.ending.Ending.TheVariants as ending
+use Rattle.oim_run.specs.declared.run_end.RunEnd.{RunEnd}
+use Rattle.oim_run.specs.declared.run_end.RunEnd.TheVariants as ending
 use Rattle.oim_run.specs.declared.outcome.Outcome.{Outcome}
 use Rattle.oim_run.specs.declared.outcome.Outcome.TheVariants as outcome
 use Rattle.oim_run.specs.declared.request.Request.{Request}
 use Rattle.oim_run.specs.declared.settings.Settings.{Settings}
 
--- ---- what is done with outputs
+-- Outputs.
 
--- an output is opened, standard output or the file at a path, and its writer then holds this, or it cannot be opened; or the output is ended whose
--- writer holds this, after a run with this outcome, and ends so
+-- A deed: an output is opened, standard output or the file at a path, and its writer then holds
+-- these bytes, or it cannot be opened; or the output whose writer holds these bytes is ended, after
+-- a run with this outcome, and ends so.
 pub data Deed : Type 0 where
   Opened : (path : Option (List ℕ)) → (holds : Option (Option (List ℕ))) → Deed
-  Ended : (holds : Option (List ℕ)) → (ran : Outcome) → (how : Ending) → Deed
+  Ended : (holds : Option (List ℕ)) → (ran : Outcome) → (how : RunEnd) → Deed
 
--- these deeds, and no others, were done in this order, where the outputs tell what was done with them
+-- These deeds, and no others, were done in this order, if the outputs keep a record.
 abbrev pub Did : (before : Option (List Deed)) → List Deed → (after : Option (List Deed)) → Type 0
 Did before deeds after = IfSome before (λ earlier. after ≡ Some (earlier ++ deeds))
 
--- ---- what is to be told
+-- The outcome to report.
 
--- the file at the path cannot be written, or memory ran out for saying so
+-- The file at the path cannot be written, or memory ran out for the path.
 abbrev pub IsUnwritten : List ℕ → Outcome → Type 0
 IsUnwritten path o = (o ≡ outcome.CannotWrite path) ⊎ (o ≡ no_memory)
 
--- the same of the path that the words name; where they name none, the outcome is the run's own
+-- The same for the path of an option; if it is not given, the outcome is the run's own.
 abbrev pub IsUnwrittenAt : Option (List ℕ) → (ran o : Outcome) → Type 0
 IsUnwrittenAt None ran o = o ≡ ran
 IsUnwrittenAt (Some path) ran o = IsUnwritten path o
 
--- what is to be told of a run that ended so, by how its output ended: its own outcome; a failed write, if there was a document; or that a file cannot be written
-abbrev pub IsToldBy : (out faults : Option (List ℕ)) → Ending → (ran o : Outcome) → Type 0
+-- The outcome to report of a run, by the end of its output: its own; a failed write, if there was a
+-- document; or that a file cannot be written.
+abbrev pub IsToldBy : (out faults : Option (List ℕ)) → RunEnd → (ran o : Outcome) → Type 0
 IsToldBy out faults ending.Kept ran o = o ≡ ran
 IsToldBy out faults ending.NotKept ran o = o ≡ flushed ran
 IsToldBy out faults ending.IsRead ran o = IsUnwrittenAt out ran o
 IsToldBy out faults ending.FaultsAreRead ran o = IsUnwrittenAt faults ran o
 
--- ---- one run to one output
+-- One run to one output.
 
--- a run over a folder to a writer, of which old and new are what it holds, with these settings: as the files say, where the folder tells them
+-- A run over a folder with these settings, to a writer that held `old` and holds `new`: as the
+-- folder's files define, if contracts see them.
 abbrev pub RunsTo : Option Files → Settings → (old new : Option (List ℕ)) → Outcome → Type 0
 RunsTo told s old new o =
     IfSome told (λ files. Buffered (EndsOver files s.meta s.types s.workers s.ring s.layout) old new o)
     × Buffered (Leaves s.workers (range_fault s.workers s.ring)) old new o
 
--- a run over a folder in memory of the metadata, the types table and one table, each with its path, by one worker with a ring of one block, in the compact
--- layout
+-- A run over a folder in memory with the metadata, the types table and one table, each with its
+-- path. It has one worker, a ring of one block and the compact layout.
 abbrev pub RunsHeld : (meta types table : List ℕ × List ℕ) → (old new : Option (List ℕ)) → Outcome → Type 0
 RunsHeld meta types table old new o = Buffered (EndsOver (files_of (meta ∷ types ∷ table ∷ [])) meta.0 types.0 1 1 layout.Compact) old new o
 
--- one output is opened, standard output or the file at the path, one run is made to it, and it is ended; nothing else is done with any
+-- One output is opened, standard output or the file at the path, one run is made to it, and it is
+-- ended. Nothing else is done with any output.
 pub record RunsOnce (runs : (old new : Option (List ℕ)) → Outcome → Type 0) (out faults path : Option (List ℕ)) (before after : Option (List Deed)) (o : Outcome) : Type 0 where
   pub first : Option (List ℕ)
   pub last : Option (List ℕ)
   pub ran : Outcome
-  pub how : Ending
+  pub how : RunEnd
   pub run : runs first last ran
   pub done : Did before (Opened path (Some first) ∷ Ended last ran how ∷ []) after
   pub told : IsToldBy out faults how ran o
 
--- nothing is done for a path that is an input's. For any other a run is made to its file, or that cannot be opened
+-- Nothing is done for a path that is an input's. For any other, a run is made to its file, or the
+-- file cannot be opened.
 abbrev pub IntoFile : Option Files → Request → List ℕ → (before after : Option (List Deed)) → Outcome → Type 0
 IntoFile told q path before after o = (IsInput q.settings path × (after ≡ before) × IsUnwritten path o)
     ⊎ ((¬ IsInput q.settings path) × Did before (Opened (Some path) None ∷ []) after × IsUnwritten path o)
     ⊎ ((¬ IsInput q.settings path) × RunsOnce (RunsTo told q.settings) q.settings.out q.faults (Some path) before after o)
 
--- the conversion that the words ask for: exactly one run is made, to the output that they name, and its outcome is to be told; or none, and that is
+-- The requested conversion: exactly one run is made, to the output of `--out`, and its outcome is
+-- to be reported; or no run is made, and that is to be reported.
 abbrev pub IntoOutput : Option Files → Request → Option (List ℕ) → (before after : Option (List Deed)) → Outcome → Type 0
 IntoOutput told q None before after o = RunsOnce (RunsTo told q.settings) q.settings.out q.faults None before after o
 IntoOutput told q (Some path) before after o = IntoFile told q path before after o
@@ -82,39 +88,41 @@ IntoOutput told q (Some path) before after o = IntoFile told q path before after
 abbrev pub EndsFor : Option Files → Request → (before after : Option (List Deed)) → Outcome → Type 0
 EndsFor told q before after o = IntoOutput told q q.settings.out before after o
 
--- ---- the file of the faults
+-- The file of the faults.
 
--- the file of the faults, which the words name, is to be written after a run that ended so, with the exit status 0 or 1, and cannot be
+-- The file of `--faults` is to be written after a run that ended with the exit status 0 or 1, and
+-- cannot be written.
 abbrev pub IsLeftUnwritten : Option (List ℕ) → Outcome → Outcome → Type 0
 IsLeftUnwritten None ended o = ⊥
 IsLeftUnwritten (Some path) ended o = (status_of ended ≤ 1) × IsUnwritten path o
 
--- ---- what is said to a person
+-- Printing for people.
 
--- texts that were said, in order
+-- The texts that were printed, in order.
 abbrev pub Said : Type 0
 Said = List (List ℕ)
 
--- who is told is a terminal, or is none, unless it does not tell that
+-- Whether the printer is a terminal, unless contracts do not see that.
 abbrev pub IsTerminal : Option Bool → Bool → Type 0
 IsTerminal terminal is = IfSome terminal (λ it. is ≡ it)
 
--- the lines of an outcome were said once, as one text, to a terminal as it gets them, and to any other as they are; or nothing was said, as where memory ran out for
--- them
+-- The lines of an outcome were printed once, as one text, in the terminal's form or the plain one;
+-- or nothing was printed, for which the clause names no condition.
 abbrev pub Says : Option Bool → Outcome → (before after : Option Said) → Type 0
 Says terminal o before after = IfSome before (λ earlier. (after ≡ Some earlier)
     ⊎ (IsTerminal terminal false × (after ≡ Some (earlier ++ line_of o ∷ [])))
     ⊎ (IsTerminal terminal true × (after ≡ Some (earlier ++ terminal_line_of o ∷ []))))
 
--- what was said behind the lines of a run that ended so, and the exit status: nothing, and the status is that of its outcome; or that the file of the faults
--- cannot be written, and the status is of that
+-- The text printed after the lines of a run, and the exit status: none, and the status is that of
+-- the run's outcome; or that the file of the faults cannot be written, and the status is that of
+-- this.
 abbrev pub SaysLast : Option Bool → Option (List ℕ) → Outcome → (before after : Option Said) → (status : ℕ) → Type 0
 SaysLast terminal faults ended before after status =
     ((after ≡ before) × (status ≡ status_of ended))
     ⊎ ((last : Outcome) × IsLeftUnwritten faults ended last × Says terminal last before after × (status ≡ status_of last))
 
--- a program that was given these words and converts so ends with this status: the conversion that they ask for is made, once or not at all, and its outcome is told
--- at most once
+-- A program with this request ends with this status: the requested conversion is made, once or not
+-- at all, and its outcome is printed at most once.
 pub record EndsTold (told : Option Files) (q : Request) (before after : Option (List Deed)) (terminal : Option Bool) (silent said : Option Said) (status : ℕ) : Type 0 where
   pub ended : Outcome
   pub once : EndsFor told q before after ended
@@ -122,7 +130,8 @@ pub record EndsTold (told : Option Files) (q : Request) (before after : Option (
   pub says : Says terminal ended silent between
   pub last : SaysLast terminal q.faults ended between said status
 
--- a run to a writer, of which old and new are what it holds, is made, its outcome is told at most once, and this is the exit status
+-- A run is made to a writer that held `old` and holds `new`, its outcome is printed at most once,
+-- and this is the exit status.
 pub record RunsTold (runs : (old new : Option (List ℕ)) → Outcome → Type 0) (old new : Option (List ℕ)) (terminal : Option Bool) (silent said : Option Said) (status : ℕ) : Type 0 where
   pub ran : Outcome
   pub run : runs old new ran

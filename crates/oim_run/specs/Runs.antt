@@ -15,32 +15,34 @@ use Rattle.oim_files.specs.Steps.{Passes, report_at, steps}
 use Rattle.oim_run.specs.Early.{EndsAt}
 use Rattle.oim_run.specs.declared.outcome.Outcome.{Outcome}
 
--- a folder in memory: each path with its bytes, of which the first counts
+-- A folder in memory: each path with its bytes. If two entries have one path, the first
+-- counts.
 abbrev pub files_of : List (List ℕ × List ℕ) → Files
 files_of [] path = None
 files_of (f ∷ rest) path = if bytes_eq f.0 path then Some f.1 else files_of rest path
 
--- the file of a table, if the folder has one at the table's path
+-- The file of a table, if the folder has one at the table's path.
 abbrev pub table_file : Files → List ℕ → Table → Option (List ℕ)
 table_file files base t = files (base ++ t.url)
 
--- the files of the report's tables
+-- The files of the report's tables.
 abbrev pub table_files : Files → List ℕ → ReportValue → List (Option (List ℕ))
 table_files files base report = map (table_file files base) report.tables
 
--- the fault of settings that are out of range, as a conversion finds it when each table has its reader
+-- The fault of settings that are out of range, as a conversion finds it if each table has its
+-- reader.
 abbrev pub range_fault : (workers ring : ℕ) → Option ConvertFault
 range_fault workers ring = early_fault workers ring 0 0
 
--- no step has a fault, and the run is the conversion of the report that the files give
+-- No step has a fault, and the run is the conversion of the report that the files give.
 pub record Converted (files : Files) (base meta types : List ℕ) (workers ring : ℕ) (layout : Layout) (old new : SinkView) (o : Outcome) : Type 0 where
   pub report : ReportValue
   pub passed : Passes (steps files base meta types)
   pub given : report_at files base meta types ≡ Ok report
   pub ends : EndsAs workers layout (range_fault workers ring) report (streams report profile.rows (table_files files base report)) old new o
 
--- how a run over these files ends, where the base is the folder of the metadata's path: at a step before the conversion, and then nothing is
--- written, or as the conversion does
+-- How a run over these files ends: at a step before the conversion, with nothing written; or as the
+-- conversion ends. `base` is the folder of the metadata file.
 pub record EndsOver (files : Files) (meta types : List ℕ) (workers ring : ℕ) (layout : Layout) (old new : SinkView) (o : Outcome) : Type 0 where
   pub base : List ℕ
   pub folder : IsFolderOf base meta

@@ -1,4 +1,9 @@
-//! A buffer before a writer. It tells contracts all that was written into it, and what of that the writer took.
+//! A buffer before a writer. Contracts see all that was written into it, and what of that the
+//! writer took.
+//!
+//! Not proved, only tested: that a failed flush is noticed. The contract of `Write::flush` is the
+//! same whether it fails or not, and `finish` promises of `true` only that the writer took all
+//! bytes.
 
 ghost use Rattle.std.specs.Prelude.{◌≡◌, ◌≤◌, ◌+◌, ◌-◌, ◌<◌, ℕ, List, [], ◌++◌, drop, take, length, true, vec_len, vec_capacity};
 ghost use Rattle.std.specs.Io.{WritesAtMost};
@@ -11,19 +16,20 @@ use oim_json::{Mark, Sink};
 use std::io;
 use std::io::{ErrorKind, Write};
 
-/// Gathers bytes before they go to a writer. As a sink it holds what the writer holds and what waits.
+/// Gathers bytes before they go to a writer. As a sink it holds the writer's bytes and the waiting
+/// ones.
 pub(crate) struct Buffer<W> {
     /// The writer.
     writer: W,
-    /// What waits before it.
+    /// The bytes that wait for the writer.
     waiting: Vec<u8>,
     /// Whether a write failed.
     mark: Mark,
-    /// What the writer was at first, for contracts alone.
+    /// The writer before the first write, only for contracts.
     first: GhostValue<W>,
 }
 
-/// Takes the first bytes out.
+/// Removes the first `count` bytes.
 fn remove_front(bytes: &mut Vec<u8>, count: usize)
     requires { count ≤ vec_len bytes.old }
     ensures items { bytes.new.items ≡ drop count bytes.old.items }
@@ -35,7 +41,8 @@ fn remove_front(bytes: &mut Vec<u8>, count: usize)
     bytes.truncate(len - count);
 }
 
-/// Writes some of the bytes. Where a signal came before anything was written, it asks again.
+/// Writes some of the bytes. If a signal interrupts a write before any byte is written, it tries
+/// again.
 fn write_through_signals<W: Write>(writer: &mut W, bytes: &[u8]) -> io::Result<usize>
     ensures bound { WritesAtMost result bytes.now }
     ensures bytes { WriteAppends (W.contents writer.old) (W.contents writer.new) result bytes.now }
@@ -54,7 +61,7 @@ fn write_through_signals<W: Write>(writer: &mut W, bytes: &[u8]) -> io::Result<u
 }
 
 impl<W: Write> Buffer<W> {
-    /// A buffer before this writer, in which nothing waits.
+    /// Returns an empty buffer before this writer.
     pub(crate) fn new(writer: W, waiting: Vec<u8>) -> Buffer<W>
         requires { waiting.items ≡ [] }
         ensures told { (⟦<Buffer<W> as Sink>⟧.seen result).told ≡ told_behind (W.contents writer) (W.contents writer) [] }
@@ -69,7 +76,7 @@ impl<W: Write> Buffer<W> {
         }
     }
 
-    /// Writes what waits, and answers whether all of it was written. What was not still waits.
+    /// Writes the waiting bytes, and returns whether all were written. The others still wait.
     fn empty(&mut self) -> bool
         ensures told { Keeps (⟦<Buffer<W> as Sink>⟧.seen self.old).told (⟦<Buffer<W> as Sink>⟧.seen self.new).told }
         ensures empty { result ≡ true → self.new.waiting.items ≡ [] }
@@ -84,7 +91,7 @@ impl<W: Write> Buffer<W> {
         true
     }
 
-    /// Lets all of these bytes wait. If memory runs out none does.
+    /// Appends all of these bytes to the waiting ones, or none if memory runs out.
     fn put(&mut self, bytes: &[u8]) -> io::Result<usize>
         ensures bound { WritesAtMost result bytes.now }
         ensures bytes { WriteAppends (⟦<Buffer<W> as Sink>⟧.seen self.old).told (⟦<Buffer<W> as Sink>⟧.seen self.new).told result bytes.now }
@@ -96,7 +103,8 @@ impl<W: Write> Buffer<W> {
         }
     }
 
-    /// Takes some of the bytes. Those that fit wait; others go to the writer, behind all that waits.
+    /// Takes some of the bytes. If they fit, they wait. Otherwise they go to the writer, after the
+    /// waiting bytes.
     fn take_some(&mut self, bytes: &[u8]) -> io::Result<usize>
         ensures bound { WritesAtMost result bytes.now }
         ensures bytes { WriteAppends (⟦<Buffer<W> as Sink>⟧.seen self.old).told (⟦<Buffer<W> as Sink>⟧.seen self.new).told result bytes.now }
@@ -114,7 +122,8 @@ impl<W: Write> Buffer<W> {
         write_through_signals(&mut self.writer, bytes)
     }
 
-    /// Writes what waits, flushes the writer and gives it back, with whether both could be done.
+    /// Writes the waiting bytes and flushes the writer. Returns the writer, and whether both
+    /// succeeded.
     pub(crate) fn finish(self) -> (W, bool)
         ensures all { result.1 ≡ true → Keeps (⟦<Buffer<W> as Sink>⟧.seen self).told (told_behind (W.contents self.first.value) (W.contents result.0) []) }
         ensures some { (rest : List ℕ) × Keeps (⟦<Buffer<W> as Sink>⟧.seen self).told (told_behind (W.contents self.first.value) (W.contents result.0) rest) }

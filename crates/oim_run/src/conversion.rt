@@ -4,7 +4,7 @@ ghost use Rattle.std.specs.Prelude.{◌≡◌, ◌≤◌, ◌<◌, ℕ, [], None
 ghost use Rattle.oim_convert.specs.Runs.{early_fault};
 ghost use Rattle.oim_convert.specs.Serial.{AreFew};
 ghost use Rattle.oim_run.specs.Outcomes.{ConvertsBy, LeavesBy};
-ghost use Rattle.oim_run.specs.state.Courses.{reader_fault};
+ghost use Rattle.oim_run.specs.state.Courses.{alone, reader_fault};
 ghost use Rattle.oim_run.specs.state.Naming.{outcome_alone, outcome_by, with_names, name_in, table_ids};
 
 use crate::outcome::Outcome;
@@ -20,18 +20,18 @@ use std::mem;
 use std::sync::Wait;
 use std::thread::Threads;
 
-/// How a report is converted.
+/// The settings of a conversion.
 #[derive(Clone, Copy)]
 pub struct Course {
-    /// How many tables are decoded at once, 1 to 64.
+    /// The count of tables that are decoded at once, 1 to 64.
     pub workers: usize,
-    /// How many blocks of facts of one table may wait, 1 to 65,536.
+    /// The count of blocks of facts of one table that may wait, 1 to 65,536.
     pub ring: usize,
     pub limits: Limits,
     pub layout: Layout,
 }
 
-/// The identifiers of the tables, in table order. Fails if memory runs out.
+/// Returns the identifiers of the tables, in table order.
 fn names_of(alloc: Global, report: &Report) -> Result<Vec<Text>, AllocError>
     ensures { IfOk result (λ names. names.items ≡ table_ids report.now) }
 {
@@ -43,7 +43,7 @@ fn names_of(alloc: Global, report: &Report) -> Result<Vec<Text>, AllocError>
     Ok(names)
 }
 
-/// Takes the name at a place out of the names. It is empty if the place is out of range.
+/// Takes the name at a place out of the names. Returns an empty name if the place is out of range.
 fn take_name(alloc: Global, names: &mut [Text], place: usize) -> Text
     ensures name { result ≡ name_in names.old place }
     ensures left { names.new ≡ slice_set names.old place [] }
@@ -56,7 +56,7 @@ fn take_name(alloc: Global, names: &mut [Text], place: usize) -> Text
     }
 }
 
-/// The faults of refused tables, each with the name at its table's place, put into `room`.
+/// Puts the faults of refused tables into `room`, each with the name at its table's place.
 fn named(
     alloc: Global,
     names: Vec<Text>,
@@ -75,7 +75,7 @@ fn named(
     Items::from_vec(list)
 }
 
-/// The outcome of a conversion with this answer, where the tables have these names.
+/// Returns the outcome of a conversion with this answer, for tables with these names.
 fn ending(
     alloc: Global,
     names: Vec<Text>,
@@ -97,7 +97,7 @@ fn ending(
     }
 }
 
-/// The outcome of a conversion on one thread with this answer, where the tables have these names.
+/// Returns the outcome of a conversion on one thread with this answer, for tables with these names.
 fn ending_alone(
     alloc: Global,
     names: Vec<Text>,
@@ -118,23 +118,50 @@ fn ending_alone(
     }
 }
 
-/// Whether a conversion works on one thread: it has one worker, and no fault of its settings is due.
-fn is_alone(workers: usize, ring: usize) -> bool
+/// Returns whether a conversion works on one thread: it has one worker, and its settings are in
+/// range.
+pub(crate) fn is_alone(workers: usize, ring: usize) -> bool
+    ensures one { result ≡ true → workers ≡ 1 }
     ensures alone { result ≡ true → (readers tables : ℕ) → early_fault workers ring readers tables ≡ reader_fault readers tables }
     ensures others { result ≡ false → (readers tables : ℕ) → early_fault workers ring readers tables ≡ None → 1 < workers }
 {
     workers == 1 && ring >= 1 && ring <= LARGEST_RING
 }
 
-/// Converts a report, given a reader of each table's file in table order, or `None` for a table without
-/// a file (xBRL-CSV 1.0). Writes its document in xBRL-JSON 1.0 to the sink, in the layout of the course, with
-/// its workers and rings, or with one worker on the caller's thread alone. `course.limits.rows` is at most
-/// 4,294,967,294.
+/// Converts a report as [`convert_report`] does with one worker and rings of one block: on the
+/// caller's thread, without a runtime. `limits.rows` is at most 4,294,967,294.
+pub(crate) fn convert_alone<R: Read + Drop, W: Sink>(
+    alloc: Global,
+    report: &Report,
+    readers: Vec<Option<R>>,
+    limits: Limits,
+    layout: Layout,
+    sink: &mut W,
+) -> Outcome
+    requires { limits.rows ≤ 4294967294 }
+    ensures ends { ConvertsBy R.remaining (alone limits layout) report.now readers.items (W.seen sink.old) (W.seen sink.new) result }
+    ensures leaves { LeavesBy (alone limits layout) (length readers.items) (length report.now.tables) (W.seen sink.old) (W.seen sink.new) result }
+{
+    let Ok(names) = names_of(alloc, report) else {
+        return Outcome::Run(ConvertFault::Memory);
+    };
+    let Ok(room) = Vec::with_capacity(alloc, report.tables()) else {
+        return Outcome::Run(ConvertFault::Memory);
+    };
+    let answer = convert_serial(alloc, report, readers, limits, layout, sink);
+    ending_alone(alloc, names, room, answer)
+}
+
+/// Converts a report, with a reader of each table's file in table order, or `None` for a table
+/// without a file (xBRL-CSV 1.0). Writes its document in xBRL-JSON 1.0 to the sink, in the layout
+/// and with the workers and rings of `course`. One worker works on the caller's thread.
+/// `course.limits.rows` is at most 4,294,967,294.
 ///
-/// The answer is how the conversion ended. It is the same for every number of workers, ring size and
-/// schedule, apart from failed reads and running out of memory or threads; one worker alone needs no
-/// thread. The names that the outcome needs, and the room for a list of refused tables, are made first; if
-/// memory runs out for them the outcome is `Memory`, and nothing is written. It waits for its workers.
+/// Returns how the conversion ended, as `run` does from the tables on. It is the same for every
+/// number of workers, ring size and schedule, apart from failed reads and running out of memory or
+/// threads. With one worker `NoThread` and `Lost` are impossible. Returns `Memory`, with nothing
+/// written, if memory runs out for the names or for the list of refused tables, which are made
+/// first. It waits for its workers.
 pub fn convert_report<R: Read + Drop + Send, T: Threads + Wait + Sync, W: Sink>(
     rt: &T,
     alloc: Global,
@@ -153,16 +180,15 @@ pub fn convert_report<R: Read + Drop + Send, T: Threads + Wait + Sync, W: Sink>(
         limits,
         layout,
     } = course;
+    if is_alone(workers, ring) {
+        return convert_alone(alloc, report, readers, limits, layout, sink);
+    }
     let Ok(names) = names_of(alloc, report) else {
         return Outcome::Run(ConvertFault::Memory);
     };
     let Ok(room) = Vec::with_capacity(alloc, report.tables()) else {
         return Outcome::Run(ConvertFault::Memory);
     };
-    if is_alone(workers, ring) {
-        let answer = convert_serial(alloc, report, readers, limits, layout, sink);
-        return ending_alone(alloc, names, room, answer);
-    }
     let answer = convert(
         rt, alloc, report, readers, workers, ring, limits, layout, sink,
     );

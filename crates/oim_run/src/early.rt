@@ -7,14 +7,14 @@ use crate::outcome::Outcome;
 use oim_convert::ConvertFault;
 use oim_files::EarlyFault;
 
-/// The outcome of a run that runs out of memory.
+/// Returns the outcome of a run that runs out of memory.
 pub(crate) fn no_memory() -> Outcome
     ensures { result ≡ spec.no_memory }
 {
     Outcome::Run(ConvertFault::Memory)
 }
 
-/// The outcome of a run whose files give no report.
+/// Returns the outcome of a run whose files give no report.
 pub(crate) fn ended_early(fault: EarlyFault) -> Outcome
     ensures { result ≡ spec.outcome_of fault }
 {

@@ -1,4 +1,4 @@
-//! The built-in report: a folder in memory with its metadata, its types table and the file of its one table.
+//! The built-in report: a folder in memory with its metadata, its types table and one table's file.
 
 ghost use Rattle.std.specs.Prelude.{◌≡◌, IfOk};
 ghost use Rattle.oim_json.specs.declared.layout.Layout.TheVariants as layouts;
@@ -57,7 +57,7 @@ pub const TABLE: &str = r#"cash,note
 200,second
 "#;
 
-/// The settings of a run over its folder, with one worker and a ring of one block.
+/// Returns the settings of a run over this folder, with one worker and a ring of one block.
 fn held_settings(alloc: Global) -> Result<Settings, AllocError>
     ensures paths { IfOk result (λ s. (s.meta ≡ META_PATH.now) × (s.types ≡ TYPES_PATH.now)) }
     ensures others { IfOk result (λ s. (s.workers ≡ 1) × (s.ring ≡ 1) × (s.layout ≡ layouts.Compact)) }
@@ -72,8 +72,8 @@ fn held_settings(alloc: Global) -> Result<Settings, AllocError>
     })
 }
 
-/// Converts the built-in report to a writer through a buffer, as [`run_to`] does with a folder of its files. The answer is how that
-/// ended, and the writer.
+/// Converts the built-in report to a writer through a buffer, as [`run_to`] does with a folder of
+/// its files. Returns the outcome and the writer.
 pub fn convert_to<T: Threads + Wait + Sync, W: Write>(rt: &T, alloc: Global, to: W) -> (Outcome, W)
     ensures { RunsBuiltIn (W.contents to) (W.contents result.1) result.0 }
 {
@@ -88,8 +88,8 @@ pub fn convert_to<T: Threads + Wait + Sync, W: Write>(rt: &T, alloc: Global, to:
     run_to(rt, alloc, &settings, &mut Texts { files: &files }, to)
 }
 
-/// Converts the built-in report to a writer as [`convert_to`] does, and tells how that ended. The answer is the exit status, and
-/// the writer.
+/// Converts the built-in report to a writer as [`convert_to`] does, and prints the lines of its
+/// outcome. Returns the exit status and the writer.
 pub fn held_told<T: Threads + Wait + Sync, W: Write, L: Teller>(
     rt: &T,
     alloc: Global,

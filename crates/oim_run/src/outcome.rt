@@ -1,4 +1,4 @@
-//! How a run ended, and the exit status and the lines on standard error for it.
+//! The outcomes of a run, with the exit status and the lines on standard error of each.
 
 ghost use Rattle.std.specs.Prelude.{◌≡◌, IfOk, string_bytes};
 ghost use Rattle.oim_run.specs.Lines.{fault_text, line_of, path_text, source_name, status_of, table_text, tables_text, terminal_line_of};
@@ -19,23 +19,24 @@ pub enum Outcome {
     Done,
     /// The metadata, the parameters file or the types table has a fault. Nothing is written.
     Report(Source, MetaFault),
-    /// Tables are refused, in table order, each by its identifier with its first fault. The document is
-    /// unfinished.
+    /// Tables are refused, in table order, each by its identifier with its first fault. The
+    /// document is unfinished.
     Tables(Items<(Text, TableFault)>),
-    /// The metadata, the types table or the parameters file, which is at this path, cannot be opened.
-    /// Nothing is written.
+    /// The metadata, the types table or the parameters file, which is at this path, cannot be
+    /// opened. Nothing is written.
     CannotRead(Text),
     /// The document's file, at this path, cannot be created.
     CannotWrite(Text),
-    /// The conversion could not begin, and nothing is written; or it lost the end of a ring (`Lost`) after
-    /// it had written a document or a beginning of one.
+    /// The conversion could not begin, and nothing is written. Or a ring's token was lost (`Lost`),
+    /// after a document of some facts or a prefix of it was written; this is impossible with one
+    /// worker.
     Run(ConvertFault),
-    /// A write failed. A beginning of the document is written.
+    /// A write failed. A prefix of the document is written.
     Output(WriteFault),
 }
 
-/// The exit status: 0 if the document is written, 1 if the report has a fault, 3 if a file, memory or
-/// the output failed.
+/// Returns the exit status: 0 if the document is written, 1 if the report has a fault or a table is
+/// refused, 3 if a file, memory or the output failed.
 pub fn status(outcome: &Outcome) -> u8
     ensures { result ≡ status_of outcome.now }
 {
@@ -48,7 +49,7 @@ pub fn status(outcome: &Outcome) -> u8
     }
 }
 
-/// The word that names a file in a line.
+/// Returns the name of a file in a line.
 fn source_word(source: Source) -> &'static str
     ensures { result.now ≡ source_name source }
 {
@@ -59,15 +60,15 @@ fn source_word(source: Source) -> &'static str
     }
 }
 
-/// The line for a fault at a named place.
+/// Returns the line for a fault at a named place.
 fn fault_line(alloc: Global, place: &str, name: &str, number: u32) -> Result<String, AllocError>
     ensures { IfOk result (λ s. string_bytes s ≡ fault_text place.now name.now number) }
 {
     format!(in alloc; "xbrl-json: {place}: {name} ({number})\n")
 }
 
-/// The line on standard error for a fault of the table with this identifier, with its line feed. Fails if
-/// memory runs out.
+/// Returns the line on standard error for a fault of the table with this identifier, with its line
+/// feed.
 pub fn table_line(alloc: Global, id: &str, fault: &TableFault) -> Result<String, AllocError>
     ensures { IfOk result (λ s. string_bytes s ≡ table_text id.now fault.now) }
 {
@@ -77,7 +78,7 @@ pub fn table_line(alloc: Global, id: &str, fault: &TableFault) -> Result<String,
     fault_line(alloc, place.as_str(), fault.name(), fault.number())
 }
 
-/// The lines for refused tables, in order.
+/// Returns the lines for refused tables, in order.
 fn table_lines(alloc: Global, named: &[(Text, TableFault)]) -> Result<String, AllocError>
     ensures { IfOk result (λ s. string_bytes s ≡ tables_text named.now) }
 {
@@ -89,15 +90,15 @@ fn table_lines(alloc: Global, named: &[(Text, TableFault)]) -> Result<String, Al
     Ok(lines)
 }
 
-/// The line for a file that cannot be read or written.
+/// Returns the line for a file that cannot be read or written.
 fn path_line(alloc: Global, what: &str, path: &str) -> Result<String, AllocError>
     ensures { IfOk result (λ s. string_bytes s ≡ path_text what.now path.now) }
 {
     format!(in alloc; "xbrl-json: cannot {what} {path}\n")
 }
 
-/// The lines on standard error, each with its line feed: none if the document is written, one for each
-/// refused table, in table order, and one for any other outcome. Fails if memory runs out.
+/// Returns the lines on standard error, each with its line feed: none if the document is written,
+/// one for each refused table, in table order, and one for any other outcome.
 pub fn line(alloc: Global, outcome: &Outcome) -> Result<String, AllocError>
     ensures { IfOk result (λ s. string_bytes s ≡ line_of outcome.now) }
 {
@@ -114,9 +115,8 @@ pub fn line(alloc: Global, outcome: &Outcome) -> Result<String, AllocError>
     }
 }
 
-/// The lines on standard error where that is a terminal: those of `line`, with the control characters of a
-/// path escaped, so that no name of a file makes a line of its own or gives the terminal an order. Fails
-/// if memory runs out.
+/// Returns the lines for a terminal: those of `line`, with the control characters of a path
+/// escaped, so that no file name can add a line or send the terminal a command.
 pub fn terminal_line(alloc: Global, outcome: &Outcome) -> Result<String, AllocError>
     ensures { IfOk result (λ s. string_bytes s ≡ terminal_line_of outcome.now) }
 {

@@ -1,4 +1,4 @@
-//! What the words of the command line ask for: the settings of a run, and what stands round it.
+//! The request of the command line: the settings of a run, and the options around it.
 
 ghost use Rattle.std.specs.Prelude.{◌≡◌, IfOk, IfSome, map};
 ghost use Rattle.clap.specs.Kinds.{FailsBy};
@@ -12,25 +12,25 @@ use clap::{ArgMatches, Error};
 use oim_names::Text;
 use std::alloc::{AllocError, Global};
 
-/// The words of the layouts.
+/// The values of `--layout`.
 const LAYOUTS: &[&str] = &["compact", "lines"];
 
-/// What the words of the command line ask for.
+/// The request of the command line.
 #[derive(Drop)]
 pub struct Request {
     /// The settings of the run.
     pub settings: Settings,
-    /// Whether the document's file gets the document only once it is whole (`--whole`).
+    /// Whether the document's file gets the document only when it is whole (`--whole`).
     pub whole: bool,
-    /// Whether standard error shows how far the run is (`--progress`).
+    /// Whether standard error shows the run's progress (`--progress`).
     pub progress: bool,
-    /// Whether standard error explains each fault to a person (`--explain`).
+    /// Whether standard error explains each fault for people (`--explain`).
     pub explain: bool,
-    /// The path of the file for the faults (`--faults`), `None` for no such file.
+    /// The path of the file for the faults (`--faults`), or `None`.
     pub faults: Option<Text>,
 }
 
-/// The request in the matches. A parse of `command` always has one. Fails if memory runs out.
+/// Returns the request in the matches. A parse of `command` always has one.
 fn request_in(alloc: Global, matches: &ArgMatches<'_>) -> Result<Option<Request>, AllocError>
     ensures values { IfOk result (λ o. IfSome o (HasRequest (rows_of (found_of matches.now)))) }
     ensures workers { IfOk result (λ o. IfSome o (λ q. IsWorkerCount q.settings.workers)) }
@@ -48,7 +48,7 @@ fn request_in(alloc: Global, matches: &ArgMatches<'_>) -> Result<Option<Request>
     }
 }
 
-/// The request that the words make, where the option `layout` has the words `layouts`.
+/// Returns the request of the arguments `words`, with the values `layouts` for `--layout`.
 fn request_by<'a>(
     alloc: Global,
     layouts: &'a [&'a str],
@@ -70,13 +70,14 @@ fn request_by<'a>(
     }
 }
 
-/// Reads the words of the command line, without the program's name: `META --types FILE [--workers N]
-/// [--ring K] [--out FILE] [--whole] [--layout compact|lines] [--progress] [--explain] [--faults FILE]`,
-/// with 4 workers, rings of 1,024 blocks and the compact layout unless the words say otherwise. There are
-/// 1 to 64 workers, and a ring's size is 1 to 65,536 blocks.
+/// Reads the command line's arguments, without the program's name: `META --types FILE [--workers N]
+/// [--ring K] [--out FILE] [--whole] [--layout compact|lines] [--progress] [--explain] [--faults
+/// FILE]`. The defaults are 4 workers, rings of 1,024 blocks and the compact layout. There are 1 to
+/// 64 workers, and a ring's size is 1 to 65,536 blocks.
 ///
-/// Fails exactly if the definition of the command line refuses the words, with one of the kinds that it
-/// gives, if they ask for help or the version, or if memory runs out. The error has the text to show.
+/// Fails exactly if the definition of the command line refuses the arguments, with one of its
+/// kinds, if they ask for help or the version, or if memory runs out. The error has the text to
+/// show.
 pub fn request_of(alloc: Global, words: &[&str]) -> Result<Request, Error>
     ensures answers { (layouts : Words) × AreLayouts layouts × Answers HasRequest (command_line layouts) (map (λ w. w.now) words.now) result }
     ensures workers { IfOk result (λ q. IsWorkerCount q.settings.workers) }
@@ -85,8 +86,7 @@ pub fn request_of(alloc: Global, words: &[&str]) -> Result<Request, Error>
     request_by(alloc, LAYOUTS, words)
 }
 
-/// The settings of the run for which the words of the command line ask, as `request_of` reads them. It
-/// fails as `request_of` does.
+/// Returns the settings of the run, and fails, as `request_of` does.
 pub fn job(alloc: Global, words: &[&str]) -> Result<Settings, Error>
     ensures answers { (layouts : Words) × AreLayouts layouts × Answers HasSettings (command_line layouts) (map (λ w. w.now) words.now) result }
     ensures workers { IfOk result (λ s. IsWorkerCount s.workers) }

@@ -1,26 +1,28 @@
 //! A run, from the files of a folder to a document.
+//!
+//! Not proved: that a run with more than one worker returns, because it waits for them.
 
-ghost use Rattle.std.specs.Prelude.{◌≡◌, IfSome, IfErr, IfOk, length};
+ghost use Rattle.std.specs.Prelude.{◌≡◌, IfSome, IfErr, IfOk, None, length};
 ghost use Rattle.oim_convert.specs.Files.{AreFilesOf};
 ghost use Rattle.oim_run.specs.Early as spec;
 ghost use Rattle.oim_run.specs.Outcomes.{Leaves};
 ghost use Rattle.oim_run.specs.Runs.{EndsOver, range_fault, table_files};
 ghost use Rattle.oim_run.specs.state.Courses.{EndsIn};
 
-use crate::conversion::{Course, convert_report};
+use crate::conversion::{Course, convert_alone, convert_report, is_alone};
 use crate::early::{ended_early, no_memory};
 use crate::outcome::Outcome;
 use crate::settings::Settings;
 use oim_files::{Folder, folder_of, path_in, report_of};
-use oim_json::Sink;
+use oim_json::{Layout, Sink};
 use oim_meta::{Limits, Report};
 use std::alloc::Global;
 use std::io::Read;
 use std::sync::Wait;
 use std::thread::Threads;
 
-/// A reader of each table's file, in table order, which may open the file only when it is read. `None`
-/// for a file that does not exist.
+/// Returns a reader of each table's file, in table order, which may open the file only when it is
+/// read. `None` is a file that does not exist. Returns the outcome Memory if memory runs out.
 fn find_tables<R: Read + Drop, F: Folder<R>>(
     alloc: Global,
     folder: &mut F,
@@ -44,8 +46,8 @@ fn find_tables<R: Read + Drop, F: Folder<R>>(
     Ok(readers)
 }
 
-/// Converts the tables of a report, whose files are in a folder, each at `base` followed by its URL, as
-/// `run` does once it has the report.
+/// Converts the tables of a report, each of whose files is in a folder at `base` followed by its
+/// URL, as `run` does when it has the report.
 fn run_tables<R: Read + Drop + Send, F: Folder<R>, T: Threads + Wait + Sync, W: Sink>(
     rt: &T,
     alloc: Global,
@@ -55,7 +57,7 @@ fn run_tables<R: Read + Drop + Send, F: Folder<R>, T: Threads + Wait + Sync, W: 
     report: &Report,
     sink: &mut W,
 ) -> Outcome
-    ensures ends { IfSome (F.files folder.old) (λ files. EndsIn files base.now report.now settings.now (W.seen sink.old) (W.seen sink.new) result) }
+    ensures ends { IfSome (F.files folder.old) (λ files. EndsIn files base.now report.now settings.now.workers settings.now.ring settings.now.layout (W.seen sink.old) (W.seen sink.new) result) }
     ensures leaves { Leaves settings.now.workers (range_fault settings.now.workers settings.now.ring) (W.seen sink.old) (W.seen sink.new) result }
 {
     match find_tables(alloc, folder, base, report) {
@@ -72,29 +74,77 @@ fn run_tables<R: Read + Drop + Send, F: Folder<R>, T: Threads + Wait + Sync, W: 
     }
 }
 
-/// Converts the report whose metadata file is at `settings.meta`, with the types table at
-/// `settings.types` (xBRL-CSV 1.0, metadata, parameters, tables and table templates), and writes its
-/// document (xBRL-JSON 1.0, the report object and the facts object) to the sink, in the layout
-/// `settings.layout`, with `settings.workers` workers and rings of `settings.ring` blocks. The path of
-/// each table's file and of the parameters file is the folder of the metadata's path followed by their
-/// URL. With more than one worker it waits for them, and it is not proved that it returns.
+/// Converts the tables of a report as `run_tables` does with one worker, without a runtime.
+fn tables_alone<R: Read + Drop, F: Folder<R>, W: Sink>(
+    alloc: Global,
+    layout: Layout,
+    folder: &mut F,
+    base: &str,
+    report: &Report,
+    sink: &mut W,
+) -> Outcome
+    ensures ends { IfSome (F.files folder.old) (λ files. EndsIn files base.now report.now 1 1 layout (W.seen sink.old) (W.seen sink.new) result) }
+    ensures leaves { Leaves 1 None (W.seen sink.old) (W.seen sink.new) result }
+{
+    match find_tables(alloc, folder, base, report) {
+        Ok(readers) => convert_alone(alloc, report, readers, Limits::profile(), layout, sink),
+        Err(outcome) => outcome,
+    }
+}
+
+/// Runs as [`run`] does with one worker: on the caller's thread, without a runtime, and without a
+/// ring. `NoThread`, `Lost`, `BadWorkers` and `BadSize` are impossible. Nothing is waited for.
+pub fn run_alone<R: Read + Drop, F: Folder<R>, W: Sink>(
+    alloc: Global,
+    meta: &str,
+    types: &str,
+    layout: Layout,
+    folder: &mut F,
+    sink: &mut W,
+) -> Outcome
+    // If contracts see the folder's files: how the run ends.
+    ensures ends { IfSome (F.files folder.old) (λ files. EndsOver files meta.now types.now 1 1 layout (W.seen sink.old) (W.seen sink.new) result) }
+
+    // For every folder: what each outcome leaves in the sink.
+    ensures leaves { Leaves 1 None (W.seen sink.old) (W.seen sink.new) result }
+{
+    let base = folder_of(meta);
+    match report_of(alloc, folder, base, meta, types) {
+        Ok(report) => tables_alone(alloc, layout, folder, base, &report, sink),
+        Err(fault) => ended_early(fault),
+    }
+}
+
+/// Converts a report and writes its document to the sink. The metadata file is at `settings.meta`,
+/// the types table at `settings.types` (xBRL-CSV 1.0, metadata, parameters, tables and table
+/// templates). The document (xBRL-JSON 1.0, the report object and the facts object) has the layout
+/// `settings.layout`. The path of each table's file and of the parameters file is the folder of the
+/// metadata's path followed by their URL. The run has `settings.workers` workers and rings of
+/// `settings.ring` blocks. If there is more than one worker, it waits for them; one worker is
+/// [`run_alone`].
 ///
-/// The answer is how the run ended. If the metadata, the types table or the parameters file has a fault,
-/// it is the first one, in the order in which the files are read, and nothing is written. Otherwise it is
-/// how the conversion of the tables ended. A table whose file does not exist has the fault `NoFile`,
-/// unless it is optional.
+/// Returns how the run ended. `Done` and `Tables` are the same for every number of workers, ring
+/// size and schedule:
 ///
-/// `Done` means that exactly the document of the files' bytes is written, in this layout. `Tables` means
-/// that these tables are refused, each with its first fault, in table order, and that the unfinished
-/// document up to and including the first of them is written. Both are the same for every number of
-/// workers, ring size and schedule. `Output` means that a write failed, and that a beginning of the
-/// defined document is written, whatever faults came. Running out of memory or threads and failed reads give `Memory`,
-/// `NoThread` and `Read`; a failed read of the metadata, the types table or the parameters file gives
-/// `Report` with its source. `Run` has `BadWorkers` exactly if there is no early fault, memory does not
-/// run out and the number of workers is not 1 to 64, `BadSize` if that number is but the ring's size is
-/// not 1 to 65,536, and `Lost` if the token of a ring was lost: the document of some facts is then
-/// written, or a beginning of it, and no clause says of which. With one worker there is neither `NoThread`
-/// nor `Lost`.
+/// - `Done`: exactly the document of the files' bytes is written, in this layout.
+/// - `Tables`: these tables are refused, each with its first fault, in table order. The unfinished
+///   document is written, up to and including the first of them. A table whose file does not exist
+///   has the fault `NoFile`, unless it is optional.
+/// - `Report` or `CannotRead`: the metadata, the types table or the parameters file has a fault. It
+///   is the first one, in the order in which the files are read. Nothing is written.
+/// - `Output`: a write failed. A prefix of the defined document is written, whatever faults
+///   occurred.
+/// - `Run` with `Memory`: memory ran out. Nothing is written.
+/// - `Run` with `BadWorkers`: exactly if there is no early fault, memory did not run out, and the
+///   number of workers is not 1 to 64. `BadSize`: likewise, if that number is in range and the
+///   ring's size is not 1 to 65,536. Nothing is written.
+/// - `Run` with `Lost`: a ring's token was lost, by a fault of the program itself. The document of
+///   some facts, or a prefix of it, is written, and no clause ties these facts to the files. It is
+///   impossible with one worker.
+///
+/// A failed read of the metadata, the types table or the parameters file is `Report` with its
+/// source. A failed read and running out of memory or threads refuse a table with `Read`, `Memory`
+/// and `NoThread`; the last is impossible with one worker.
 pub fn run<R: Read + Drop + Send, F: Folder<R>, T: Threads + Wait + Sync, W: Sink>(
     rt: &T,
     alloc: Global,
@@ -102,16 +152,19 @@ pub fn run<R: Read + Drop + Send, F: Folder<R>, T: Threads + Wait + Sync, W: Sin
     folder: &mut F,
     sink: &mut W,
 ) -> Outcome
-    // For a folder that tells its files: how the run ends.
+    // If contracts see the folder's files: how the run ends.
     ensures ends { IfSome (F.files folder.old) (λ files.
         EndsOver files settings.now.meta settings.now.types settings.now.workers settings.now.ring settings.now.layout
         (W.seen sink.old) (W.seen sink.new) result) }
 
-    // For every folder: what each outcome leaves behind.
+    // For every folder: what each outcome leaves in the sink.
     ensures leaves { Leaves settings.now.workers (range_fault settings.now.workers settings.now.ring) (W.seen sink.old) (W.seen sink.new) result }
 {
     let meta = settings.meta.as_str();
     let types = settings.types.as_str();
+    if is_alone(settings.workers, settings.ring) {
+        return run_alone(alloc, meta, types, settings.layout, folder, sink);
+    }
     let base = folder_of(meta);
     match report_of(alloc, folder, base, meta, types) {
         Ok(report) => run_tables(rt, alloc, settings, folder, base, &report, sink),

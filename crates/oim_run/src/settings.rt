@@ -1,4 +1,4 @@
-//! The command line, as `clap` reads it, and the settings of a run that it gives.
+//! The command line, as `clap` reads it, and the settings of a run.
 
 ghost use Rattle.std.specs.Prelude.{◌≡◌, ◌≤◌, ◌↔◌, IfOk, IfSome, IsTrue, codes, false, option_map};
 ghost use Rattle.clap.specs.Words.{App, Rule, app_of, first_of, found_of, one_of, rows_of, rule_of, with_rule};
@@ -14,8 +14,8 @@ use oim_json::Layout;
 use oim_names::Text;
 use std::alloc::{AllocError, Global};
 
-/// The program's version, and the kit that proves it, in the words of `rt version`.
-const VERSION: &str = "0.18.4 (proved with rattle-kit-13f logic dac8208d650f15bf)";
+/// The program's version, and the kit that proves it, as `rt version` prints it.
+pub const VERSION: &str = "0.19.0 (proved with rattle-kit-13f logic dac8208d650f15bf)";
 
 /// The help of each argument.
 const META_HELP: &str = "The metadata file of the report";
@@ -24,40 +24,45 @@ const TYPES_HELP: &str = "The types table: the type of each concept and dimensio
 
 const WORKERS_HELP: &str = "How many threads decode the tables";
 
-const RING_HELP: &str = "How many blocks of up to 256 facts may wait for one table";
+const RING_HELP: &str = "How many blocks of up to 256 facts may\nwait for one table";
 
 const OUT_HELP: &str =
-    "The file of the document, which is emptied first [default: standard output]";
+    "The file of the document, which is emptied first\n[default: standard output]";
 
-const WHOLE_HELP: &str = "FILE gets the document only once it is whole, and is else left as it was";
+const WHOLE_HELP: &str =
+    "FILE gets the document only once it is whole;\nat any other end it stays unchanged";
 
-const LAYOUT_HELP: &str = "The document on one line, or with a line for each fact";
+const LAYOUT_HELP: &str = "The document on one line, or each fact on its own\n";
 
 const PROGRESS_HELP: &str = "Show on standard error how much is read and written";
 
-const EXPLAIN_HELP: &str = "Say below each fault where it is and what stands there";
+const EXPLAIN_HELP: &str = "Print below each fault its place, text and cause";
 
 const FAULTS_HELP: &str = "The file for the faults, as CSV";
 
 /// The end of the help.
-const MORE_HELP: &str = r#"Example:
+const MORE_HELP: &str = r#"Examples:
   xbrl-json report/meta.json --types report/types.csv --out report.json
+  xbrl-json report/meta.json --types report/types.csv --out report.json \
+      --whole --explain && mv report.json outbox/
 
-The table files and the parameters file are at the paths that META names, relative to its folder.
+The table files and the parameters file are at the paths that META names,
+relative to its folder.
 
-The types table is a CSV file with the header "namespace,name,type2" and one line for each concept
-and dimension of the taxonomy. The type of a concept is integer, decimal, double, text, boolean,
-date, qname or other, and that of a dimension is explicit or typed. With the header
-"namespace,name,type", a concept's type cannot be boolean, date or qname:
+The types table is a CSV file with the header "namespace,name,type2" and one
+line for each concept and dimension of the taxonomy. The type of a concept is
+integer, decimal, double, text, boolean, date, qname or other, and that of a
+dimension is explicit or typed. With the header "namespace,name,type", a
+concept's type cannot be boolean, date or qname:
   http://example.com/eg,Cash,integer
 
 Exit status:
   0  the document is written
-  1  the report has a fault, or the system refused a file, memory or a thread for it (Read, Memory
-     or NoThread); standard error names which
-  2  the words of the command line are wrong
-  3  META, the types table or the parameters file cannot be opened, an output cannot be written,
-     or memory ran out"#;
+  1  the report has a fault, or the system refused a file, memory or a thread
+     for it (Read, Memory or NoThread); standard error names which
+  2  the command line is wrong
+  3  META, the types table or the parameters file cannot be opened, an output
+     cannot be written, or memory ran out"#;
 
 /// The settings of a run.
 #[derive(Drop)]
@@ -66,18 +71,18 @@ pub struct Settings {
     pub meta: Text,
     /// The path of the types table.
     pub types: Text,
-    /// How many threads decode the tables, 1 to 64.
+    /// The count of threads that decode the tables, 1 to 64.
     pub workers: usize,
-    /// How many blocks of facts of one table may wait, 1 to 65,536.
+    /// The count of blocks of facts of one table that may wait, 1 to 65,536.
     pub ring: usize,
-    /// The path of the document, `None` for standard output.
+    /// The path of the document, or `None` for standard output.
     pub out: Option<Text>,
     /// Whether the document is on one line, or has a line for each fact.
     pub layout: Layout,
 }
 
 impl Settings {
-    /// Whether this is the path of the metadata or of the types table.
+    /// Returns whether this is the path of the metadata or of the types table.
     pub fn reads(&self, path: &str) -> bool
         ensures { IsTrue result ↔ IsInput self.now path.now }
     {
@@ -85,7 +90,7 @@ impl Settings {
     }
 }
 
-/// An argument with one value.
+/// Returns an argument with one value.
 fn one_value<'a>(alloc: Global, id: &'a str, value: &'a str, help: &'a str) -> Arg<'a>
     ensures rule { rule_of result ≡ spec.one_value id.entry.now }
     ensures local { result.global ≡ false }
@@ -96,7 +101,7 @@ fn one_value<'a>(alloc: Global, id: &'a str, value: &'a str, help: &'a str) -> A
         .action(ArgAction::Set)
 }
 
-/// An option with one value.
+/// Returns an option with one value.
 fn option<'a>(alloc: Global, name: &'a str, value: &'a str, help: &'a str) -> Arg<'a>
     ensures rule { rule_of result ≡ spec.option name.entry.now }
     ensures local { result.global ≡ false }
@@ -104,10 +109,11 @@ fn option<'a>(alloc: Global, name: &'a str, value: &'a str, help: &'a str) -> Ar
     one_value(alloc, name, value, help).long(name)
 }
 
-/// An option whose value is a number from 1 to `most`.
+/// Returns an option whose value is a number from 1 to `most`.
 fn number_option<'a>(
     alloc: Global,
     name: &'a str,
+    value: &'a str,
     most: u64,
     default: &'a str,
     help: &'a str,
@@ -115,12 +121,12 @@ fn number_option<'a>(
     ensures rule { rule_of result ≡ spec.number_option name.entry.now most default.entry.now }
     ensures local { result.global ≡ false }
 {
-    option(alloc, name, "N", help)
+    option(alloc, name, value, help)
         .value_parser(ValueParser::unsigned(1, most))
         .default_value(default)
 }
 
-/// An option whose value is one of the words.
+/// Returns an option whose value is one of `words`.
 fn word_option<'a>(
     alloc: Global,
     name: &'a str,
@@ -131,12 +137,12 @@ fn word_option<'a>(
     ensures rule { rule_of result ≡ spec.word_option name.entry.now words.entry default.entry.now }
     ensures local { result.global ≡ false }
 {
-    option(alloc, name, "WORD", help)
+    option(alloc, name, "LAYOUT", help)
         .value_parser(ValueParser::Names(words))
         .default_value(default)
 }
 
-/// An option without a value.
+/// Returns an option without a value.
 fn flag<'a>(alloc: Global, name: &'a str, help: &'a str) -> Arg<'a>
     ensures rule { rule_of result ≡ spec.flag name.entry.now }
     ensures local { result.global ≡ false }
@@ -147,7 +153,7 @@ fn flag<'a>(alloc: Global, name: &'a str, help: &'a str) -> Arg<'a>
         .action(ArgAction::SetTrue)
 }
 
-/// The program with the arguments for its two files. Fails if memory runs out.
+/// Returns the program with the arguments for its two files.
 fn inputs<'a>(alloc: Global) -> Result<Command<'a>, AllocError>
     ensures { IfOk result (λ c. app_of c ≡ spec.inputs) }
 {
@@ -162,7 +168,7 @@ fn inputs<'a>(alloc: Global) -> Result<Command<'a>, AllocError>
         .arg(types)
 }
 
-/// A command with one more argument. Fails if memory runs out, also for the command.
+/// Returns a command with one more argument. Fails also if the command had failed.
 fn with<'a>(
     command: Result<Command<'a>, AllocError>,
     arg: Arg<'a>,
@@ -177,14 +183,20 @@ fn with<'a>(
     }
 }
 
-/// The program's arguments, as `clap` reads them, where `layouts` are the words of the layouts. Fails if
-/// memory runs out.
+/// Returns the program's arguments, as `clap` reads them, with the values `layouts` for `--layout`.
 pub(crate) fn command<'a>(alloc: Global, layouts: &'a [&'a str]) -> Result<Command<'a>, AllocError>
     ensures { IfOk result (λ c. app_of c ≡ command_line layouts.entry) }
 {
-    let workers = number_option(alloc, "workers", MOST_WORKERS as u64, "4", WORKERS_HELP);
+    let workers = number_option(
+        alloc,
+        "workers",
+        "N",
+        MOST_WORKERS as u64,
+        "4",
+        WORKERS_HELP,
+    );
     let command = with(inputs(alloc), workers);
-    let ring = number_option(alloc, "ring", LARGEST_RING as u64, "1024", RING_HELP);
+    let ring = number_option(alloc, "ring", "K", LARGEST_RING as u64, "1024", RING_HELP);
     let command = with(command, ring);
     let command = with(command, option(alloc, "out", "FILE", OUT_HELP));
     let whole = flag(alloc, "whole", WHOLE_HELP);
@@ -198,14 +210,14 @@ pub(crate) fn command<'a>(alloc: Global, layouts: &'a [&'a str]) -> Result<Comma
     with(command, option(alloc, "faults", "FILE", FAULTS_HELP))
 }
 
-/// The value that the argument `id` has.
+/// Returns the value of the argument `id`.
 fn value_of<'a>(matches: &ArgMatches<'a>, id: &str) -> Option<&'a str>
     ensures { option_map (λ s. s.now) result ≡ first_of id.now (rows_of (found_of matches.now)) }
 {
     matches.get_str(id)
 }
 
-/// The path that the option `id` has, if it is given. Fails if memory runs out.
+/// Returns the path that the option `id` has, if it is given.
 pub(crate) fn path_of(
     alloc: Global,
     matches: &ArgMatches<'_>,
@@ -219,7 +231,7 @@ pub(crate) fn path_of(
     }
 }
 
-/// Whether the flag `id` is given.
+/// Returns whether the flag `id` is given.
 pub(crate) fn is_given(matches: &ArgMatches<'_>, id: &str) -> bool
     ensures { result ≡ spec.is_given (first_of id.now (rows_of (found_of matches.now))) }
 {
@@ -229,7 +241,7 @@ pub(crate) fn is_given(matches: &ArgMatches<'_>, id: &str) -> bool
     }
 }
 
-/// The number that the option `id` has, if it is between `least` and `most`.
+/// Returns the number that the option `id` has, if it is between `least` and `most`.
 fn number_between(matches: &ArgMatches<'_>, id: &str, least: usize, most: usize) -> Option<usize>
     ensures { IfSome result (λ n. (least ≤ n) × (n ≤ most)
         × IsNumberOf (one_of id.now (rows_of (found_of matches.now))) n) }
@@ -242,7 +254,7 @@ fn number_between(matches: &ArgMatches<'_>, id: &str, least: usize, most: usize)
     }
 }
 
-/// The layout that the option `layout` has.
+/// Returns the layout that the option `layout` has.
 fn layout_in(matches: &ArgMatches<'_>) -> Option<Layout>
     ensures { IfSome result (IsLayoutOf (first_of (codes "layout") (rows_of (found_of matches.now)))) }
 {
@@ -256,7 +268,7 @@ fn layout_in(matches: &ArgMatches<'_>) -> Option<Layout>
     }
 }
 
-/// The settings in the matches. A parse of `command` always has them. Fails if memory runs out.
+/// Returns the settings in the matches. A parse of `command` always has them.
 pub(crate) fn settings_in(
     alloc: Global,
     matches: &ArgMatches<'_>,

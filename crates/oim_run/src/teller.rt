@@ -1,4 +1,6 @@
-//! What a person is told of how a run ended.
+//! Printing a run's outcome for people.
+//!
+//! Not proved: that the lines of an outcome are printed at all, even if memory does not run out.
 
 ghost use Rattle.std.specs.Prelude.{◌≡◌, if◌then◌else◌, [], ◌∷◌, ◌++◌, Bool, Option, Some, None, IfOk, IfSome, string_bytes};
 ghost use Rattle.oim_run.specs.Lines.{line_of, status_of, terminal_line_of};
@@ -7,25 +9,25 @@ ghost use Rattle.oim_run.specs.Outputs.{Said, Says};
 use crate::outcome::{Outcome, line, status, terminal_line};
 use std::alloc::{AllocError, Global};
 
-/// Who tells a person something: standard error.
+/// A printer of lines for people: standard error.
 pub trait Teller {
-    /// The texts that it was given so far, in order, if it tells them.
+    /// The texts that it was given so far, in order, if contracts see them.
     ghost said: { Self → Option Said } = { λ _. None };
 
-    /// Whether it is a terminal, if it tells that.
+    /// Whether it is a terminal, if contracts see that.
     ghost terminal: { Self → Option Bool } = { λ _. None };
 
-    /// Whether it is a terminal, which gets no control character of a path.
+    /// Returns whether it is a terminal, which gets no control character of a path.
     fn is_terminal(&self) -> bool
         ensures { IfSome (terminal self.now) (λ is. result ≡ is) };
 
-    /// Tells a text. What cannot be told is left out.
+    /// Prints a text. Drops what cannot be printed.
     fn say(&mut self, text: &str)
         ensures said { IfSome (said self.old) (λ earlier. said self.new ≡ Some (earlier ++ text.now ∷ [])) }
         ensures same { terminal self.new ≡ terminal self.old };
 }
 
-/// The lines of an outcome, for a terminal or for any other. Fails if memory runs out.
+/// Returns the lines of an outcome, for a terminal or not.
 fn lines_for(alloc: Global, outcome: &Outcome, is_terminal: bool) -> Result<String, AllocError>
     ensures { IfOk result (λ s. string_bytes s ≡ (if is_terminal then terminal_line_of outcome.now else line_of outcome.now)) }
 {
@@ -36,8 +38,8 @@ fn lines_for(alloc: Global, outcome: &Outcome, is_terminal: bool) -> Result<Stri
     }
 }
 
-/// Tells the lines of an outcome, as one text, and gives its exit status. Where memory runs out for the lines, nothing
-/// is told. A terminal gets no control character of a path.
+/// Prints the lines of an outcome, as one text, and returns its exit status. Prints nothing if
+/// memory runs out for the lines. A terminal gets no control character of a path.
 pub fn tell<L: Teller>(to: &mut L, alloc: Global, outcome: &Outcome) -> u8
     ensures status { result ≡ status_of outcome.now }
     ensures says { Says (L.terminal to.old) outcome.now (L.said to.old) (L.said to.new) }

@@ -1,4 +1,4 @@
--- The marks of the bytes that JSON escapes, of which those of the first bytes are shifted out.
+-- The marks of the bytes that JSON escapes, with those of the first bytes shifted out.
 use Rattle.std.proofs.Common.{◌≡◌, ℕ, zero, suc, ◌+◌, ◌-◌, ◌*◌, ◌/◌, ◌^◌, ◌≤◌, List, [], ◌∷◌, Bool, true, false, cond, length, take, drop, drop-drop, map, refl, sym, ap, ◌∙◌, arith}
 use Rattle.std.specs.List.{prefix_len}
 use Rattle.std.proofs.lemmas.List.{drop-map, drop-take}
@@ -14,7 +14,7 @@ half : (b : Bool) (n : ℕ) → (cond b 1 0 + 2 * n) / 2 ≡ n
 half true n = omega arith
 half false n = omega arith
 
--- a mask without its lowest bits is that of the other lanes
+-- A mask without its lowest bits is that of the other lanes.
 pub shifted : (k : ℕ) (ms : List Bool) → mask_l ms / 2 ^ k ≡ mask_l (drop k ms)
 shifted zero ms = div-one (mask_l ms)
 shifted (suc k) [] = zero-div (2 ^ suc k)
@@ -26,16 +26,16 @@ halved : (ms : List Bool) → mask_l ms / 2 ≡ mask_l (drop 1 ms)
 halved [] = refl
 halved (m ∷ ms) = half m (mask_l ms)
 
--- the marks of a block, of which so many bytes are behind
+-- The marks of a block after its first `done` bytes.
 abbrev pub marks_behind : List ℕ → ℕ → ℕ
 marks_behind text done = mask_l (drop done (map is_escaped (take 32 text)))
 
--- they are those of the bytes that are left of it
+-- They are those of the bytes that are left of it.
 left : (text : List ℕ) (done rest : ℕ) → done + rest ≡ 32 → marks_behind text done ≡ mask_l (map is_escaped (take rest (drop done text)))
 left text done rest whole =
     ap mask_l (drop-map is_escaped done (take 32 text) ∙ ap (λ n. map is_escaped (drop done (take n text))) (sym whole) ∙ ap (map is_escaped) (drop-take done rest text))
 
--- bytes below the first mark stand for themselves
+-- Bytes below the first mark need no escape.
 pub marks_stand : (text : List ℕ) (done run : ℕ) → 32 ≤ length text → done + run ≤ 32 → run ≤ count_trailing_zeros 64 (marks_behind text done) → run ≤ prefix_len is_unescaped (drop done text)
 marks_stand text done run long within below =
     let rest = 32 - done in
@@ -47,7 +47,7 @@ marks_stand text done run long within below =
       | no none ↦ omega (arith, run_through is_escaped is_unescaped (λ x. not-not (is_unescaped x)) text done rest (omega arith) (omega arith))
     ]
 
--- where the marks of more bytes are shifted out, more bytes are behind
+-- Shifting out the marks of more bytes gives the marks after them.
 pub more_behind : (text : List ℕ) (done run marks : ℕ) → marks ≡ marks_behind text done → marks / 2 ^ run / 2 ≡ marks_behind text (done + (run + 1))
 more_behind text done run marks is =
     let ms = map is_escaped (take 32 text) in

@@ -1,4 +1,4 @@
--- How long an escaped text is.
+-- The length of an escaped text.
 use Rattle.std.proofs.Common.{◌≤◌, ◌*◌, ℕ, Bool, true, false, List, [], ◌∷◌, length, nat_lt, ◌==◌, arith, length-append}
 use Rattle.std.specs.Prelude.{if◌then◌else◌}
 use Rattle.std.specs.List.{flat_map}
@@ -14,7 +14,7 @@ byte_length b =
     short_if (b == 34) _ _ (omega arith) (short_if (b == 92) _ _ (omega arith) (short_if (b == 8) _ _ (omega arith) (short_if (b == 12) _ _ (omega arith) (short_if (b == 10) _ _ (omega arith)
     (short_if (b == 13) _ _ (omega arith) (short_if (b == 9) _ _ (omega arith) (short_if (nat_lt b 32) _ _ (omega arith) (omega arith))))))))
 
--- an escaped text takes six bytes for each of its bytes at most
+-- An escaped text takes at most six bytes for each of its bytes.
 pub escaped_length : (xs : List ℕ) → length (flat_map escaped_byte xs) ≤ 6 * length xs
 escaped_length [] = omega arith
 escaped_length (x ∷ xs) = omega (arith, byte_length x, escaped_length xs, length-append (escaped_byte x) (flat_map escaped_byte xs))

@@ -9,7 +9,7 @@ use Rattle.oim_text.specs.Places.{Placed}
 use Rattle.oim_text.proofs.PlacedBytes.{Placed-less, Placed-then}
 use Rattle.oim_json.proofs.Quoted.{all_unescaped}
 
--- 255 where a byte is below another, as a vector compares them
+-- 255 if a byte is below another, as a vector compares them.
 abbrev pub below : ℕ → ℕ → ℕ
 below a b = cond (ltb a b) 255 0
 
@@ -17,30 +17,30 @@ one_passes : (b : Bool) (n m : ℕ) (rest : Bool) → suc n ≤ cond b (1 + m) 0
 one_passes true n m rest le more = more (omega arith)
 one_passes false n m rest le more = absurd (omega arith)
 
--- the front of a text of which each byte passes
+-- A prefix of a text of which each byte passes.
 pub front_passes : (q : ℕ → Bool) (n : ℕ) (xs : List ℕ) → n ≤ prefix_len q xs → list_all q (take n xs) ≡ true
 front_passes q zero xs h = refl
 front_passes q (suc n) [] h = refl
 front_passes q (suc n) (x ∷ xs) h = one_passes (q x) n (prefix_len q xs) (list_all q (take n xs)) h (front_passes q n xs)
 
--- a byte more of an escaped text
+-- One more byte of an escaped text.
 pub escaped_more : (xs : List ℕ) (i d : ℕ) → i < length xs → flat_map escaped_byte (take (i + 1) xs) ≡ flat_map escaped_byte (take i xs) ++ escaped_byte (get_or xs i d)
 escaped_more xs i d lt =
     ap (flat_map escaped_byte) (take_more xs i d lt) ∙ flat_map-append escaped_byte (take i xs) (get_or xs i d ∷ [])
     ∙ ap (λ t. flat_map escaped_byte (take i xs) ++ t) (append-nil (escaped_byte (get_or xs i d)))
 
--- a run more
+-- One more run.
 pub escaped_run : (xs : List ℕ) (n m : ℕ) → m ≤ prefix_len is_unescaped (drop n xs) → flat_map escaped_byte (take (n + m) xs) ≡ flat_map escaped_byte (take n xs) ++ take m (drop n xs)
 escaped_run xs n m front =
     ap (flat_map escaped_byte) (take-add n m xs) ∙ flat_map-append escaped_byte (take n xs) (take m (drop n xs))
     ∙ ap (λ t. flat_map escaped_byte (take n xs) ++ t) (all_unescaped _ (front_passes is_unescaped m (drop n xs) front))
 
--- a byte that is escaped behind the front of a text
+-- A byte that is escaped after a prefix of a text.
 pub byte_copied : {a b c : List ℕ} {i j k : ℕ} (xs : List ℕ) (n d : ℕ) → n < length xs
     → Placed a b i (flat_map escaped_byte (take n xs)) j → Placed b c j (escaped_byte (get_or xs n d)) k → Placed a c i (flat_map escaped_byte (take (n + 1) xs)) k
 byte_copied xs n d within p q = rw (escaped_more xs n d within) (Placed-then p q)
 
--- a block whose bytes stand behind an escaped front, as they are: the run at its front counts, and those behind it do not
+-- A block whose bytes follow an escaped prefix unescaped: only the run at its start counts.
 pub block_front : {a b : List ℕ} {i : ℕ} (j : ℕ) (xs : List ℕ) (n m : ℕ) → i ≤ length a → n + 32 ≤ length xs → m ≤ 32 → m ≤ prefix_len is_unescaped (drop n xs)
     → Placed a b i (flat_map escaped_byte (take n xs) ++ take 32 (drop n xs)) (j + 32) → Placed a b i (flat_map escaped_byte (take (n + m) xs)) (j + m)
 block_front {a} {b} {i} j xs n m within long few front p =
@@ -55,7 +55,7 @@ block_front {a} {b} {i} j xs n m within long few front p =
     let place : i + (length done + m) ≡ j + m = omega (arith, p.moved, both, wide) in
     rw (text, place) at less
 
--- an escaped byte behind that run, and the block behind it
+-- An escaped byte after that run, and the block after it.
 pub block_byte : {a b c d : List ℕ} {i : ℕ} (j k : ℕ) (xs : List ℕ) (n m : ℕ) → i ≤ length a → n + m + 33 ≤ length xs → m ≤ 32 → m ≤ prefix_len is_unescaped (drop n xs)
     → Placed a b i (flat_map escaped_byte (take n xs) ++ take 32 (drop n xs)) (j + 32) → Placed b c (j + m) (escaped_byte (get_or xs (n + m) 0)) k
     → Placed c d k (take 32 (drop (n + (m + 1)) xs)) (k + 32) → Placed a d i (flat_map escaped_byte (take (n + (m + 1)) xs) ++ take 32 (drop (n + (m + 1)) xs)) (k + 32)

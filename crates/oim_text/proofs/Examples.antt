@@ -1,4 +1,4 @@
--- Worked cases of what is escaped.
+-- Worked cases of what JSON escapes.
 use Rattle.std.proofs.Common.{◌≡◌, true, false, refl}
 use Rattle.oim_text.specs.state.Escapes.{is_escaped}
 

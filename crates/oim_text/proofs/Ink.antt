@@ -55,7 +55,7 @@ ink_reverse (c ∷ cs) h =
 back_stays : (s : List ℕ) → IsInk s → without_back s ≡ s
 back_stays s h = ap reverse (front_stays (reverse s) (ink_reverse s h)) ∙ reverse-reverse s
 
--- a text that is split has no blanks at its ends
+-- A text that is split has no blanks at its ends.
 pub split_trims : (kind : NumberKind) (s v : List ℕ) (a : Option Accuracy) → IsSplit kind s v a → trimmed s ≡ s
 split_trims kind s v a h =
     let ink = ink_split kind s v a h in

@@ -14,7 +14,8 @@ both true true p q = refl
 both true false p q = q
 both false b p q = p
 
--- a test that passes digits, signs, the point and the marks of a power passes each byte of a numeral
+-- A test that passes digits, signs, the point and the marks of a power passes each byte of a
+-- numeral.
 module _ (q : ℕ → Bool) (digit : (c : ℕ) → digit_value c < 10 → q c ≡ true) (minus : q 45 ≡ true) (plus : q 43 ≡ true) (point : q 46 ≡ true) (mark : q 101 ≡ true) (capital : q 69 ≡ true) where
   abbrev Pass : List ℕ → Type 0
   Pass s = list_all q s ≡ true

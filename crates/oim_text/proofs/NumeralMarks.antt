@@ -14,14 +14,14 @@ both_true : (a b : Bool) → (a && b) ≡ true → (a ≡ true) × (b ≡ true)
 both_true true b h = (refl, h)
 both_true false b h = absurd (cc h)
 
--- bytes of which each is a digit
+-- Bytes that are all digits.
 digits_passed : (s : List ℕ) → list_all is_digit s ≡ true → AllDigits 10 s
 digits_passed [] h = tt
 digits_passed (c ∷ cs) h =
     let parts = both_true (is_digit c) (list_all is_digit cs) h in
     (ltb-true (digit_value c) 10 parts.0, digits_passed cs parts.1)
 
--- the mask of the first 16 bytes says where the first of them stands that is no digit
+-- The mask of the first 16 bytes shows the first of them that is not a digit.
 pub all_digits : (text : List ℕ) → 16 ≤ length text → mask_l (map is_other (take 16 text)) ≡ 0 → AllDigits 10 (take 16 text)
 all_digits text long none =
     let through = run_through is_other is_digit (λ x. not-not (is_digit x)) text 0 16 long none in
@@ -32,7 +32,7 @@ digits_before text long some =
     let stops = run_stops is_other is_digit (λ x. not-not (is_digit x)) text 0 16 long (omega arith) some in
     digits_passed _ (front_passes is_digit _ text (omega (arith, stops)))
 
--- the front of digits is digits
+-- A prefix of digits is digits.
 pub digits_front : (n : ℕ) (s : List ℕ) → AllDigits 10 s → AllDigits 10 (take n s)
 digits_front zero s h = tt
 digits_front (suc n) [] h = tt

@@ -15,12 +15,12 @@ use Rattle.oim_text.proofs.Ink.{split_trims}
 use Rattle.oim_text.specs.state.Digits.{IsFrontOf, IsPointed, begins_with_sign, marks_power, takes_point}
 use Rattle.oim_text.specs.Suffixes.{IsSuffix}
 
--- digits, one more
+-- Digits, one more.
 pub digits_push : (xs : List ℕ) (d : ℕ) → AllDigits 10 xs → digit_value d < 10 → AllDigits 10 (xs ++ d ∷ [])
 digits_push [] d h k = (k, tt)
 digits_push (x ∷ xs) d h k = (h.0, digits_push xs d h.1 k)
 
--- a sign and digits with at most one point are a numeral
+-- A sign and digits with at most one point are a numeral.
 is_front : (kind : NumberKind) (s u : List ℕ) → without_leading_sign s ≡ u → 0 < length u → AllDigits 10 u → IsFrontOf kind s
 is_front Integer s u e h d = rw e (h, d)
 is_front Decimal s u e h d = inl (rw e (h, d))
@@ -36,7 +36,7 @@ is_pointed_front Integer s u n e h p = absurd (cc)
 is_pointed_front Decimal s u n e h p = pointed_decimal s u e h p
 is_pointed_front Double s u n e h p = pointed_decimal s u e h p
 
--- digits, a point and digits
+-- Digits, a point and digits.
 pub pointed_there : (xs : List ℕ) (n m : ℕ) → n < length xs → get_or xs n 0 ≡ 46 → AllDigits 10 (take n xs) → AllDigits 10 (take m (drop (n + 1) xs)) → IsPointed (take (n + 1 + m) xs)
 pointed_there xs n m lt point before after =
     let front : take (n + 1) xs ≡ take n xs ++ codes "." = take_more xs n 0 lt ∙ ap (λ c. take n xs ++ c ∷ []) point in
@@ -70,7 +70,7 @@ unsigned xs k h = let same : 0 + k ≡ k = omega arith in rw same (unsigned_at x
     unsigned_at [] (suc k) h = refl
     unsigned_at (c ∷ cs) (suc k) h = unsigned_by (c == 45) (c == 43) (c ∷ take k cs) h
 
--- digits at the front are no sign
+-- A leading digit is not a sign.
 digits_begin : (xs : List ℕ) (n : ℕ) → 0 < n → AllDigits 10 (take n xs) → begins_with_sign xs ≡ false
 digits_begin xs zero some h = absurd (omega arith)
 digits_begin [] (suc n) some h = refl
@@ -88,14 +88,14 @@ IsSign xs n = (k : ℕ) → without_leading_sign (take (n + k) xs) ≡ take k (d
 long_enough : (xs : List ℕ) (n m : ℕ) → n + m ≤ length xs → length (take m (drop n xs)) ≡ m
 long_enough xs n m le = length-take-le m (drop n xs) (omega (arith, length-drop n xs))
 
--- behind a sign of length n, m digits
+-- m digits after a sign of length n.
 pub digits_there : (kind : NumberKind) (xs : List ℕ) (n m : ℕ) → IsSign xs n → n + m ≤ length xs → 0 < m → AllDigits 10 (take m (drop n xs)) → IsFrontOf kind (take (n + m) xs)
 digits_there kind xs n m sign le some h =
     let is = long_enough xs n m le in
     let there : 0 < length (take m (drop n xs)) = omega (arith, is) in
     is_front kind (take (n + m) xs) (take m (drop n xs)) (sign m) there h
 
--- digits alone
+-- Only digits.
 pub digits_front : (kind : NumberKind) (xs : List ℕ) (n : ℕ) → n ≤ length xs → 0 < n → AllDigits 10 (take n xs) → IsFrontOf kind (take n xs)
 digits_front kind xs n le some h =
     let same : 0 + n ≡ n = omega arith in
@@ -108,7 +108,7 @@ pointed_digits_there kind xs n m sign le some takes h =
     let there : 1 < length (take m (drop n xs)) = omega (arith, is) in
     is_pointed_front kind (take (n + m) xs) (take m (drop n xs)) takes (sign m) there h
 
--- a power of ten behind the front
+-- A power of ten after the mantissa.
 pub front_is_numeral : (kind : NumberKind) (s : List ℕ) → IsFrontOf kind s → IsNumeralOf kind s
 front_is_numeral Integer s h = h
 front_is_numeral Decimal s h = h
@@ -129,18 +129,18 @@ with_power Double xs f b lt marks front back =
     take-add (f + 1) b xs ∙ ap (λ t. t ++ take b (drop (f + 1) xs)) (take_more xs f 0 lt) in
     subst IsDouble (sym whole) (power (take f xs) (c ∷ []) (take b (drop (f + 1) xs)) front (mark_of (c == 101) (c == 69) c refl refl marks) back)
 
--- what bytes that begin with a text begin with
+-- A numeral at the start of bytes that begin with a text.
 front_of : (kind : NumberKind) (s b : List ℕ) (n : ℕ) → take (length s) b ≡ s → n ≤ length s → IsNumeralOf kind (take n b) → IsNumeralOf kind (take n s)
 front_of kind s b n same le h = subst (IsNumeralOf kind) (sym (take-take n (length s) b le) ∙ ap (take n) same) h
 
--- a text that is a numeral, where b begins with the text
+-- A text that is a numeral, if b begins with the text.
 pub whole_split : (kind : NumberKind) (s b : List ℕ) (n : ℕ) → take (length s) b ≡ s → n ≡ length s → IsNumeralOf kind (take n b) → IsSplit kind (trimmed s) (take n s) None
 whole_split kind s b n same long h =
     let numeral = front_of kind s b n same (omega (arith, long)) h in
     let split : IsSplit kind s (take n s) None = subst (λ t. IsSplit kind t (take n s) None) (take_all n s (omega (arith, long))) (bare kind (take n s) numeral) in
     subst (λ t. IsSplit kind t (take n s) None) (sym (split_trims kind s (take n s) None split)) split
 
--- a text that is a numeral, `d` and decimals
+-- A text that is a numeral, `d` and decimals.
 pub suffix_split : (kind : NumberKind) (s b rest suffix : List ℕ) (a : Accuracy) (n : ℕ) → take (length s) b ≡ s → n ≤ length s → IsNumeralOf kind (take n b)
     → rest ≡ drop n s → rest ≡ 100 ∷ suffix → IsDecimals suffix a → IsSplit kind (trimmed s) (take n s) (Some a)
 suffix_split kind s b rest suffix a n same le h back marked decimals =
@@ -150,7 +150,7 @@ suffix_split kind s b rest suffix a n same le h back marked decimals =
     let split : IsSplit kind s v (Some a) = subst (λ t. IsSplit kind t v (Some a)) whole (suffixed kind v suffix a numeral decimals) in
     subst (λ t. IsSplit kind t v (Some a)) (sym (split_trims kind s v (Some a) split)) split
 
--- `d` and what it states
+-- `d` and the decimals that it states.
 pub suffix_read : (s t : List ℕ) (o : Option Accuracy) → s ≡ 100 ∷ t → ((a : Accuracy) → o ≡ Some a → IsDecimals t a) → IfSome o (IsSuffix s)
 suffix_read s t None marked h = tt
 suffix_read s t (Some a) marked h = record { text = t; marked = marked; states = h a refl }

@@ -1,6 +1,6 @@
--- What contracts see of a text that grows.
+-- What contracts see of a growing text.
 use Rattle.std.specs.Prelude.{ℕ, List}
 
--- its bytes
+-- Its bytes.
 pub record BufferText : Type 0 where
   pub items : List ℕ

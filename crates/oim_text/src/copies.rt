@@ -14,52 +14,53 @@ use crate::escape::escape_of;
 use std::alloc::AllocError;
 use std::simd::prelude::*;
 
-/// How many bytes are copied at once, also behind the end of a text. Where so many can be read behind it, a text is copied
-/// fastest.
+/// Bytes that are copied at once, even past the end of a text. A text is copied fastest if that
+/// many bytes after it can be read.
 pub(crate) const AT_ONCE: usize = 32;
 
-/// Copies the first 32 bytes of a text to a place.
+/// Copies the first 32 bytes of a text to index `at`.
 #[inline(always)]
-fn copy_chunk(room: &mut [u8], at: usize, text: &[u8])
+fn copy_chunk(memory: &mut [u8], at: usize, text: &[u8])
     requires text { 32 ≤ length text.now }
-    requires room { at + 32 ≤ length room.old }
-    ensures { Placed room.old room.new at (take 32 text.now) (at + 32) }
+    requires memory { at + 32 ≤ length memory.old }
+    ensures { Placed memory.old memory.new at (take 32 text.now) (at + 32) }
 {
-    u8x32::from_slice(text).copy_to_slice(&mut room[at..]);
+    u8x32::from_slice(text).copy_to_slice(&mut memory[at..]);
 }
 
-/// Copies a short text to a place, and writes nothing else. Answers where it ends.
+/// Copies a short text to index `at` and writes nothing else. Returns where the copy ends.
 #[inline(always)]
-pub fn copy_short(room: &mut [u8], at: usize, text: &[u8]) -> usize
-    requires { at + length text.now ≤ length room.old }
-    ensures { Placed room.old room.new at text.now result }
+pub fn copy_short(memory: &mut [u8], at: usize, text: &[u8]) -> usize
+    requires { at + length text.now ≤ length memory.old }
+    ensures { Placed memory.old memory.new at text.now result }
 {
     let end = at + text.len();
-    room[at..end].copy_from_slice(text);
+    memory[at..end].copy_from_slice(text);
     end
 }
 
-/// Copies bytes one by one.
+/// Copies exactly the bytes of a text, as `copy_short` does.
 #[cold]
 #[inline(never)]
-fn copy_exactly(room: &mut [u8], at: usize, text: &[u8]) -> usize
-    requires { at + length text.now ≤ length room.old }
-    ensures { Placed room.old room.new at text.now result }
+fn copy_exactly(memory: &mut [u8], at: usize, text: &[u8]) -> usize
+    requires { at + length text.now ≤ length memory.old }
+    ensures { Placed memory.old memory.new at text.now result }
 {
-    copy_short(room, at, text)
+    copy_short(memory, at, text)
 }
 
-/// Copies the first `len` bytes of a text that has 32 more to a place. Up to 32 bytes behind them may be written too. Answers where
-/// they end.
+/// Copies the first `len` bytes of a text that has 32 more to index `at`.
+///
+/// It may write up to 32 bytes after them too. Returns where the copy ends.
 #[inline(always)]
-pub fn copy_padded(room: &mut [u8], at: usize, text: &[u8], len: usize) -> usize
+pub fn copy_padded(memory: &mut [u8], at: usize, text: &[u8], len: usize) -> usize
     requires text { len + 32 ≤ length text.now }
-    requires room { at + len + 32 ≤ length room.old }
-    ensures { Placed room.old room.new at (take len text.now) result }
+    requires memory { at + len + 32 ≤ length memory.old }
+    ensures { Placed memory.old memory.new at (take len text.now) result }
 {
     let mut done = 0;
     loop {
-        copy_chunk(room, at + done, &text[done..]);
+        copy_chunk(memory, at + done, &text[done..]);
         done += AT_ONCE;
         if done >= len {
             return at + len;
@@ -67,43 +68,47 @@ pub fn copy_padded(room: &mut [u8], at: usize, text: &[u8], len: usize) -> usize
     }
 }
 
-/// Copies the first `len` bytes of a text, which may have no more, to a place. Up to 32 bytes behind them may be written too. Answers
-/// where they end.
+/// Copies the first `len` bytes of a text, which may have no more, to index `at`.
+///
+/// It may write up to 32 bytes after them too. Returns where the copy ends.
 #[inline(always)]
-pub fn copy(room: &mut [u8], at: usize, text: &[u8], len: usize) -> usize
+pub fn copy(memory: &mut [u8], at: usize, text: &[u8], len: usize) -> usize
     requires text { len ≤ length text.now }
-    requires room { at + len + 32 ≤ length room.old }
-    ensures { Placed room.old room.new at (take len text.now) result }
+    requires memory { at + len + 32 ≤ length memory.old }
+    ensures { Placed memory.old memory.new at (take len text.now) result }
 {
     if text.len() - len < AT_ONCE {
-        return copy_exactly(room, at, &text[..len]);
+        return copy_exactly(memory, at, &text[..len]);
     }
-    copy_padded(room, at, text, len)
+    copy_padded(memory, at, text, len)
 }
 
-/// Copies all `len` bytes of a text that grows and is not empty to a place. Up to 32 bytes behind them may be written too. Answers where
-/// they end.
+/// Copies all `len` bytes of a growing text that is not empty to index `at`.
+///
+/// It may write up to 32 bytes after them too. Returns where the copy ends.
 #[inline(always)]
-pub fn copy_some(room: &mut [u8], at: usize, text: &TextBuffer, len: usize) -> usize
+pub fn copy_some(memory: &mut [u8], at: usize, text: &TextBuffer, len: usize) -> usize
     requires whole { len ≡ length text.now.items }
     requires some { 0 < len }
-    requires room { at + len + 32 ≤ length room.old }
-    ensures { Placed room.old room.new at text.now.items result }
+    requires memory { at + len + 32 ≤ length memory.old }
+    ensures { Placed memory.old memory.new at text.now.items result }
 {
-    copy_padded(room, at, text.room.as_slice(), len)
+    copy_padded(memory, at, text.memory.as_slice(), len)
 }
 
-/// Copies the whole of a text that grows to a place. Up to 32 bytes behind it may be written too. Answers where it ends.
+/// Copies the whole of a growing text to index `at`.
+///
+/// It may write up to 32 bytes after it too. Returns where the copy ends.
 #[inline(always)]
-pub fn copy_text(room: &mut [u8], at: usize, text: &TextBuffer) -> usize
-    requires { at + length text.now.items + 32 ≤ length room.old }
-    ensures { Placed room.old room.new at text.now.items result }
+pub fn copy_text(memory: &mut [u8], at: usize, text: &TextBuffer) -> usize
+    requires { at + length text.now.items + 32 ≤ length memory.old }
+    ensures { Placed memory.old memory.new at text.now.items result }
 {
     let len = text.len();
     if len == 0 {
         return at;
     }
-    copy_some(room, at, text, len)
+    copy_some(memory, at, text, len)
 }
 
 /// Marks the bytes that JSON escapes: bit k is set for byte k.
@@ -116,58 +121,60 @@ fn escape_marks(bytes: u8x32) -> u64
         | bytes.simd_lt(u8x32::splat(32))).to_bitmask()
 }
 
-/// Writes a byte as JSON has it. Six bytes may be written in all. Answers where it ends.
+/// Writes a byte as JSON escapes it. It may write six bytes in all. Returns where the escape ends.
 #[inline(never)]
-fn copy_rare_byte(room: &mut [u8], at: usize, byte: u8) -> usize
-    requires { at + 6 ≤ length room.old }
-    ensures bytes { Placed room.old room.new at (escaped_byte byte) result }
+fn copy_rare_byte(memory: &mut [u8], at: usize, byte: u8) -> usize
+    requires { at + 6 ≤ length memory.old }
+    ensures bytes { Placed memory.old memory.new at (escaped_byte byte) result }
     ensures within { result ≤ at + 6 }
 {
     let (escape, size) = escape_of(byte);
-    room[at..at + 6].copy_from_slice(&escape);
+    memory[at..at + 6].copy_from_slice(&escape);
     at + size
 }
 
-/// The same, where it is mostly a quote.
+/// Writes a byte as `copy_rare_byte` does. It is fastest for a quote, the most common case.
 #[inline(always)]
 #[tactic(auto, unfolding(oim_json::specs::JsonText::escaped_byte))]
-fn copy_byte(room: &mut [u8], at: usize, byte: u8) -> usize
-    requires { at + 6 ≤ length room.old }
-    ensures bytes { Placed room.old room.new at (escaped_byte byte) result }
+fn copy_byte(memory: &mut [u8], at: usize, byte: u8) -> usize
+    requires { at + 6 ≤ length memory.old }
+    ensures bytes { Placed memory.old memory.new at (escaped_byte byte) result }
     ensures within { result ≤ at + 6 }
 {
     if byte == b'"' {
-        return copy_short(room, at, b"\\\"");
+        return copy_short(memory, at, b"\\\"");
     }
-    copy_rare_byte(room, at, byte)
+    copy_rare_byte(memory, at, byte)
 }
 
-/// The same of all bytes of a text.
+/// Writes all bytes of a text as `copy_byte` does.
 #[cold]
 #[inline(never)]
-fn copy_bytes(room: &mut [u8], from: usize, text: &[u8]) -> usize
-    requires { from + 6 * length text.now ≤ length room.old }
-    ensures { Placed room.old room.new from (flat_map escaped_byte text.now) result }
+fn copy_bytes(memory: &mut [u8], from: usize, text: &[u8]) -> usize
+    requires { from + 6 * length text.now ≤ length memory.old }
+    ensures { Placed memory.old memory.new from (flat_map escaped_byte text.now) result }
 {
     let mut at = from;
     for i in 0..text.len() {
-        at = copy_byte(room, at, text[i]);
+        at = copy_byte(memory, at, text[i]);
     }
     at
 }
 
-/// Copies the first `len` bytes of a text, which are 32 at most, to a place, with escapes as JSON has them. Up to 32 bytes behind
-/// them may be written too. Answers where they end. The bytes are looked at once, also where several of them are escaped.
+/// Copies the first `len` bytes of a text, at most 32, to index `from`, escaped for JSON.
+///
+/// It tests the bytes only once, even if several of them are escaped. It may write up to 32 bytes
+/// after them too. Returns where the copy ends.
 #[inline(always)]
-fn copy_block(room: &mut [u8], from: usize, text: &[u8], len: usize) -> usize
+fn copy_block(memory: &mut [u8], from: usize, text: &[u8], len: usize) -> usize
     requires few { len ≤ 32 }
     requires text { len + 32 ≤ length text.now }
-    requires room { from + 6 * len + 32 ≤ length room.old }
-    ensures bytes { Placed room.old room.new from (flat_map escaped_byte (take len text.now)) result }
+    requires memory { from + 6 * len + 32 ≤ length memory.old }
+    ensures bytes { Placed memory.old memory.new from (flat_map escaped_byte (take len text.now)) result }
     ensures within { result ≤ from + 6 * len }
 {
     let mut marks = escape_marks(u8x32::from_slice(text));
-    copy_chunk(room, from, text);
+    copy_chunk(memory, from, text);
     let mut at = from;
     let mut done = 0;
     loop {
@@ -175,23 +182,25 @@ fn copy_block(room: &mut [u8], from: usize, text: &[u8], len: usize) -> usize
         if run >= len - done {
             return at + (len - done);
         }
-        at = copy_byte(room, at + run, text[done + run]);
+        at = copy_byte(memory, at + run, text[done + run]);
         done += run + 1;
-        copy_chunk(room, at, &text[done..]);
+        copy_chunk(memory, at, &text[done..]);
         marks = marks >> run >> 1;
     }
 }
 
-/// Copies the first `len` bytes of a text to a place, with escapes as JSON has them. There is room for six times as many
-/// bytes and 32 more. Answers where they end.
+/// Copies the first `len` bytes of a text to index `from`, escaped for JSON. Returns where the copy
+/// ends.
+///
+/// The buffer must hold six times as many bytes and 32 more.
 #[inline(always)]
-pub fn copy_escaped(room: &mut [u8], from: usize, text: &[u8], len: usize) -> usize
+pub fn copy_escaped(memory: &mut [u8], from: usize, text: &[u8], len: usize) -> usize
     requires text { len ≤ length text.now }
-    requires room { from + 6 * len + 32 ≤ length room.old }
-    ensures { Placed room.old room.new from (flat_map escaped_byte (take len text.now)) result }
+    requires memory { from + 6 * len + 32 ≤ length memory.old }
+    ensures { Placed memory.old memory.new from (flat_map escaped_byte (take len text.now)) result }
 {
     if text.len() - len < AT_ONCE {
-        return copy_bytes(room, from, &text[..len]);
+        return copy_bytes(memory, from, &text[..len]);
     }
     let mut at = from;
     let mut done = 0;
@@ -201,29 +210,30 @@ pub fn copy_escaped(room: &mut [u8], from: usize, text: &[u8], len: usize) -> us
         } else {
             AT_ONCE
         };
-        at = copy_block(room, at, &text[done..], part);
+        at = copy_block(memory, at, &text[done..], part);
         done += part;
     }
     at
 }
 
-/// How many bytes of a text are escaped with one test of the room.
+/// Bytes of a text that are escaped with one capacity test.
 const PART: usize = 1024;
 
-/// Appends the first bytes of a text, escaped. Fails where memory is short, and then appends nothing.
+/// Appends the first `len` bytes of a text, escaped. If memory runs out, it appends nothing.
 #[inline(always)]
 fn put_part(out: &mut TextBuffer, text: &[u8], len: usize) -> Result<(), AllocError>
     requires text { len ≤ length text.now }
     requires few { len ≤ 1024 }
     ensures { out.new.items ≡ (if is_ok result then out.old.items ++ flat_map escaped_byte (take len text.now) else out.old.items) }
 {
-    make_room(&mut out.room, out.len, 6 * len + 2 * AT_ONCE)?;
-    let end = copy_escaped(&mut out.room, out.len, text, len);
+    make_room(&mut out.memory, out.len, 6 * len + 2 * AT_ONCE)?;
+    let end = copy_escaped(&mut out.memory, out.len, text, len);
     out.len = end;
     Ok(())
 }
 
-/// Appends the first `len` bytes of a text, escaped. Fails where memory is short; what was there stays at the front.
+/// Appends the first `len` bytes of a text, escaped. If memory runs out, it may append a part of
+/// them.
 #[inline(always)]
 pub fn put_escaped_front(out: &mut TextBuffer, text: &[u8], len: usize) -> Result<(), AllocError>
     requires { len ≤ length text.now }
@@ -238,33 +248,34 @@ pub fn put_escaped_front(out: &mut TextBuffer, text: &[u8], len: usize) -> Resul
     put_part(out, &text[done..], len - done)
 }
 
-/// Copies the first `len` bytes of a text to a place in quotes, with escapes as JSON has them. Answers where they end.
+/// Copies the first `len` bytes of a text to index `from` in quotes, escaped for JSON. Returns
+/// where the copy ends.
 #[inline(always)]
-fn copy_quoted(room: &mut [u8], from: usize, text: &[u8], len: usize) -> usize
+fn copy_quoted(memory: &mut [u8], from: usize, text: &[u8], len: usize) -> usize
     requires text { len ≤ length text.now }
-    requires room { from + 6 * len + 64 ≤ length room.old }
-    ensures bytes { Placed room.old room.new from (quoted (take len text.now)) result }
+    requires memory { from + 6 * len + 64 ≤ length memory.old }
+    ensures bytes { Placed memory.old memory.new from (quoted (take len text.now)) result }
     ensures few { result ≤ from + 6 * len + 2 }
 {
-    let at = copy_short(room, from, b"\"");
-    let at = copy_escaped(room, at, text, len);
-    copy_short(room, at, b"\"")
+    let at = copy_short(memory, from, b"\"");
+    let at = copy_escaped(memory, at, text, len);
+    copy_short(memory, at, b"\"")
 }
 
-/// Appends the first bytes of a text in quotes, escaped. Fails where memory is short.
+/// Appends the first `len` bytes of a text in quotes, escaped.
 #[inline(always)]
 fn put_quoted_part(out: &mut TextBuffer, text: &[u8], len: usize) -> Result<(), AllocError>
     requires text { len ≤ length text.now }
     requires few { len ≤ 1024 }
     ensures { OnOk result (out.new.items ≡ out.old.items ++ quoted (take len text.now)) }
 {
-    make_room(&mut out.room, out.len, 6 * len + 3 * AT_ONCE)?;
-    let end = copy_quoted(&mut out.room, out.len, text, len);
+    make_room(&mut out.memory, out.len, 6 * len + 3 * AT_ONCE)?;
+    let end = copy_quoted(&mut out.memory, out.len, text, len);
     out.len = end;
     Ok(())
 }
 
-/// Appends the first `len` bytes of a text in quotes, escaped. Fails where memory is short.
+/// Appends the first `len` bytes of a text in quotes, escaped.
 #[inline(always)]
 #[tactic(auto, using(std::proofs::Common::append_assoc), unfolding(oim_json::specs::JsonText::quoted))]
 pub fn put_quoted_front(out: &mut TextBuffer, text: &[u8], len: usize) -> Result<(), AllocError>

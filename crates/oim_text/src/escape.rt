@@ -1,4 +1,4 @@
-//! Texts as JSON writes them.
+//! Texts escaped for JSON.
 
 ghost use Rattle.std.specs.Prelude.{◌≡◌, ◌++◌, ◌∷◌, ◌<◌, ◌≤◌, ◌/◌, ◌%◌, [], OnOk, false, take, if◌then◌else◌, is_ok};
 ghost use Rattle.std.specs.Char.{digit_char};
@@ -10,10 +10,10 @@ ghost use Rattle.oim_json.specs.state.Writing.{is_unescaped};
 use crate::buffer::TextBuffer;
 use std::alloc::AllocError;
 
-/// A byte as JSON has it: the first of six bytes, and how many they are.
+/// An escaped byte: six bytes, and how many of them count.
 pub(crate) type Escape = ([u8; 6], usize);
 
-/// The lower-case hexadecimal digit of a number below 16.
+/// Returns the lower-case hexadecimal digit of a number below 16.
 fn hex_digit(n: u8) -> u8
     requires { n < 16 }
     ensures { result ≡ digit_char n }
@@ -21,7 +21,7 @@ fn hex_digit(n: u8) -> u8
     if n < 10 { b'0' + n } else { b'a' + (n - 10) }
 }
 
-/// An escape of one letter.
+/// Returns an escape of one letter.
 #[inline(always)]
 fn short_escape(letter: u8) -> Escape
     ensures text { take result.1 result.0 ≡ 92 ∷ letter ∷ [] }
@@ -30,7 +30,7 @@ fn short_escape(letter: u8) -> Escape
     ([b'\\', letter, 0, 0, 0, 0], 2)
 }
 
-/// The escape of a control character by its code.
+/// Returns the escape of a control character by its code.
 fn code_escape(byte: u8) -> Escape
     requires { byte < 32 }
     ensures text { take result.1 result.0 ≡ 92 ∷ 117 ∷ 48 ∷ 48 ∷ digit_char (byte / 16) ∷ digit_char (byte % 16) ∷ [] }
@@ -49,7 +49,7 @@ fn code_escape(byte: u8) -> Escape
     )
 }
 
-/// A byte as JSON has it.
+/// Returns a byte escaped for JSON.
 #[tactic(auto, unfolding(oim_json::specs::JsonText::escaped_byte))]
 pub(crate) fn escape_of(byte: u8) -> Escape
     ensures text { take result.1 result.0 ≡ escaped_byte byte }
@@ -68,7 +68,7 @@ pub(crate) fn escape_of(byte: u8) -> Escape
     }
 }
 
-/// Whether a byte stands for itself in a JSON text.
+/// Returns whether a byte needs no escape in a JSON string.
 #[inline(always)]
 fn stands_for_itself(byte: u8) -> bool
     ensures { result ≡ is_unescaped byte }
@@ -76,8 +76,9 @@ fn stands_for_itself(byte: u8) -> bool
     byte >= 32 && byte != b'"' && byte != b'\\'
 }
 
-/// Whether each byte of a text stands for itself. All of them are looked at, so that the compiler can
-/// test many at once.
+/// Returns whether no byte of a text needs an escape.
+///
+/// It tests all bytes, without an early return, so that the compiler can test many at once.
 #[inline]
 fn needs_no_escape(text: &str) -> bool
     ensures { result ≡ list_all is_unescaped text.now }
@@ -90,7 +91,7 @@ fn needs_no_escape(text: &str) -> bool
     all
 }
 
-/// Appends a byte, escaped. Fails where memory is short; what was there stays at the front.
+/// Appends a byte, escaped. If memory runs out, it appends nothing.
 fn put_byte(out: &mut TextBuffer, byte: u8) -> Result<(), AllocError>
     ensures { out.new.items ≡ (if is_ok result then out.old.items ++ escaped_byte byte else out.old.items) }
 {
@@ -110,7 +111,7 @@ fn put_bytes(out: &mut TextBuffer, bytes: &[u8]) -> Result<(), AllocError>
     Ok(())
 }
 
-/// Appends a text, escaped. Fails where memory is short; what was there stays at the front.
+/// Appends a text, escaped. If memory runs out, it may append a part of it.
 #[inline]
 pub fn put_escaped(out: &mut TextBuffer, text: &str) -> Result<(), AllocError>
     ensures escaped { OnOk result (out.new.items ≡ out.old.items ++ flat_map escaped_byte text.now) }
@@ -123,8 +124,7 @@ pub fn put_escaped(out: &mut TextBuffer, text: &str) -> Result<(), AllocError>
     }
 }
 
-/// Appends a text in quotes, escaped. Fails where memory is short; what was there stays at the
-/// front.
+/// Appends a text in quotes, escaped. If memory runs out, it may append a part of it.
 #[inline]
 #[tactic(auto, using(std::proofs::Common::append_assoc), unfolding(oim_json::specs::JsonText::quoted))]
 pub fn put_quoted(out: &mut TextBuffer, text: &str) -> Result<(), AllocError>

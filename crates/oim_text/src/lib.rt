@@ -1,17 +1,21 @@
-//! Texts that grow, copies of many bytes at once, JSON escapes, and the numerals of cells: what the fast way of `oim_fast` writes with.
+//! Growing texts, copies of many bytes at once, JSON escapes, and the numerals of cells, for the
+//! fast way of `oim_fast`.
 //!
-//! A `TextBuffer` is a text whose room is filled ahead of it, so that a piece is put behind it with one test of the room and one copy.
-//! A contract sees its bytes. Where memory is short, `put` and `push` append nothing; a call that escapes may then have put a part of its
-//! text.
+//! A `TextBuffer` is a text in a buffer that is initialized ahead of it, so that a piece is
+//! appended with one capacity test and one copy. A contract sees its bytes. If memory runs out,
+//! `put` and `push` append nothing, and a call that escapes may append a part of its text.
 //!
-//! The calls `copy`, `copy_short`, `copy_padded`, `copy_some`, `copy_text` and `copy_escaped` write at a place of a room that is large
-//! enough, and answer where the bytes end; of what stands behind them in the room they say nothing. The escapes are those of `oim_json`.
-//! `numeral_len` knows no fault: where it finds no numeral of the kind it answers 0, and the cell may still be one in another form.
+//! `copy`, `copy_short`, `copy_padded`, `copy_some`, `copy_text` and `copy_escaped` write into a
+//! large enough buffer and return where the copy ends. The escapes are those of `oim_json`.
+//! `numeral_len` reports no fault: if it finds no numeral of the kind it returns 0, and the cell
+//! may still be a numeral in another form.
+//!
+//! Not proved: what bytes the copies leave after the end that they return.
 //!
 //! A call:
 //!
 //! ```
-//! /// A text as JSON writes it.
+//! /// Returns a text as JSON writes it.
 //! fn json_of(alloc: Global, text: &str) -> Result<TextBuffer, AllocError> {
 //!     let mut out = TextBuffer::new(alloc);
 //!     put_quoted(&mut out, text)?;

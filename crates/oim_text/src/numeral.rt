@@ -1,4 +1,4 @@
-//! The numeral of a number's cell, found in one pass where nothing stands round it.
+//! The numeral in a number's cell, found in one pass if no space surrounds it.
 
 ghost use Rattle.std.specs.Prelude.{◌≡◌, ◌<◌, ◌≤◌, ◌+◌, ℕ, length, map, take, drop, true, IfSome};
 ghost use Rattle.std.specs.Simd.Lanes.{mask_l};
@@ -10,10 +10,10 @@ ghost use Rattle.oim_text.specs.Suffixes.{IsSuffix};
 use oim_cells::{Accuracy, NumberKind, decimals};
 use std::simd::prelude::*;
 
-/// How many bytes are looked at together.
+/// Bytes that are tested together.
 const AT_ONCE: usize = 16;
 
-/// Marks the bytes that are no digits: bit k is set for byte k.
+/// Marks the bytes that are not digits: bit k is set for byte k.
 #[inline(always)]
 fn other_marks(bytes: u8x16) -> u64
     ensures { result ≡ mask_l (map is_other bytes) }
@@ -21,7 +21,7 @@ fn other_marks(bytes: u8x16) -> u64
     (bytes.simd_lt(u8x16::splat(b'0')) | bytes.simd_gt(u8x16::splat(b'9'))).to_bitmask()
 }
 
-/// How many of the first 16 bytes of a text are digits, before the first that is none.
+/// Returns how many of the first 16 bytes are digits before the first other byte.
 #[inline(always)]
 fn digits_at_once(text: &[u8]) -> usize
     requires { 16 ≤ length text.now }
@@ -34,7 +34,7 @@ fn digits_at_once(text: &[u8]) -> usize
     marks.trailing_zeros() as usize
 }
 
-/// How many digits a text begins with.
+/// Returns the number of digits at the start of a text.
 #[cold]
 #[inline(never)]
 fn digits_one_by_one(text: &[u8]) -> usize
@@ -49,7 +49,7 @@ fn digits_one_by_one(text: &[u8]) -> usize
     text.len()
 }
 
-/// A number of digits that the first `len` bytes of a text begin with: all of them, or 16 of more.
+/// Returns the number of digits at the start of the first `len` bytes, or 16 if more follow.
 #[inline(always)]
 fn digits_len(text: &[u8], len: usize) -> usize
     requires { len ≤ length text.now }
@@ -63,8 +63,8 @@ fn digits_len(text: &[u8], len: usize) -> usize
     if run < len { run } else { len }
 }
 
-/// How long the digits are with at most one point that the first `len` bytes of a text begin with, and whether they have a
-/// point. The first `before` bytes are digits.
+/// Returns the length of the digits, with at most one point, at the start of the first `len` bytes,
+/// and whether they have a point. The first `before` bytes are digits.
 #[inline(always)]
 fn unsigned_len(text: &[u8], len: usize, before: usize) -> (usize, bool)
     requires there { len ≤ length text.now }
@@ -81,7 +81,7 @@ fn unsigned_len(text: &[u8], len: usize, before: usize) -> (usize, bool)
     }
 }
 
-/// Whether a text begins with a sign.
+/// Returns whether a text begins with a sign.
 #[inline(always)]
 fn has_sign(text: &[u8]) -> bool
     ensures { result ≡ begins_with_sign text.now }
@@ -92,7 +92,7 @@ fn has_sign(text: &[u8]) -> bool
     }
 }
 
-/// How long the sign is that a text begins with: 1 or 0.
+/// Returns the length of the sign at the start of a text: 1 or 0.
 #[inline(always)]
 fn sign_len(text: &[u8]) -> usize
     ensures within { result ≤ length text.now }
@@ -101,7 +101,7 @@ fn sign_len(text: &[u8]) -> usize
     if has_sign(text) { 1 } else { 0 }
 }
 
-/// Whether a numeral of the kind may have a point.
+/// Returns whether a numeral of the kind may have a point.
 #[inline(always)]
 fn takes_point(kind: NumberKind) -> bool
     ensures { result ≡ takes_point kind }
@@ -112,9 +112,11 @@ fn takes_point(kind: NumberKind) -> bool
     }
 }
 
-/// How long a numeral of the kind without a power of ten is that the first `len` bytes of a text begin with: a sign of length
-/// `start`, and digits with at most one point, none in an integer. The first `before` bytes behind the sign are digits. 0 where there
-/// is none.
+/// Returns the length of a numeral of the kind, without a power of ten, at the start of the first
+/// `len` bytes, or 0 if it finds none.
+///
+/// It is a sign of length `start`, then digits with at most one point. An integer has no point. The
+/// first `before` bytes after the sign are digits.
 #[inline(always)]
 fn front_behind(kind: NumberKind, text: &[u8], len: usize, start: usize, before: usize) -> usize
     requires there { len ≤ length text.now }
@@ -137,8 +139,11 @@ fn front_behind(kind: NumberKind, text: &[u8], len: usize, start: usize, before:
     if digits == 0 { 0 } else { start + digits }
 }
 
-/// How long a numeral of the kind without a power of ten is that the first `len` bytes of a text begin with: an optional sign, and
-/// digits with at most one point, none in an integer. The text begins with `digits` digits. 0 where there is none.
+/// Returns the length of a numeral of the kind, without a power of ten, at the start of the first
+/// `len` bytes, or 0 if it finds none.
+///
+/// It is an optional sign, then digits with at most one point. An integer has no point. The text
+/// begins with `digits` digits.
 #[inline(always)]
 fn front_len(kind: NumberKind, text: &[u8], len: usize, digits: usize) -> usize
     requires some { 0 < len }
@@ -156,7 +161,7 @@ fn front_len(kind: NumberKind, text: &[u8], len: usize, digits: usize) -> usize
     front_behind(kind, text, len, start, before)
 }
 
-/// How long an integer is that the first `len` bytes of a text begin with: 0 where there is none.
+/// Returns the length of an integer at the start of the first `len` bytes, or 0 if it finds none.
 #[inline(always)]
 fn integer_len(text: &[u8], len: usize) -> usize
     requires { len ≤ length text.now }
@@ -171,7 +176,7 @@ fn integer_len(text: &[u8], len: usize) -> usize
     if digits == 0 { 0 } else { start + digits }
 }
 
-/// Whether a byte marks the power of ten of a double.
+/// Returns whether a byte marks the power of ten of a double.
 #[inline(always)]
 fn is_power_mark(kind: NumberKind, byte: u8) -> bool
     ensures { result ≡ marks_power kind byte }
@@ -182,8 +187,10 @@ fn is_power_mark(kind: NumberKind, byte: u8) -> bool
     }
 }
 
-/// How long a numeral of the kind is that the first `len` bytes of a text begin with. 0 where there is none. Mostly all of them are
-/// digits.
+/// Returns the length of a numeral of the kind at the start of the first `len` bytes, or 0 if it
+/// finds none.
+///
+/// In most cells all bytes are digits, so that case is tested first.
 #[inline(always)]
 pub fn numeral_len(kind: NumberKind, text: &[u8], len: usize) -> usize
     requires { len ≤ length text.now }
@@ -205,7 +212,8 @@ pub fn numeral_len(kind: NumberKind, text: &[u8], len: usize) -> usize
     if back == 0 { 0 } else { front + 1 + back }
 }
 
-/// What the suffix states that stands behind the first `len` bytes of a text: `d` and decimals. None where there is no such suffix.
+/// Returns the accuracy of the suffix after the first `len` bytes: `d` and decimals. Returns `None`
+/// if the rest is not such a suffix.
 #[inline(never)]
 pub fn suffix_behind(text: &str, len: usize) -> Option<Accuracy>
     ensures { IfSome result (IsSuffix (drop len text.now)) }

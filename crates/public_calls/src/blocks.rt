@@ -12,7 +12,7 @@ use std::alloc::{AllocError, Global};
 use std::io;
 use std::io::Write;
 
-/// The text of facts, with commas between them.
+/// Returns the text of facts, with commas between them.
 fn text_of(alloc: Global, facts: &[Fact]) -> Result<Option<Block>, AllocError> {
     if facts.is_empty() || facts.len() > 256 {
         return Ok(None);
@@ -20,12 +20,12 @@ fn text_of(alloc: Global, facts: &[Fact]) -> Result<Option<Block>, AllocError> {
     Ok(Some(block_of(alloc, facts)?))
 }
 
-/// Whether a block is that of the fact without a value alone.
+/// Returns whether a block has only the fact without a value.
 fn is_block(block: &Block) -> bool {
     block.count() == 1 && block.text(0).len() == NIL_FACT.len()
 }
 
-/// Whether a fact has this text.
+/// Returns whether a fact has this text.
 fn is_member(alloc: Global, fact: &Fact, text: &[u8]) -> bool {
     let member: Result<Member, AllocError> = member_of(alloc, fact);
     match member {
@@ -34,7 +34,7 @@ fn is_member(alloc: Global, fact: &Fact, text: &[u8]) -> bool {
     }
 }
 
-/// Whether the fact without a value has its text.
+/// Returns whether the fact without a value has its text.
 fn is_nil_member(alloc: Global) -> bool {
     match nil_fact(alloc) {
         Ok(fact) => is_member(alloc, &fact, NIL_FACT),
@@ -42,16 +42,16 @@ fn is_nil_member(alloc: Global) -> bool {
     }
 }
 
-/// A text that is longer than any room that is kept for texts.
+/// A text that is longer than any spare vector for texts.
 const LONG: &[u8] = &[b'x'; 10_000];
 
-/// Whether a fact with this value has a text.
+/// Returns whether a fact with this value has a text.
 fn is_text_given(alloc: Global, id: Text, value: Text) -> bool {
     let fact = Fact::new(id, Some(value), Some(-2), Items::new(alloc));
     member_of(alloc, &fact).is_ok()
 }
 
-/// The same of an identifier and a long value.
+/// Returns whether a fact with this identifier and a long value has a text.
 fn is_long_given(alloc: Global, id: Text) -> bool {
     match Text::from_str(alloc, str::from_utf8(LONG).unwrap_or("")) {
         Ok(value) => value.as_str().len() == LONG.len() && is_text_given(alloc, id, value),
@@ -59,7 +59,7 @@ fn is_long_given(alloc: Global, id: Text) -> bool {
     }
 }
 
-/// Whether the text of a fact with a long value is given: none is said to need too much.
+/// Returns whether a fact with a long value has a text.
 fn is_long_member(alloc: Global) -> bool {
     match Text::from_str(alloc, "t1.r_1.note") {
         Ok(id) => is_long_given(alloc, id),
@@ -74,21 +74,21 @@ fn calls_of_texts(rt: HostRuntime) {
     assert!(rt; is_nil_member(rt.alloc()) && is_long_member(rt.alloc()));
 }
 
-/// Whether a document of one block is written to a sink of any kind.
+/// Returns whether a document of one block is written to a sink of any kind.
 fn writes<W: Sink>(sink: &mut W, head: &[u8], block: &Block) -> bool {
     write_all_of(sink, head).is_ok()
         && write_members(sink, Layout::Compact, false, block).is_ok()
         && write_all_of(sink, tail(Layout::Compact)).is_ok()
 }
 
-/// Whether a vector takes it, and has the tail at its end.
+/// Returns whether a vector takes the document and has the tail at its end.
 fn is_written(alloc: Global, head: &[u8], block: &Block) -> bool {
     let mut document = Vec::new(alloc);
     let is_whole = writes(&mut Marked::new(&mut document), head, block);
     is_whole && document.as_slice().ends_with(TAIL)
 }
 
-/// Whether the document of a report and one fact is written.
+/// Returns whether the document of a report and one fact is written.
 fn is_document(alloc: Global, report: &Report, block: &Block) -> bool {
     match head(alloc, report) {
         Ok(head) => is_written(alloc, head.as_slice(), block),
@@ -96,7 +96,7 @@ fn is_document(alloc: Global, report: &Report, block: &Block) -> bool {
     }
 }
 
-/// Whether the calls over a report answer as they must.
+/// Returns whether the calls over a report answer as they must.
 pub(crate) fn hold(alloc: Global, report: &Report) -> bool {
     match nil_block(alloc) {
         Ok(block) => is_block(&block) && is_document(alloc, report, &block),
@@ -110,12 +110,12 @@ fn calls_of_documents(rt: HostRuntime) {
     assert!(rt; holds(rt.alloc(), Over::Blocks));
 }
 
-/// The fault of a write of no bytes, and the mark that it leaves.
+/// Returns the fault of a write of no bytes, and the mark that it leaves.
 fn is_zero(fault: WriteFault, mark: Mark) -> bool {
     fault == WriteFault::Zero && mark == Mark::Zero
 }
 
-/// Whether facts have a text.
+/// Returns whether facts have a text.
 fn have_text(alloc: Global, facts: &[Fact]) -> bool {
     matches!(text_of(alloc, facts), Ok(Some(_)))
 }
@@ -125,8 +125,8 @@ fn calls_of_faults_of_writes(rt: HostRuntime) {
     assert!(rt; is_zero(WriteFault::Zero, Mark::Zero) && !have_text(rt.alloc(), &[]));
 }
 
-/// A writer that counts its calls and the bytes that it is offered. At first it fails, then it takes nothing, then two bytes, and from then
-/// on all.
+/// A writer that counts its calls and the bytes that it is offered. It fails at first, then takes
+/// nothing, then two bytes, and after that all.
 #[derive(Clone, Copy)]
 struct Moody {
     calls: usize,
@@ -153,7 +153,8 @@ impl Write for Moody {
 /// Its answers to the first four calls.
 const ANSWERS: &[Option<usize>] = &[None, Some(0), Some(2), Some(5)];
 
-/// The writer behind a sink over it, where the sink handed on each of its answers, and asked it for no bytes never.
+/// Returns the writer after a sink over it, if the sink passed each of its answers on and never
+/// asked it for no bytes.
 fn handed_on(writer: Moody) -> Option<Moody> {
     let mut sink = Marked::new(writer);
     for wanted in ANSWERS {
@@ -167,7 +168,7 @@ fn handed_on(writer: Moody) -> Option<Moody> {
     None
 }
 
-/// Whether the writer was asked once for each answer, and for all the bytes.
+/// Returns whether the writer was asked once for each answer, and for all the bytes.
 fn is_asked_once() -> bool {
     let writer = Moody {
         calls: 0,
@@ -192,7 +193,7 @@ fn push_facts(alloc: Global, facts: &mut Vec<Fact>) -> Result<(), AllocError> {
     Ok(())
 }
 
-/// Whether a writer takes the lines of these facts in two calls.
+/// Returns whether a writer takes the lines of these facts in two calls.
 fn are_two_calls(alloc: Global, facts: &[Fact]) -> bool {
     let mut writer = Moody {
         calls: 3,
@@ -207,7 +208,7 @@ fn are_two_calls(alloc: Global, facts: &[Fact]) -> bool {
     }
 }
 
-/// Whether lines of more than 8,192 bytes are.
+/// Returns whether lines of more than 8,192 bytes go to a writer in two calls.
 fn are_chunks(alloc: Global) -> bool {
     let mut facts = Vec::new(alloc);
     push_facts(alloc, &mut facts).is_ok() && are_two_calls(alloc, facts.as_slice())

@@ -9,7 +9,7 @@ fn splits_a_numeral() -> bool {
     split_numeral(NumberKind::Decimal, "1250.5d-2") == Some(("1250.5", Some(Accuracy::Places(-2))))
 }
 
-/// The other readers of a cell's text.
+/// Checks the other readers of a cell's text.
 fn reads_cells() -> bool {
     matches!(meaning("##x"), CellMeaning::Text(_))
         && matches!(decimals("INF"), Some(Accuracy::Infinite))

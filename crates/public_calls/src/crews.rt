@@ -1,4 +1,4 @@
-//! Calls of `oim_crew`, but for those that need a scope of threads: `oim_convert` makes these.
+//! Calls of `oim_crew`, except those that need a scope of threads, which `oim_convert` makes.
 
 use oim_crew::{
     Claims, Crew, Posts, Room, Seat, Serve, Shift, ShiftOf, Shifts, Site, Station, UnderWay,
@@ -6,14 +6,14 @@ use oim_crew::{
 };
 use std::alloc::{AllocError, Global};
 
-/// Two items, and a seat that has drawn none of them.
+/// Makes claims of two items with one fresh seat.
 fn shares_out(alloc: Global) -> Result<bool, AllocError> {
     let items = vec![in alloc; 'a', 'b']?;
     let made: (Claims<char>, Vec<Seat<char>>) = Claims::new(alloc, items, 1)?;
     Ok(made.1.len() == 1)
 }
 
-/// Whether the only seat of claims of one item draws it.
+/// Returns whether the only seat of claims of one item draws it.
 fn draws_one(alloc: Global) -> Result<bool, AllocError> {
     let items = vec![in alloc; 'a']?;
     let (claims, mut seats) = Claims::new(alloc, items, 1)?;
@@ -39,19 +39,19 @@ impl Serve<char, char, (), ()> for Echo {
     }
 }
 
-/// The posts of a crew, and the room for its workers.
+/// Returns the stations of a crew, and the memory for its workers.
 fn stations_of(
     posts: Posts<char, char, Echo, (), ()>,
 ) -> (Vec<Station<char, char>>, Room<char, char, Echo, (), ()>) {
     (posts.stations, posts.room)
 }
 
-/// What a worker hands back, and what it promises.
+/// Returns the results that a worker hands back.
 fn results_of(shift: Shift<char, char>, _promise: &ShiftOf<char, Echo, (), ()>) -> Vec<char> {
     shift.done
 }
 
-/// What the workers share.
+/// Returns the things that the workers share.
 fn site_of<'s>(
     nothing: &'s (),
     server: &'s Echo,
@@ -66,7 +66,7 @@ fn site_of<'s>(
     }
 }
 
-/// The shifts of a crew of which no worker was started.
+/// Returns the shifts of a crew without a started worker.
 fn shifts_of(room: Room<char, char, Echo, (), ()>) -> Shifts<char, char> {
     let crew = UnderWay {
         room,
@@ -79,7 +79,7 @@ fn shifts_of(room: Room<char, char, Echo, (), ()>) -> Shifts<char, char> {
     }
 }
 
-/// A crew of two workers for two items.
+/// Returns a crew of two workers for two items.
 fn is_ready(alloc: Global) -> Result<bool, AllocError> {
     let items = vec![in alloc; 'a', 'b']?;
     let crew: Crew<char, char, Echo, (), ()> = crew_of(alloc, items, 2)?;
@@ -89,12 +89,12 @@ fn is_ready(alloc: Global) -> Result<bool, AllocError> {
     Ok(stations.len() == 2 && crew.stops.len() == 2 && all_idle(shifts.list.as_slice()))
 }
 
-/// Whether each of these calls gives `true`.
+/// Returns whether each of these calls gives `true`.
 fn hold(alloc: Global) -> bool {
     are_true(shares_out(alloc), draws_one(alloc), is_ready(alloc))
 }
 
-/// Whether all three are `true`.
+/// Returns whether all three are `true`.
 fn are_true(
     one: Result<bool, AllocError>,
     two: Result<bool, AllocError>,

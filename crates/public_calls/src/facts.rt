@@ -10,7 +10,7 @@ use oim_resolve::{
 };
 use std::alloc::{AllocError, Global};
 
-/// The fact of a row's first cell.
+/// Returns the fact of a row's first cell.
 fn fact_of(alloc: Global, report: &Report, row: &Row) -> Result<Option<Fact>, CellFault> {
     if report.tables() == 0 || report.columns(0) == 0 || row.cells.len() != report.columns(0) {
         return Ok(None);
@@ -27,7 +27,7 @@ fn push_cell(alloc: Global, cells: &mut Items<Text>, text: &str) -> Result<(), A
     Ok(())
 }
 
-/// The cells of a row, of which this is the first and the second is empty.
+/// Returns the cells of a row: this one, and an empty second one.
 fn cells_of(alloc: Global, cash: &str) -> Result<Items<Text>, AllocError> {
     let mut cells = Items::new(alloc);
     push_cell(alloc, &mut cells, cash)?;
@@ -35,7 +35,8 @@ fn cells_of(alloc: Global, cash: &str) -> Result<Items<Text>, AllocError> {
     Ok(cells)
 }
 
-/// Whether the plan of the table, which many cells can ask, gives a fact for it.
+/// Returns whether the plan of the table, which many cells can use, has a fact for the row's first
+/// cell.
 fn is_planned(alloc: Global, report: &Report, row: &Row) -> bool {
     if report.tables() == 0 || report.columns(0) == 0 || row.cells.len() != report.columns(0) {
         return false;
@@ -50,7 +51,7 @@ fn is_planned(alloc: Global, report: &Report, row: &Row) -> bool {
     is_fact(plan.resolve(alloc, row, 0))
 }
 
-/// Whether an answer is a fact with an identifier.
+/// Returns whether an answer is a fact with an identifier.
 fn is_fact(answer: Result<Option<Fact>, CellFault>) -> bool {
     match answer {
         Ok(Some(fact)) => !fact.id().is_empty(),
@@ -58,7 +59,7 @@ fn is_fact(answer: Result<Option<Fact>, CellFault>) -> bool {
     }
 }
 
-/// Whether the first row with these cells gives a fact in both ways.
+/// Returns whether the first row with these cells gives a fact in both ways.
 fn gives(alloc: Global, report: &Report, cells: Items<Text>) -> bool {
     match Text::from_str(alloc, "r_1") {
         Ok(id) => are_facts(alloc, report, &Row::new(1, id, cells)),
@@ -66,12 +67,12 @@ fn gives(alloc: Global, report: &Report, cells: Items<Text>) -> bool {
     }
 }
 
-/// Whether a row does.
+/// Returns whether a row gives a fact in both ways.
 fn are_facts(alloc: Global, report: &Report, row: &Row) -> bool {
     is_fact(fact_of(alloc, report, row)) && is_planned(alloc, report, row)
 }
 
-/// Whether the calls over a report answer as they must.
+/// Returns whether the calls over a report answer as they must.
 pub(crate) fn hold(alloc: Global, report: &Report) -> bool {
     match cells_of(alloc, "12") {
         Ok(cells) => gives(alloc, report, cells),
@@ -84,13 +85,13 @@ fn calls_of_facts(rt: HostRuntime) {
     assert!(rt; holds(rt.alloc(), Over::Facts));
 }
 
-/// What a fact cell says.
+/// Returns whether a fact cell of this kind has a value.
 fn is_value(report: &Report, kind: Kind, text: &str) -> bool {
     let value: Result<FactValue<'_>, CellFault> = fact_value(report, kind, CellMeaning::Text(text));
     matches!(value, Ok(value) if value.text.is_some())
 }
 
-/// Whether a cell names a concept of numbers.
+/// Returns whether a cell names a concept of numbers.
 fn is_number(report: &Report, text: &str) -> bool {
     matches!(
         read_concept(report, CellMeaning::Text(text)),
@@ -98,7 +99,7 @@ fn is_number(report: &Report, text: &str) -> bool {
     )
 }
 
-/// Whether a dimension of this name is a unit, with this value.
+/// Returns whether a dimension of this name is a unit, with this value.
 fn reads_a_unit(alloc: Global, report: &Report, name: &str, text: &str) -> bool {
     let role = Role::of(report, name);
     let value = CellMeaning::Text(text);
@@ -115,7 +116,7 @@ fn reads_a_unit(alloc: Global, report: &Report, name: &str, text: &str) -> bool 
     role == Role::Unit && found.is_ok()
 }
 
-/// Whether a level writes three dimensions and no decimals.
+/// Returns whether a level writes three dimensions and no decimals.
 fn has_names(alloc: Global, level: &Level) -> bool {
     match levels::names(alloc, &[level]) {
         Ok(names) => names.len() == 3 && levels::written_decimals(&[level]).is_none(),
@@ -123,7 +124,7 @@ fn has_names(alloc: Global, level: &Level) -> bool {
     }
 }
 
-/// Whether the calls for cells and levels answer as they must.
+/// Returns whether the calls for cells and levels answer as they must.
 pub(crate) fn hold_of_cells(alloc: Global, report: &Report) -> bool {
     is_value(report, Kind::Number(NumberKind::Integer), "7")
         && is_number(report, "eg:Cash")

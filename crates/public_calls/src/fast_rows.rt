@@ -7,7 +7,8 @@ use oim_records::{RecordReader, TextFields};
 use oim_rows::TableHeader;
 use std::alloc::{AllocError, Global};
 
-/// The texts of the facts of a table's first row, each behind a comma, or none where that row goes the plain way.
+/// Returns the texts of the facts of a table's first row, each after a comma, or `None` if that
+/// row goes the plain way.
 fn first_texts(
     alloc: Global,
     header: &TableHeader<'_>,
@@ -24,7 +25,7 @@ fn first_texts(
     }
 }
 
-/// Whether the facts of the next record of a table with this header are written.
+/// Returns whether the facts of the next record of a table with this header are written.
 fn writes_a_row(
     alloc: Global,
     header: &TableHeader<'_>,
@@ -39,7 +40,7 @@ fn writes_a_row(
     }
 }
 
-/// The same of a report's first table, whose file these are the records of.
+/// Does the same for a report's first table, whose file has these records.
 fn writes(alloc: Global, report: &Report, records: &mut RecordReader<&[u8]>) -> bool {
     if report.tables() == 0 {
         return false;
@@ -50,7 +51,7 @@ fn writes(alloc: Global, report: &Report, records: &mut RecordReader<&[u8]>) -> 
     }
 }
 
-/// The same of a file of these bytes.
+/// Does the same for a file of these bytes.
 fn writes_rows(alloc: Global, report: &Report, file: &[u8]) -> bool {
     match RecordReader::open(alloc, file) {
         Ok(mut records) => writes(alloc, report, &mut records),
@@ -58,7 +59,7 @@ fn writes_rows(alloc: Global, report: &Report, file: &[u8]) -> bool {
     }
 }
 
-/// Whether the calls over a report answer as they must.
+/// Returns whether the calls over a report answer as they must.
 pub(crate) fn hold(alloc: Global, report: &Report) -> bool {
     writes_rows(alloc, report, b"cash,note\n1,n\n")
 }

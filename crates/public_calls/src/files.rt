@@ -20,7 +20,7 @@ fn gives_one_table(alloc: Global, folder: &mut Texts<'_>) -> bool {
     report.is_ok_and(|report| report.tables() == 1)
 }
 
-/// Whether the metadata names a parameters file.
+/// Returns whether the metadata has the name of a parameters file.
 fn names_parameters(alloc: Global, folder: &mut Texts<'_>) -> bool {
     let Ok(metadata) = metadata_at(alloc, folder, "f/m.json") else {
         return true;
@@ -31,12 +31,12 @@ fn names_parameters(alloc: Global, folder: &mut Texts<'_>) -> bool {
     }
 }
 
-/// Whether the types table is read, and no parameters without the name of a file.
+/// Returns whether the types table is read, and no parameters without the name of a file.
 fn reads_entries(alloc: Global, folder: &mut Texts<'_>) -> bool {
     types_in(alloc, folder, "t.csv").is_ok() && parameters_in(alloc, folder, "f/", None).is_ok()
 }
 
-/// Whether a file is there at the path of a file in a folder.
+/// Returns whether a file exists at the path of a file in a folder.
 fn finds(alloc: Global, folder: &mut Texts<'_>) -> bool {
     match path_in(alloc, "f/", "m.json") {
         Ok(path) => folder.find(path).is_some(),
@@ -44,7 +44,7 @@ fn finds(alloc: Global, folder: &mut Texts<'_>) -> bool {
     }
 }
 
-/// Whether the calls over a folder of these files answer as they must.
+/// Returns whether the calls over a folder of these files answer as they must.
 fn hold(alloc: Global) -> bool {
     let files = [
         ("f/m.json", METADATA.as_bytes()),

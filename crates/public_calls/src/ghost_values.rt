@@ -1,19 +1,19 @@
-//! Calls of `told`.
+//! Calls of `ghost_value`.
 
 use ghost_value::{Denotes, GhostValue};
 
-/// A value that contracts alone remember, once more.
+/// Returns a value that only contracts remember, once more.
 fn remembers(value: &u8) -> GhostValue<u8> {
     let seen = GhostValue::seen(value);
     seen.again()
 }
 
-/// What data tells.
+/// Returns the ghost value of some data.
 fn is_told<N: Denotes<u8>>(note: &N) -> GhostValue<u8> {
     GhostValue::of(note)
 }
 
-/// Data that tells a number.
+/// Data that denotes a number.
 #[derive(Drop)]
 struct One;
 

@@ -39,7 +39,7 @@ pub(crate) enum Over {
     Tables,
 }
 
-/// Whether the calls of a library over this report answer as they must.
+/// Returns whether the calls of a library over this report answer as they must.
 fn hold_over(alloc: Global, report: &Report, over: Over) -> bool {
     match over {
         Over::Blocks => blocks::hold(alloc, report),
@@ -56,7 +56,7 @@ fn hold_over(alloc: Global, report: &Report, over: Over) -> bool {
     }
 }
 
-/// The same over the report with these types.
+/// Does the same over the report with these types.
 fn hold_with(alloc: Global, types: Types, over: Over) -> bool {
     let (metadata, parameters) = (METADATA.as_bytes(), Parameters::none(alloc));
     match read_report(alloc, metadata, parameters, types, Limits::profile()) {
@@ -65,7 +65,7 @@ fn hold_with(alloc: Global, types: Types, over: Over) -> bool {
     }
 }
 
-/// Whether the calls of a library over the report answer as they must.
+/// Returns whether the calls of a library over the report answer as they must.
 pub(crate) fn holds(alloc: Global, over: Over) -> bool {
     match read_types(alloc, TYPES.as_bytes()) {
         Ok(types) => hold_with(alloc, types, over),
@@ -73,7 +73,7 @@ pub(crate) fn holds(alloc: Global, over: Over) -> bool {
     }
 }
 
-/// A fact without a value and without dimensions.
+/// Returns a fact without a value and without dimensions.
 pub(crate) fn nil_fact(alloc: Global) -> Result<Fact, AllocError> {
     match Text::from_str(alloc, "t1.r_1.note") {
         Ok(id) => Ok(Fact::new(id, None, None, Items::new(alloc))),
@@ -81,7 +81,7 @@ pub(crate) fn nil_fact(alloc: Global) -> Result<Fact, AllocError> {
     }
 }
 
-/// The block of that fact alone.
+/// Returns the block with only that fact.
 pub(crate) fn nil_block(alloc: Global) -> Result<Block, AllocError> {
     match nil_fact(alloc) {
         Ok(fact) => block_of(alloc, &[fact]),
@@ -89,5 +89,5 @@ pub(crate) fn nil_block(alloc: Global) -> Result<Block, AllocError> {
     }
 }
 
-/// Its text.
+/// The text of that fact.
 pub(crate) const NIL_FACT: &[u8] = br#""t1.r_1.note":{"dimensions":{},"value":null}"#;

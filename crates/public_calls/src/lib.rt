@@ -1,6 +1,7 @@
-//! Each public name of the libraries below `oim_pieces` and `oim_places` in one call, in the form in which a caller from outside writes it.
-//! The first call of a file is the one that its library's own page shows (`tests/public_calls.py` compares them). The crates
-//! `conversion_tests` and `run_tests` have the others.
+//! Each public name of the libraries below `oim_pieces` and `oim_places` in one call, in the form
+//! in which an outside caller writes it. The first call of a file is the one on its library's own
+//! page (`tests/public_calls.py` compares them). The crates `conversion_tests` and `run_tests` have
+//! the others.
 #![tactic(auto)]
 
 #[cfg(test)]
@@ -39,6 +40,8 @@ mod rings;
 mod row_answers;
 #[cfg(test)]
 mod rows;
+#[cfg(test)]
+mod schema;
 #[cfg(test)]
 mod tables;
 #[cfg(test)]

@@ -9,7 +9,7 @@ use oim_ring::{Drain, Ending, lane};
 use std::alloc::{AllocError, Global};
 use std::sync::Wait;
 
-/// The document of one table, which a ring holds.
+/// Merges the ring of one table into a document.
 fn merges(rt: &(impl AllocGlobal + Wait), block: Block) -> Result<bool, AllocError> {
     let mut drains = [filled(rt.alloc(), block)?];
     let mut faults = Vec::with_capacity(rt.alloc(), 1)?;
@@ -19,7 +19,7 @@ fn merges(rt: &(impl AllocGlobal + Wait), block: Block) -> Result<bool, AllocErr
     Ok(end == MergeEnd::Complete && document.as_slice().starts_with(NIL_FACT))
 }
 
-/// The drain of a ring with a block and an ending.
+/// Returns the drain of a ring with a block and an ending.
 fn filled(alloc: Global, block: Block) -> Result<Drain, AllocError>
     ensures { IfOk result (λ drain. drain.taken ≡ []) }
 {
@@ -29,7 +29,7 @@ fn filled(alloc: Global, block: Block) -> Result<Drain, AllocError>
     Ok(drain)
 }
 
-/// The same document without a ring.
+/// Writes the same document without a ring.
 fn writes(alloc: Global, block: &Block) -> Result<bool, AllocError> {
     let mut faults = Vec::with_capacity(alloc, 1)?;
     let mut document = Vec::new(alloc);
@@ -40,12 +40,12 @@ fn writes(alloc: Global, block: &Block) -> Result<bool, AllocError> {
     Ok(writer.finish(sink) == MergeEnd::Complete)
 }
 
-/// Whether the fact's document is written in both ways.
+/// Returns whether the fact's document is written in both ways.
 fn are_written(rt: &(impl AllocGlobal + Wait), block: Block) -> bool {
     matches!(writes(rt.alloc(), &block), Ok(true)) && matches!(merges(rt, block), Ok(true))
 }
 
-/// Whether the calls answer as they must.
+/// Returns whether the calls answer as they must.
 fn hold(rt: &(impl AllocGlobal + Wait)) -> bool {
     match nil_block(rt.alloc()) {
         Ok(block) => are_written(rt, block),

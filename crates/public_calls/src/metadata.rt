@@ -1,6 +1,10 @@
-//! Calls of `oim_meta`.
+//! Calls of `oim_meta` and of `oim_entries`.
 
 use crate::held::{METADATA, TYPES};
+use oim_entries::{
+    BadEntry, EntryFault, EntryProblem, fault_is_of_first_bad_record, first_bad_parameter,
+    first_bad_type,
+};
 use oim_meta::{
     Finding, Limits, MetaFault, Metadata, Parameters, Refusal, Report, Types,
     a_text_writes_one_value, a_walk_finds_all_faults, fault_is_of_earliest_record,
@@ -23,22 +27,22 @@ fn reads_a_report(alloc: Global) -> Result<Report, MetaFault> {
     )
 }
 
-/// Whether a metadata names no parameters file.
+/// Returns whether a metadata names no parameters file.
 fn names_no_parameters(alloc: Global, metadata: &[u8]) -> bool {
     matches!(parameter_url(alloc, metadata, &Limits::profile()), Ok(None))
 }
 
-/// A metadata's JSON that is read once.
+/// Reads a metadata's JSON once.
 fn reads_once(alloc: Global, bytes: &[u8]) -> Result<Metadata, MetaFault> {
     Metadata::read(alloc, bytes, &Limits::profile())
 }
 
-/// Whether a metadata that is read names no parameters file.
+/// Returns whether a metadata that was read has no name of a parameters file.
 fn names_none(alloc: Global, metadata: &Metadata) -> bool {
     matches!(metadata.parameter_url(alloc), Ok(None))
 }
 
-/// Whether a metadata that is read says a report without types.
+/// Returns whether a metadata that was read is a report without types.
 fn says_a_report(alloc: Global, metadata: Metadata) -> bool {
     let (parameters, types) = (Parameters::none(alloc), Types::none(alloc));
     metadata
@@ -54,12 +58,38 @@ fn has_parameter(alloc: Global, file: &[u8], name: &str) -> bool {
     }
 }
 
-/// Whether a finding is of the document type, at its key.
+/// Returns whether a bad entry is the name of the second record, which the first has.
+fn is_second_name(bad: &BadEntry, column: usize) -> bool {
+    let fault = EntryFault {
+        problem: EntryProblem::RepeatedName,
+        number: 2,
+        column: Some(column),
+    };
+    bad.fault == fault && !bad.row.is_empty()
+}
+
+/// Returns whether the first fault of a parameters file is the name of its second record.
+fn has_parameter_twice(alloc: Global, file: &[u8]) -> bool {
+    match &first_bad_parameter(alloc, file) {
+        Ok(Some(bad)) => is_second_name(bad, 0),
+        _ => false,
+    }
+}
+
+/// Returns whether the first fault of a types table is the name of its second record.
+fn has_type_twice(alloc: Global, file: &[u8]) -> bool {
+    match &first_bad_type(alloc, file) {
+        Ok(Some(bad)) => is_second_name(bad, 1),
+        _ => false,
+    }
+}
+
+/// Returns whether a finding is of the document type, at its key.
 fn is_of_document_type(finding: &Finding) -> bool {
     finding.fault == MetaFault::NotReport && finding.place.len() == 2
 }
 
-/// Whether a metadata that is none is refused, with the place of its fault.
+/// Returns whether a file that is not a metadata is refused, with the place of its fault.
 fn is_refused_at(alloc: Global, metadata: &[u8]) -> bool {
     let (parameters, types) = (Parameters::none(alloc), Types::none(alloc));
     match read_report_at(alloc, metadata, parameters, types, Limits::profile()) {
@@ -68,7 +98,7 @@ fn is_refused_at(alloc: Global, metadata: &[u8]) -> bool {
     }
 }
 
-/// Whether the metadata is a report of one table.
+/// Returns whether the metadata is a report of one table.
 fn is_a_report(alloc: Global) -> bool {
     match reads_a_report(alloc) {
         Ok(report) => report.tables() == 1,
@@ -76,7 +106,7 @@ fn is_a_report(alloc: Global) -> bool {
     }
 }
 
-/// Whether a metadata that is read once names no parameters file, and says a report.
+/// Returns whether a metadata that was read once has no name of a parameters file, and is a report.
 fn says_all(alloc: Global) -> bool {
     match reads_once(alloc, METADATA.as_bytes()) {
         Ok(metadata) => names_none(alloc, &metadata) && says_a_report(alloc, metadata),
@@ -91,14 +121,17 @@ fn calls_of_metadata(rt: HostRuntime) {
     a_walk_finds_all_faults();
     fault_is_of_earliest_record();
     types_are_of_all_records();
+    fault_is_of_first_bad_record();
     faults_of_shape_are_parts_without_it();
     a_text_writes_one_value();
     assert!(rt; is_a_report(rt.alloc()) && says_all(rt.alloc()));
 }
 
-/// Whether the calls for other files answer as they must.
+/// Returns whether the calls for other files answer as they must.
 fn hold_of_other_files(alloc: Global) -> bool {
     has_parameter(alloc, b"name,value\na,1\n", "a")
+        && has_parameter_twice(alloc, b"name,value\na,1\na,2\n")
+        && has_type_twice(alloc, b"namespace,name,type\nu,n,text\nu,n,text\n")
         && names_no_parameters(alloc, METADATA.as_bytes())
         && is_refused_at(alloc, b"{}")
 }

@@ -13,14 +13,14 @@ fn names_a_concept(alloc: Global) -> Result<bool, NameFault> {
     Ok(qname(&names, "eg:Cash") == Some(("http://example.com/eg", "Cash")))
 }
 
-/// Namespaces with one prefix.
+/// Returns namespaces with one prefix.
 fn bound(alloc: Global) -> Result<Namespaces, NameFault> {
     let mut names = Namespaces::new(alloc);
     names.add("xbrli", "http://www.xbrl.org/2003/instance")?;
     Ok(names)
 }
 
-/// The other readers of names and units.
+/// Checks the other readers of names and units.
 fn reads_names(names: &Namespaces) -> bool {
     names.len() == 1
         && names.uri("eg").is_none()
@@ -28,39 +28,39 @@ fn reads_names(names: &Namespaces) -> bool {
         && sqname(names, "xbrli:a:b").is_some()
 }
 
-/// The tests of names without prefixes.
+/// Checks the tests of names without prefixes.
 fn tells_names() -> bool {
     is_identifier("a-b_1") && is_row_identifier("1a") && is_ncname("a.b") && !is_identifier("1a")
 }
 
-/// The test of paths.
+/// Checks the test of paths.
 fn tells_paths() -> bool {
     is_plain_path("a/t1.csv") && !is_plain_path("../t1.csv")
 }
 
-/// Whether a text is a language.
+/// Returns whether a text is a language.
 fn is_language(alloc: Global, text: &str) -> bool {
     matches!(language(alloc, text), Ok(Some(_)))
 }
 
-/// A list of one text, made of a vector of strings.
+/// Returns a list of one text, made of a vector of strings.
 fn listed(alloc: Global) -> Result<Items<Text>, AllocError> {
     let word = Text::from(String::from_str(alloc, "eg")?);
     Ok(Items::from(vec![in alloc; word]?))
 }
 
-/// Whether such a list has its item.
+/// Returns whether such a list has its item.
 fn lists(items: &Items<Text>) -> bool {
     !items.is_empty() && items.iter().count() == 1
 }
 
-/// The value of a name in a list.
+/// Returns the value of a name in a list.
 fn finds(entries: &[(Text, u8)]) -> bool {
     let none: &[(Text, u8)] = &[];
     find(entries, "a").is_none() && find_in_order(none, "a").is_none()
 }
 
-/// Whether the calls for names with prefixes answer as they must.
+/// Returns whether the calls for names with prefixes answer as they must.
 fn hold_of_prefixes(alloc: Global) -> bool {
     match bound(alloc) {
         Ok(names) => reads_names(&names) && matches!(names_a_concept(alloc), Ok(true)),
@@ -68,7 +68,7 @@ fn hold_of_prefixes(alloc: Global) -> bool {
     }
 }
 
-/// Whether the calls for lists do.
+/// Returns whether the calls for lists answer as they must.
 fn hold_of_lists(alloc: Global) -> bool {
     match listed(alloc) {
         Ok(items) => lists(&items) && finds(&[]),
@@ -76,7 +76,7 @@ fn hold_of_lists(alloc: Global) -> bool {
     }
 }
 
-/// Whether all calls do.
+/// Returns whether all calls answer as they must.
 fn hold(alloc: Global) -> bool {
     tells_names()
         && tells_paths()

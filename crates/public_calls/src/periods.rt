@@ -13,7 +13,7 @@ fn writes_a_quarter(alloc: Global) -> Result<bool, AllocError> {
     }
 }
 
-/// The moment at which a period ends.
+/// Returns the moment at which a period ends.
 fn end_of(period: Period) -> Moment {
     match period {
         Period::Instant(moment) => moment,
@@ -25,7 +25,8 @@ fn end_of_span(span: &Span) -> Moment {
     span.end
 }
 
-/// The sides of a week: it starts on a Monday, the first of which is day 0, and ends seven days later.
+/// Returns whether a week has its sides: it starts on a Monday, the first of which is day 0, and
+/// ends seven days later.
 fn has_sides() -> bool {
     let Some(week) = read("0001W1") else {
         return false;

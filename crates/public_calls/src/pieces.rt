@@ -12,7 +12,7 @@ use oim_records::RecordReader;
 use oim_rows::{TableFault, TableHeader, TableKind, whole_fault};
 use std::alloc::Global;
 
-/// A piece of a table, decoded and joined, whose first row has this number.
+/// Returns a piece of a table, decoded and joined, whose first row has this number.
 fn next_piece(
     alloc: Global,
     decoder: &mut PieceDecoder<'_>,
@@ -30,20 +30,20 @@ fn next_piece(
     Ok(join.join(decoder.header(), first, answer))
 }
 
-/// Whether the first piece of a table has no fault, and its vector is given back.
+/// Returns whether the first piece of a table has no fault, and its vector is given back.
 fn joins(alloc: Global, decoder: &mut PieceDecoder<'_>, piece: &[u8]) -> bool {
     let mut join = PieceJoin::new(alloc);
-    decoder.keep_room(Vec::new(alloc));
+    decoder.keep_spare(Vec::new(alloc));
     match next_piece(alloc, decoder, &mut join, piece, 1) {
         Ok(joined) => {
-            let is_whole = joined.fault().is_none() && decoder.take_room().len() == piece.len();
-            is_whole && decoder.free_room().is_none()
+            let is_whole = joined.fault().is_none() && decoder.take_spare().len() == piece.len();
+            is_whole && decoder.free_spare().is_none()
         }
         Err(_) => false,
     }
 }
 
-/// The same of a table with this header, which has no more rows than can be numbered.
+/// Does the same for a table with this header, which has no more rows than can be numbered.
 fn decodes(alloc: Global, header: TableHeader<'_>, piece: &[u8]) -> bool
     requires { header.limit ≤ 4294967294 }
 {
@@ -53,7 +53,7 @@ fn decodes(alloc: Global, header: TableHeader<'_>, piece: &[u8]) -> bool
     }
 }
 
-/// The same of a report's first table, whose header is the first of these records.
+/// Does the same for a report's first table, whose header is the first of these records.
 fn reads_a_piece(
     alloc: Global,
     report: &Report,
@@ -69,7 +69,7 @@ fn reads_a_piece(
     }
 }
 
-/// The same of a header of these bytes.
+/// Does the same for a header of these bytes.
 fn reads_pieces(alloc: Global, report: &Report, header: &[u8], piece: &[u8]) -> bool {
     match RecordReader::open(alloc, header) {
         Ok(mut records) => reads_a_piece(alloc, report, &mut records, piece),
@@ -77,7 +77,7 @@ fn reads_pieces(alloc: Global, report: &Report, header: &[u8], piece: &[u8]) -> 
     }
 }
 
-/// Whether the calls over a report answer as they must.
+/// Returns whether the calls over a report answer as they must.
 pub(crate) fn hold(alloc: Global, report: &Report) -> bool {
     reads_pieces(alloc, report, b"cash,note\n", b"1,n\n2,m\n")
 }
@@ -90,7 +90,7 @@ fn calls_of_pieces(rt: HostRuntime) {
     assert!(rt; holds(rt.alloc(), Over::Pieces));
 }
 
-/// Whether what decodes pieces of a report's first table is made of its file's head.
+/// Returns whether a decoder for pieces of a report's first table is made of its file's head.
 fn makes_a_decoder(alloc: Global, report: &Report, head: &FirstRecords) -> bool {
     if report.tables() == 0 {
         return false;
@@ -98,7 +98,7 @@ fn makes_a_decoder(alloc: Global, report: &Report, head: &FirstRecords) -> bool 
     head.decoder(alloc, report, 0, 10).is_ok()
 }
 
-/// Whether it is, where the first piece of the file has this many rows behind the header.
+/// Returns whether it is, if the first piece of the file has `rows` rows after the header.
 fn opens_pieces(alloc: Global, report: &Report, file: &[u8], rows: u64) -> bool {
     match open_pieces(alloc, file) {
         Ok(Some((head, _))) => head.rows() == rows && makes_a_decoder(alloc, report, &head),
@@ -106,7 +106,7 @@ fn opens_pieces(alloc: Global, report: &Report, file: &[u8], rows: u64) -> bool 
     }
 }
 
-/// Whether the calls for the head of a file answer as they must.
+/// Returns whether the calls for the head of a file answer as they must.
 pub(crate) fn hold_of_heads(alloc: Global, report: &Report) -> bool {
     opens_pieces(alloc, report, b"cash,note\n1,n\n2,m\n", 2)
 }

@@ -7,7 +7,7 @@ use oim_records::{
 };
 use std::alloc::Global;
 
-/// The first record of a file, and its second field.
+/// Reads the first record of a file and compares its second field.
 fn reads_a_record(alloc: Global) -> Result<bool, ReadFault> {
     let mut records = RecordReader::open(alloc, b"a,\"b,c\"\nd,e\n".as_slice())?;
     Ok(records.read()? && records.fields().get(1) == Some(b"b,c".as_slice()))
@@ -16,24 +16,24 @@ fn reads_a_record(alloc: Global) -> Result<bool, ReadFault> {
 /// A file of two records.
 const FILE: &[u8] = b"a,b\nc,d\n";
 
-/// The first piece of a file.
+/// Returns the first piece of a file.
 fn first_piece(alloc: Global, file: &[u8]) -> Result<Option<FilePiece>, ReadFault> {
     let mut pieces = PieceReader::new(alloc, file);
-    pieces.keep_room(Vec::new(alloc));
+    pieces.keep_spare(Vec::new(alloc));
     pieces.skip_mark()?;
     pieces.next(4_096, true)
 }
 
-/// Whether the first record of a piece has two fields, as bytes and as text.
+/// Returns whether the first record of a piece has two fields, as bytes and as text.
 fn reads_a_piece(alloc: Global, piece: FilePiece) -> bool {
     let is_all = piece.records == 2;
     let mut records = PieceRecords::new(alloc, piece.bytes);
     let is_read = records.read().is_ok();
     let has_both = has_bytes(&records.fields()) && has_texts(records.text_fields());
-    is_all && is_read && has_both && records.take_room(alloc).as_slice() == FILE
+    is_all && is_read && has_both && records.take_spare(alloc).as_slice() == FILE
 }
 
-/// The same of the first piece of a file.
+/// Does the same for the first piece of a file.
 fn reads_the_first_piece(alloc: Global, file: &[u8]) -> bool {
     match first_piece(alloc, file) {
         Ok(Some(piece)) => reads_a_piece(alloc, piece),
@@ -52,7 +52,7 @@ fn has_texts(fields: Option<TextFields<'_>>) -> bool {
     }
 }
 
-/// Whether a field stands before its comma.
+/// Returns whether the text of a field is directly before its comma.
 fn begins(field: Option<FieldText<'_>>) -> bool {
     match field {
         Some(field) => field.len() == 1 && field.rest().starts_with(b"a,"),
@@ -60,20 +60,20 @@ fn begins(field: Option<FieldText<'_>>) -> bool {
     }
 }
 
-/// Whether a file has a record by the `csv` crate's reader.
+/// Returns whether a file has a record by the `csv` crate's reader.
 fn reads_by_csv(alloc: Global, file: &[u8]) -> bool {
     let mut records = Records::new(alloc, file);
     let mut row = ByteRecord::new(alloc);
     matches!(records.read(&mut row), Ok(true)) && row.len() == 2
 }
 
-/// The place behind a text's last whole record.
+/// Returns whether the cut is after a text's last whole record.
 fn cuts() -> bool {
     let cut: Cut = last_cut(b"a\nb");
     cut.at == 2 && cut.rows == 1
 }
 
-/// Whether all calls answer as they must.
+/// Returns whether all calls answer as they must.
 fn hold(alloc: Global) -> bool {
     matches!(reads_a_record(alloc), Ok(true))
         && cuts()

@@ -18,7 +18,7 @@ fn has_a_table(report: &Report) -> bool {
         && report.column(0, 0).kind == ColumnKind::Fact
 }
 
-/// The other readers of a table.
+/// Checks the other readers of a table.
 fn has_more(report: &Report) -> bool {
     report.tables() == 1
         && !report.is_optional(0)
@@ -33,7 +33,7 @@ fn says_nothing(level: &Level) -> bool {
     level.dimensions.is_empty() && level.decimals.is_none()
 }
 
-/// What a report says of itself and of names.
+/// Checks a report's own properties and its names.
 fn says_of_itself(report: &Report) -> bool {
     report.stands_in_order();
     let info: &Info = report.info();
@@ -43,7 +43,7 @@ fn says_of_itself(report: &Report) -> bool {
         && report.report_level().dimensions.len() == 3
 }
 
-/// A copy of a report.
+/// Returns a copy of a report.
 fn is_copied(report: &Report) -> bool {
     match report.clone_report() {
         Ok(copy) => copy.tables() == report.tables(),
@@ -51,7 +51,7 @@ fn is_copied(report: &Report) -> bool {
     }
 }
 
-/// Limits of a caller's own.
+/// Returns a caller's own limits.
 fn thousand_rows() -> Limits {
     Limits {
         rows: 1_000,
@@ -59,7 +59,7 @@ fn thousand_rows() -> Limits {
     }
 }
 
-/// Parameters of a caller's own.
+/// Checks a caller's own parameters.
 fn has_parameters(alloc: Global) -> bool {
     match Parameters::none(alloc).with(alloc, "a", "1") {
         Ok(parameters) => parameters.has_name("a"),
@@ -67,7 +67,7 @@ fn has_parameters(alloc: Global) -> bool {
     }
 }
 
-/// Types of a caller's own.
+/// Checks a caller's own types.
 fn has_types(alloc: Global) -> bool {
     match Types::none(alloc).with(alloc, "u", "A", Kind::Text) {
         Ok(types) => types.kind_of("u", "A").is_some(),
@@ -75,13 +75,13 @@ fn has_types(alloc: Global) -> bool {
     }
 }
 
-/// A list of names of a caller's own.
+/// Checks a caller's own list of names.
 fn has_no_names(alloc: Global) -> bool {
     let named: Named<u8> = Named::new(alloc);
     named.is_empty()
 }
 
-/// The parts of which a caller can read each.
+/// Returns the parts that a caller can read.
 fn column_of(template: &Template, place: usize) -> Option<&Column> {
     template.columns.as_slice().get(place)
 }
@@ -105,7 +105,7 @@ fn is_of(record: &TypedName, uri: &str) -> bool {
     record.uri.as_str() == uri
 }
 
-/// Whether the calls over a report answer as they must.
+/// Returns whether the calls over a report answer as they must.
 pub(crate) fn hold(alloc: Global, report: &Report) -> bool {
     has_a_table(report)
         && has_more(report)
@@ -120,7 +120,7 @@ fn calls_of_reports(rt: HostRuntime) {
     assert!(rt; holds(rt.alloc(), Over::Reports));
 }
 
-/// Whether parts of a caller's own are read.
+/// Returns whether a caller's own parts are read.
 fn hold_of_parts(alloc: Global) -> bool {
     has_no_names(alloc)
         && thousand_rows().tables == 4_096

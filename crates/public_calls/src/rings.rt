@@ -7,7 +7,7 @@ use oim_json::Block;
 use oim_ring::{CloseFault, Closed, Drain, Drained, Ending, Feed, Item, LARGEST_RING, Lanes, lane};
 use std::alloc::{AllocError, Global};
 
-/// A block through a ring, and then the table's ending.
+/// Passes a block and the table's ending through a ring.
 fn hands_over(alloc: Global, block: Block) -> Result<bool, AllocError> {
     let (mut feed, mut drain) = lane(alloc, 2)?;
     let is_put = feed.put(block).is_ok();
@@ -16,7 +16,7 @@ fn hands_over(alloc: Global, block: Block) -> Result<bool, AllocError> {
     Ok(is_put && is_closed && is_taken)
 }
 
-/// Whether a block waits in a ring, and another comes back from it, where one may wait.
+/// Returns whether a block waits in a ring, and another is given back, if one block may wait.
 fn bounds(alloc: Global, block: Block, other: Block) -> Result<bool, AllocError> {
     let (mut feed, _drain) = lane(alloc, 4)?;
     let is_put = feed.put_below(block, 1).is_ok();
@@ -25,14 +25,14 @@ fn bounds(alloc: Global, block: Block, other: Block) -> Result<bool, AllocError>
     Ok(is_put && waits && comes_back)
 }
 
-/// The token of a feed that was closed.
+/// Returns the token of a feed that was closed.
 fn closed(feed: Feed) -> Result<Closed, CloseFault>
     ensures { IfOk result (λ closed. closed.ring ≡ feed.ring) }
 {
     feed.close(Ending::Closed)
 }
 
-/// Whether a drain has taken the ending, and all that was sent.
+/// Returns whether a drain has taken the ending, and all that was sent.
 fn settles(drain: Drain, closed: Closed) -> Option<Drained>
     requires { closed.ring ≡ drain.ring }
 {
@@ -43,7 +43,7 @@ fn settles(drain: Drain, closed: Closed) -> Option<Drained>
     }
 }
 
-/// The next ring of a report.
+/// Returns the next ring of a report.
 fn opens_another(alloc: Global) -> Result<bool, AllocError> {
     let mut lanes = Lanes::new(alloc, 4)?;
     let (feed, drain) = lanes.open(alloc, LARGEST_RING)?;
@@ -53,7 +53,7 @@ fn opens_another(alloc: Global) -> Result<bool, AllocError> {
     }
 }
 
-/// Whether a ring bounds how many blocks wait.
+/// Returns whether a ring limits the count of waiting blocks.
 fn bounds_blocks(alloc: Global) -> bool {
     match (nil_block(alloc), nil_block(alloc)) {
         (Ok(block), Ok(other)) => matches!(bounds(alloc, block, other), Ok(true)),
@@ -61,7 +61,7 @@ fn bounds_blocks(alloc: Global) -> bool {
     }
 }
 
-/// Whether the calls answer as they must.
+/// Returns whether the calls answer as they must.
 fn hold(alloc: Global) -> bool {
     match nil_block(alloc) {
         Ok(block) => matches!(hands_over(alloc, block), Ok(true))

@@ -6,14 +6,16 @@ use oim_meta::{Report, Side, Written, WrittenDecimals};
 use oim_records::RecordReader;
 use oim_resolve::Role;
 use oim_row::{
-    Answer, Choice, GroupCell, GroupCells, Purpose, References, Source, TableRow, is_same_side,
-    place_in, put_decimals, source_of, source_of_decimals,
+    Answer, Choice, GroupCell, GroupCells, Purpose, ReferenceTarget, References, TableRow,
+    is_same_side, place_in, put_decimals, source_of, source_of_decimals,
 };
 use oim_rows::TableHeader;
 use oim_text::TextBuffer;
 use std::alloc::{AllocError, Global};
 
-/// The decimals that the cell at a place states, as the text of a fact has them, or none where they have a fault.
+/// Returns the decimals that the cell at a place states, as the text of a fact has them.
+///
+/// Returns `None` if they have a fault.
 fn decimals_at(
     alloc: Global,
     row: &TableRow<'_, '_>,
@@ -29,7 +31,8 @@ fn decimals_at(
     }
 }
 
-/// Whether the first cell of a row states one place, and the second has a fault as decimals.
+/// Returns whether the first cell of a row states one place, and the second has a fault as
+/// decimals.
 fn states_decimals(alloc: Global, row: &TableRow<'_, '_>) -> bool {
     let first = match decimals_at(alloc, row, 0) {
         Ok(Some(json)) => json.as_slice() == b"\"decimals\":1,".as_slice(),
@@ -38,31 +41,33 @@ fn states_decimals(alloc: Global, row: &TableRow<'_, '_>) -> bool {
     first && matches!(decimals_at(alloc, row, 1), Ok(None))
 }
 
-/// Whether decimals have their text.
+/// Returns whether decimals have their text.
 fn puts_decimals(alloc: Global) -> bool {
     let mut out = TextBuffer::new(alloc);
     put_decimals(&mut out, Accuracy::Places(2)).is_ok()
         && out.as_slice() == b"\"decimals\":2,".as_slice()
 }
 
-/// Whether the number of a row is referred to, and what is not written refers to nothing.
+/// Returns whether the number of a row is referred to, and a text that is not written refers to
+/// nothing.
 fn refers(header: &TableHeader<'_>) -> bool {
-    let source: Option<Source<'_>> = source_of(header, &Written::RowNumber(Side::Start));
-    matches!(source, Some(Source::RowNumber))
+    let source: Option<ReferenceTarget<'_>> = source_of(header, &Written::RowNumber(Side::Start));
+    matches!(source, Some(ReferenceTarget::RowNumber))
         && source_of_decimals(header, &WrittenDecimals::Absent).is_none()
         && place_in(header.columns(), 1) == Some(1)
         && is_same_side(Side::Start, Side::Start)
 }
 
-/// How many bytes the number of a row gives a typed dimension.
+/// Returns the count of bytes that the number of a row gives a typed dimension.
 fn bytes_of_number(alloc: Global, row: &TableRow<'_, '_>) -> Result<u32, AllocError> {
     let mut references = References::new(alloc);
     let purpose = Purpose::Dimension(Role::Typed, Side::Whole);
-    let _place = references.place_for(alloc, row, purpose, Source::RowNumber)?;
+    let _place = references.place_for(alloc, row, purpose, ReferenceTarget::RowNumber)?;
     Ok(references.most())
 }
 
-/// What a row says of property groups in the first column of its table's template.
+/// Returns the choice of a row in the first column of its table's template, if that is one of
+/// property groups.
 fn first_choice(alloc: Global, row: &TableRow<'_, '_>) -> Result<Option<Choice>, AllocError> {
     let mut cells = GroupCells::new(alloc);
     if row.report().columns(row.table()) == 0 {
@@ -77,7 +82,8 @@ fn first_choice(alloc: Global, row: &TableRow<'_, '_>) -> Result<Option<Choice>,
     }
 }
 
-/// Whether a row answers as it must. Its first column is none of property groups, so what it says there is not known.
+/// Returns whether a row answers as it must. Its first column is not one of property groups, so it
+/// has no choice there.
 fn answers(alloc: Global, row: &TableRow<'_, '_>) -> bool {
     states_decimals(alloc, row)
         && puts_decimals(alloc)
@@ -86,7 +92,7 @@ fn answers(alloc: Global, row: &TableRow<'_, '_>) -> bool {
         && matches!(first_choice(alloc, row), Ok(Some(Choice::Unknown)))
 }
 
-/// The same of the next record of a table with this header.
+/// Does the same for the next record of a table with this header.
 fn answers_a_row(
     alloc: Global,
     header: &TableHeader<'_>,
@@ -101,7 +107,7 @@ fn answers_a_row(
     }
 }
 
-/// The same of a report's first table, whose file these are the records of.
+/// Does the same for a report's first table, whose file has these records.
 fn answers_a_table(alloc: Global, report: &Report, records: &mut RecordReader<&[u8]>) -> bool {
     if report.tables() == 0 {
         return false;
@@ -112,7 +118,7 @@ fn answers_a_table(alloc: Global, report: &Report, records: &mut RecordReader<&[
     }
 }
 
-/// Whether the calls over a report answer as they must.
+/// Returns whether the calls over a report answer as they must.
 pub(crate) fn hold(alloc: Global, report: &Report) -> bool {
     let file: &[u8] = b"cash,note\n1,n\n";
     match RecordReader::open(alloc, file) {

@@ -13,7 +13,7 @@ use std::io;
 use std::io::Read;
 use std::sync::atomic::{AtomicUsize, Ordering};
 
-/// The facts of the first row of a report's first table, whose file has these bytes.
+/// Returns the facts of the first row of a report's first table, whose file has these bytes.
 fn first_row(alloc: Global, report: &Report, file: &[u8]) -> Result<Option<RowFacts>, TableFault> {
     if report.tables() == 0 {
         return Ok(None);
@@ -22,7 +22,7 @@ fn first_row(alloc: Global, report: &Report, file: &[u8]) -> Result<Option<RowFa
     rows.next()
 }
 
-/// Whether a file has a row with facts.
+/// Returns whether a file has a row with facts.
 fn reads_rows(alloc: Global, report: &Report, file: &[u8]) -> bool {
     match first_row(alloc, report, file) {
         Ok(Some(facts)) => !facts.is_empty(),
@@ -30,7 +30,7 @@ fn reads_rows(alloc: Global, report: &Report, file: &[u8]) -> bool {
     }
 }
 
-/// Whether the plan of a table, which many rows can ask, gives the facts of its first row.
+/// Returns whether the plan of a table, which many rows can use, has the facts of its first row.
 fn plans(alloc: Global, header: &TableHeader<'_>, row: &Fields<'_>) -> bool {
     let Ok(plan) = RowPlan::new(alloc, header) else {
         return false;
@@ -41,7 +41,7 @@ fn plans(alloc: Global, header: &TableHeader<'_>, row: &Fields<'_>) -> bool {
     }
 }
 
-/// Whether the next record is a row without a fault, and the plan gives its facts.
+/// Returns whether the next record is a row without a fault, and the plan gives its facts.
 fn reads_a_record(
     alloc: Global,
     header: &TableHeader<'_>,
@@ -54,7 +54,7 @@ fn reads_a_record(
     is_read && is_row && plans(alloc, header, &records.fields())
 }
 
-/// The same of a report's first table, whose file these are the records of.
+/// Does the same for a report's first table, whose file has these records.
 fn reads_a_table(alloc: Global, report: &Report, records: &mut RecordReader<&[u8]>) -> bool {
     if report.tables() == 0 {
         return false;
@@ -65,7 +65,7 @@ fn reads_a_table(alloc: Global, report: &Report, records: &mut RecordReader<&[u8
     }
 }
 
-/// The same of a file of these bytes.
+/// Does the same for a file of these bytes.
 fn reads_a_file(alloc: Global, report: &Report, file: &[u8]) -> bool {
     match RecordReader::open(alloc, file) {
         Ok(mut records) => reads_a_table(alloc, report, &mut records),
@@ -73,7 +73,7 @@ fn reads_a_file(alloc: Global, report: &Report, file: &[u8]) -> bool {
     }
 }
 
-/// Whether the calls over a report answer as they must.
+/// Returns whether the calls over a report answer as they must.
 pub(crate) fn hold(alloc: Global, report: &Report) -> bool {
     fact_identifiers_differ(report);
     reads_rows(alloc, report, b"cash,note\n1,n\n") && reads_a_file(alloc, report, b"cash\n7\n")
@@ -84,7 +84,7 @@ fn calls_of_rows(rt: HostRuntime) {
     assert!(rt; holds(rt.alloc(), Over::Rows));
 }
 
-/// A reader that counts how often it is read, and may fail at its end.
+/// A reader that counts its reads, and may fail at its end.
 #[derive(Clone, Copy)]
 struct Counted<'a> {
     bytes: &'a [u8],
@@ -102,7 +102,7 @@ impl Read for Counted<'_> {
     }
 }
 
-/// The number of rows before the end or a fault, which is at most three.
+/// Returns the number of rows before the end or a fault, which is at most three.
 fn rows_before_end(rows: &mut Rows<'_, Counted<'_>>) -> usize {
     for count in 0..4usize {
         match rows.next() {
@@ -113,7 +113,7 @@ fn rows_before_end(rows: &mut Rows<'_, Counted<'_>>) -> usize {
     4
 }
 
-/// Whether there are this many rows, and nothing is read after that.
+/// Returns whether there are this many rows, and nothing is read after that.
 fn are_all(rows: &mut Rows<'_, Counted<'_>>, reads: &AtomicUsize, count: usize) -> bool {
     let given = rows_before_end(rows);
     let before = reads.load(Ordering::SeqCst);
@@ -132,7 +132,7 @@ const CASES: &[Case] = &[
     (b"cash\n1\n2\n", true, 2),
 ];
 
-/// Whether a report's first table has this many rows, and nothing is read after that.
+/// Returns whether a report's first table has this many rows, and nothing is read after that.
 fn stops_reading(alloc: Global, report: &Report, case: &Case) -> bool {
     if report.tables() == 0 {
         return false;
@@ -149,7 +149,7 @@ fn stops_reading(alloc: Global, report: &Report, case: &Case) -> bool {
     }
 }
 
-/// Whether each of these tables has.
+/// Returns whether each of these tables has its number of rows, and nothing is read after it.
 pub(crate) fn hold_of_reads(alloc: Global, report: &Report) -> bool {
     for case in CASES {
         if !stops_reading(alloc, report, case) {
@@ -164,14 +164,15 @@ fn nothing_is_read_after_the_end(rt: HostRuntime) {
     assert!(rt; holds(rt.alloc(), Over::Reads));
 }
 
-/// The identifier of the row with this number, among none.
+/// Returns whether the identifier of the row with this number is new to an empty set.
 fn is_new(alloc: Global, number: u32) -> bool {
     let mut id = String::new(alloc);
     let ids = RowIds::new(alloc);
     push_row_number(&mut id, number).is_ok() && !ids.has(id.as_str())
 }
 
-/// Whether a copy of an identifier is that text, and is added to none, and found there.
+/// Returns whether a copy of an identifier is the same text, can be added to an empty set, and is
+/// found there.
 fn is_kept(alloc: Global, text: &str) -> bool {
     let mut ids = RowIds::new(alloc);
     match RowId::new(alloc, text) {
@@ -182,7 +183,7 @@ fn is_kept(alloc: Global, text: &str) -> bool {
     }
 }
 
-/// Whether the first of some identifiers, of which one is this text, is found among others.
+/// Returns whether the first of some identifiers, one of which is this text, is found among others.
 fn is_first(alloc: Global, ids: &RowIds, text: &str) -> bool {
     match RowId::new(alloc, text) {
         Ok(id) => ids.first_of(&[id]) == Some(0),

@@ -6,7 +6,8 @@ use oim_meta::{Limits, Report};
 use oim_rows::TableFault;
 use std::alloc::Global;
 
-/// The number of facts in the first block of a report's first table, whose file has these bytes.
+/// Returns the number of facts in the first block of a report's first table, whose file has these
+/// bytes.
 fn first_block(alloc: Global, report: &Report, file: &[u8]) -> Result<usize, TableFault> {
     if report.tables() == 0 {
         return Ok(0);
@@ -18,7 +19,7 @@ fn first_block(alloc: Global, report: &Report, file: &[u8]) -> Result<usize, Tab
     }
 }
 
-/// Whether the calls over a report answer as they must.
+/// Returns whether the calls over a report answer as they must.
 pub(crate) fn hold(alloc: Global, report: &Report) -> bool {
     settled_tables_stay();
     first_block(alloc, report, b"cash,note\n1,n\n2,m\n") == Ok(4)

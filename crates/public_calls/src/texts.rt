@@ -7,14 +7,14 @@ use oim_text::{
 };
 use std::alloc::{AllocError, Global};
 
-/// A text as JSON writes it.
+/// Returns a text as JSON writes it.
 fn json_of(alloc: Global, text: &str) -> Result<TextBuffer, AllocError> {
     let mut out = TextBuffer::new(alloc);
     put_quoted(&mut out, text)?;
     Ok(out)
 }
 
-/// Whether JSON writes a text so.
+/// Returns whether JSON writes a text as `json`.
 fn is_written(alloc: Global, text: &str, json: &[u8]) -> bool {
     match json_of(alloc, text) {
         Ok(out) => out.as_slice() == json,
@@ -22,7 +22,7 @@ fn is_written(alloc: Global, text: &str, json: &[u8]) -> bool {
     }
 }
 
-/// A text, and its first bytes without and with quotes, escaped.
+/// Returns a text's first bytes, escaped, without and with quotes.
 fn fronts_of(alloc: Global, text: &str, len: usize) -> Result<TextBuffer, AllocError> {
     let mut out = TextBuffer::new(alloc);
     if text.len() < len {
@@ -34,7 +34,7 @@ fn fronts_of(alloc: Global, text: &str, len: usize) -> Result<TextBuffer, AllocE
     Ok(out)
 }
 
-/// Whether they are these.
+/// Returns whether they are these.
 fn are_fronts(alloc: Global, text: &str, len: usize, json: &[u8]) -> bool {
     match fronts_of(alloc, text, len) {
         Ok(out) => out.as_slice() == json,
@@ -42,10 +42,10 @@ fn are_fronts(alloc: Global, text: &str, len: usize, json: &[u8]) -> bool {
     }
 }
 
-/// How many ways of a copy there are.
+/// The count of ways to copy.
 const WAYS: usize = 5;
 
-/// Copies a short text to the front of a room in one way, and answers where it ends.
+/// Copies a short text to the start of a vector in one way, and returns where it ends.
 fn copied(way: usize, room: &mut [u8], text: &TextBuffer) -> usize {
     let len = text.len();
     if len == 0 || len > 20 || room.len() < 256 {
@@ -60,7 +60,8 @@ fn copied(way: usize, room: &mut [u8], text: &TextBuffer) -> usize {
     }
 }
 
-/// Copies the first eight bytes of a longer text to the front of a room, and answers where they end.
+/// Copies the first eight bytes of a longer text to the start of a vector, and returns where they
+/// end.
 fn copied_front(room: &mut [u8], text: &[u8]) -> usize {
     if text.len() < 40 || room.len() < 256 {
         return 0;
@@ -68,14 +69,14 @@ fn copied_front(room: &mut [u8], text: &[u8]) -> usize {
     copy_padded(room, 0, text, 8)
 }
 
-/// A room of this many bytes at least.
+/// Returns a vector of at least this many bytes.
 fn room_of(alloc: Global, size: usize) -> Result<Vec<u8>, AllocError> {
     let mut room = Vec::new(alloc);
     make_room(&mut room, 0, size)?;
     Ok(room)
 }
 
-/// Whether a text that needs no escape stands in a room, copied in one way.
+/// Returns whether a text without escapes is in a vector after a copy in one way.
 fn copies(alloc: Global, way: usize, text: &TextBuffer) -> bool {
     let Ok(mut room) = room_of(alloc, 256) else {
         return false;
@@ -83,7 +84,7 @@ fn copies(alloc: Global, way: usize, text: &TextBuffer) -> bool {
     copied(way, &mut room, text) == text.len() && room.starts_with(text.as_slice())
 }
 
-/// Whether the beginning of a longer text does.
+/// Returns whether a prefix of a longer text is.
 fn copies_a_front(alloc: Global) -> bool {
     let Ok(mut room) = room_of(alloc, 256) else {
         return false;
@@ -91,7 +92,7 @@ fn copies_a_front(alloc: Global) -> bool {
     copied_front(&mut room, &[b'x'; 40]) == 8 && room.starts_with(b"xxxxxxxx")
 }
 
-/// Whether a text stands in a room in each way.
+/// Returns whether a text is in a vector after a copy in each way.
 fn copies_in_each_way(alloc: Global) -> bool {
     let mut text = TextBuffer::new(alloc);
     if text.put(b"eg:A").is_err() {
@@ -100,7 +101,7 @@ fn copies_in_each_way(alloc: Global) -> bool {
     (0..WAYS).all(|way| copies(alloc, way, &text))
 }
 
-/// Whether a cell has a numeral with two decimals.
+/// Returns whether a cell has a numeral with two decimals.
 fn has_two_decimals(cell: &str) -> bool {
     let len = numeral_len(NumberKind::Decimal, cell.as_bytes(), cell.len());
     len > 0 && matches!(suffix_behind(cell, len), Some(Accuracy::Places(2)))

@@ -1,4 +1,5 @@
-//! The words of faults: each prints its name. That each explains itself in a sentence is seen by `tests/fault_table.py`.
+//! The names of faults: each fault prints its name. `tests/fault_table.py` checks that each
+//! explains itself in a sentence.
 
 use oim_meta::MetaFault;
 use oim_names::NameFault;
@@ -7,7 +8,7 @@ use oim_rows::{TableFault, TableKind};
 use std::alloc::Global;
 use std::fmt::Display;
 
-/// Whether a fault prints these words.
+/// Returns whether a fault prints this text.
 fn prints<F: Display>(alloc: Global, fault: &F, words: &str) -> bool {
     match format!(in alloc; "{fault}") {
         Ok(printed) => printed.as_str() == words,
@@ -15,7 +16,7 @@ fn prints<F: Display>(alloc: Global, fault: &F, words: &str) -> bool {
     }
 }
 
-/// Whether a fault of each file prints its name.
+/// Returns whether a fault of each file prints its name.
 fn print_their_names(alloc: Global) -> bool {
     prints(alloc, &NameFault::BadPrefix, "BadPrefix")
         && prints(alloc, &MetaFault::UnknownTemplate, "UnknownTemplate")
@@ -23,7 +24,7 @@ fn print_their_names(alloc: Global) -> bool {
         && prints(alloc, &CellFault::BadNumber, "BadNumber")
 }
 
-/// A fault with its place, and what it prints.
+/// A fault with its place, and the text that it prints.
 const PLACED: TableFault = TableFault {
     table: 1,
     row: 2,
@@ -38,7 +39,7 @@ fn faults_print_their_names(rt: HostRuntime) {
     assert!(rt; print_their_names(rt.alloc()) && prints(rt.alloc(), &PLACED, PLACED_WORDS));
 }
 
-/// Whether a kind is that of a number's cell, by its name as a pattern and in a comparison.
+/// Returns whether a kind is that of a number's cell, by its name as a pattern and in a comparison.
 fn is_of_number(kind: TableKind) -> bool {
     match kind {
         TableKind::BadNumber => true,

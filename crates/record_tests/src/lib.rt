@@ -1,4 +1,5 @@
-//! Tests of the records of a CSV file: readers of the tests' own, and each call once with ample memory.
+//! Tests of the records of a CSV file: with readers of their own, and each call once with ample
+//! memory.
 #![tactic(auto)]
 
 #[cfg(test)]

@@ -1,10 +1,10 @@
-//! Calls with ample memory: the place of a cut, the number of records, the record at hand as text.
+//! Calls with ample memory: the place of a cut, the number of records, the current record as text.
 
 use oim_records::{PieceReader, PieceRecords, last_cut};
 use std::alloc::Global;
 use std::test::Fail;
 
-/// A text, its last cut, how many records end before it, and how many it has.
+/// A text, its last cut, the count of records that end before it, and the count of all its records.
 type Case<'a> = (&'a [u8], u64, u64, u64);
 
 const CASES: &[Case<'static>] = &[
@@ -16,7 +16,7 @@ const CASES: &[Case<'static>] = &[
     (b"", 0, 0, 0),
 ];
 
-/// How many records the pieces of a text have.
+/// Returns the count of records in the pieces of a text.
 fn rows_of(alloc: Global, text: &[u8]) -> u64 {
     let mut pieces = PieceReader::new(alloc, text);
     let mut rows = 0u64;
@@ -38,7 +38,7 @@ fn cuts_by_hand(rt: HostRuntime) -> Result<(), Fail> {
     Ok(())
 }
 
-/// Whether a reader that gave all it has says that its last read was short, and not before a read.
+/// Returns whether a reader at its end reports that its last read was short, and not before a read.
 fn says_short(alloc: Global, text: &[u8]) -> bool {
     let mut pieces = PieceReader::new(alloc, text);
     !pieces.is_short() && pieces.next(1, false).is_ok() && pieces.is_short()
@@ -50,7 +50,8 @@ fn reads_short(rt: HostRuntime) -> Result<(), Fail> {
     Ok(())
 }
 
-/// Whether the next record of a text is UTF-8, and has this many fields and this last field.
+/// Returns whether the next record of a text is UTF-8, and has this many fields and this last
+/// field.
 fn is_text(records: &mut PieceRecords, count: usize, last: &str) -> bool {
     if !matches!(records.read(), Ok(true)) || count == 0 {
         return false;
@@ -61,14 +62,14 @@ fn is_text(records: &mut PieceRecords, count: usize, last: &str) -> bool {
     }
 }
 
-/// Whether the next record of a text is not UTF-8, first in this field.
+/// Returns whether the next record of a text is not UTF-8, first in this field.
 fn is_no_text(records: &mut PieceRecords, place: usize) -> bool {
     matches!(records.read(), Ok(true))
         && records.text_fields().is_none()
         && records.fields().first_not_text() == Some(place)
 }
 
-/// A record of UTF-8, one with a byte that is not, and one that reaches to the end.
+/// A record of UTF-8, one with a byte that is not UTF-8, and one that reaches to the end.
 const TEXT: &[u8] =
     b"period,\"Gr\xc3\xb6\xc3\x9fe, \"\"gepr\xc3\xbcft\"\" und mehr\" tail\r\n\n,\"\",\xff\nx,\"open";
 

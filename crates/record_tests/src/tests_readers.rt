@@ -1,4 +1,4 @@
-//! Readers that give a few bytes a time, that fail after each byte, and pieces of several sizes.
+//! Readers that give a few bytes per call, that fail after each byte, and pieces of several sizes.
 
 use oim_records::{Fields, PieceReader, PieceRecords, ReadFault, RecordReader};
 use std::alloc::{AllocError, Global};
@@ -28,10 +28,11 @@ impl Read for Cut<'_> {
 /// Every way to end a line and to quote, and quotes that stay open.
 const TABLE: &[u8] = b"a,b\r\n\"c,\n\"\"d\"\"\"e,f\rg\n\n\xc3\xa9,\xff\n\"h";
 
-/// Its records: behind each field a bar, behind each record a line's end.
+/// Its records: a bar after each field, a line's end after each record.
 const RECORDS: &[u8] = b"a|b|\nc,\n\"d\"e|f|\ng|\n\xc3\xa9|\xff|\nh|\n";
 
-/// After how many bytes of the table a record ends, and how many bytes of `RECORDS` are then told.
+/// The counts of table bytes after which a record ends, and the count of bytes of `RECORDS` for
+/// each.
 const ENDS: &[(usize, usize)] = &[(0, 0), (4, 5), (19, 16), (21, 19), (27, 25)];
 
 /// Writes the fields of a record.
@@ -44,7 +45,7 @@ fn put_fields(fields: &Fields<'_>, told: &mut Vec<u8>) -> Result<(), AllocError>
     Ok(())
 }
 
-/// Writes the records of a file, and gives the fault that ends them.
+/// Writes the records of a file, and returns the fault that ends them.
 fn put_records<R: Read + Drop>(
     records: &mut RecordReader<R>,
     told: &mut Vec<u8>,
@@ -59,7 +60,8 @@ fn put_records<R: Read + Drop>(
     Ok(None)
 }
 
-/// Whether a reader's records are these, whether they end with a fault, and whether none comes after it.
+/// Returns whether a reader's records are these, whether they end with a fault, and whether no
+/// record follows it.
 fn reads<R: Read + Drop>(
     alloc: Global,
     reader: R,
@@ -88,7 +90,8 @@ fn a_few_bytes_a_time(rt: HostRuntime) -> Result<(), Fail> {
     Ok(())
 }
 
-/// What is told of the records that end in the first bytes of the table.
+/// Returns the count of bytes of `RECORDS` for the records that end in the first bytes of the
+/// table.
 fn told_before(size: usize) -> usize {
     let mut told = 0;
     for &(end, length) in ENDS {
@@ -99,7 +102,8 @@ fn told_before(size: usize) -> usize {
     told
 }
 
-/// Whether a reader that fails after these bytes gives the records that end in them, and then the fault.
+/// Returns whether a reader that fails after these bytes gives the records that end in them, and
+/// then the fault.
 fn fails_behind(alloc: Global, size: usize, step: usize) -> Result<bool, AllocError> {
     let (Some(bytes), Some(expected)) = (TABLE.get(..size), RECORDS.get(..told_before(size))) else {
         return Ok(false);
@@ -125,7 +129,7 @@ fn records_before_a_failed_read(rt: HostRuntime) -> Result<(), Fail> {
     Ok(())
 }
 
-/// A reader that gives a few bytes a time, and notes how often it is asked.
+/// A reader that gives a few bytes per call, and counts its calls.
 #[derive(Drop)]
 struct Slow<'a> {
     bytes: &'a [u8],
@@ -140,7 +144,8 @@ impl Read for Slow<'_> {
     }
 }
 
-/// Whether the first record of a slow reader is given once its bytes are there: the reader is asked no second time for it.
+/// Returns whether the first record of a slow reader is given as soon as its bytes are read,
+/// without another call of the reader.
 fn gives_at_once(alloc: Global) -> Result<bool, ReadFault> {
     let asked = AtomicUsize::new(0);
     let reader = Slow {
@@ -169,7 +174,7 @@ fn put_piece(records: &mut PieceRecords, told: &mut Vec<u8>) -> Result<(), Alloc
     Ok(())
 }
 
-/// Writes the bytes of the pieces of a file, and their records, and gives how many pieces there are.
+/// Writes the bytes of the pieces of a file, and their records, and returns the count of pieces.
 fn put_pieces<R: Read + Drop>(
     pieces: &mut PieceReader<R>,
     size: usize,
@@ -188,10 +193,12 @@ fn put_pieces<R: Read + Drop>(
     Ok(20)
 }
 
-/// The size that is asked for, and how many bytes a read gives: pieces of a record or a few, and the whole.
+/// The size of the pieces, and the count of bytes per read: pieces of a record or a few, and the
+/// whole.
 const SIZES: &[(usize, usize)] = &[(1, 1), (4, 4), (5, 1), (20, 3), (64, 1), (65536, 64)];
 
-/// Whether the pieces of the table give its bytes and have its records, and are several where it is longer than they are to be.
+/// Returns whether the pieces of the table give its bytes and have its records, and are several if
+/// the table is longer than a piece.
 fn splits(alloc: Global, size: usize, step: usize) -> Result<bool, AllocError> {
     let mut pieces = PieceReader::new(
         alloc,

@@ -1,4 +1,4 @@
-//! The calls that are refused memory, and what each is made over.
+//! The calls that are refused memory, and the values that they are made over.
 
 use crate::report::{FIRST, report};
 use crate::scarcity::{Answer, Trial, are_refused};
@@ -26,7 +26,7 @@ pub(crate) enum Call {
     ReadsReport,
     /// Copies a report.
     CopiesReport,
-    /// Opens a ring on its own, or the first ring of a report.
+    /// Opens a single ring, or the first ring of a report.
     OpensRing(bool),
     /// Opens claims of two items, and draws them.
     Claims,
@@ -42,7 +42,7 @@ pub(crate) enum Call {
     Converts,
 }
 
-/// What calls are made over.
+/// The values that calls are made over.
 #[derive(Clone, Copy)]
 pub(crate) struct Over<'a> {
     pub(crate) text: &'a Text,
@@ -71,7 +71,7 @@ pub(crate) fn made(alloc: Global, call: Call, over: Over<'_>) -> Answer {
     }
 }
 
-/// Whether these calls are refused memory over a report, a row and its facts.
+/// Returns whether these calls are refused memory over a report, a row and its facts.
 fn over_facts(alloc: Global, report: &Report, row: &Row, facts: &[Fact], trials: &[Trial]) -> bool {
     let Ok(text) = Text::from_str(alloc, "http://example.com/eg") else {
         return false;
@@ -90,7 +90,7 @@ fn over_facts(alloc: Global, report: &Report, row: &Row, facts: &[Fact], trials:
     }
 }
 
-/// The same over a report and a row.
+/// Does the same over a report and a row.
 fn over_row(alloc: Global, report: &Report, row: &Row, trials: &[Trial]) -> bool {
     if report.tables() == 0 {
         return false;
@@ -104,7 +104,7 @@ fn over_row(alloc: Global, report: &Report, row: &Row, trials: &[Trial]) -> bool
     }
 }
 
-/// The same over a report.
+/// Does the same over a report.
 fn over_report(alloc: Global, report: &Report, trials: &[Trial]) -> bool {
     match cells::first_row(alloc) {
         Ok(row) => over_row(alloc, report, &row, trials),
@@ -112,7 +112,7 @@ fn over_report(alloc: Global, report: &Report, trials: &[Trial]) -> bool {
     }
 }
 
-/// Whether these calls are refused memory as often as they must.
+/// Returns whether these calls are refused memory as often as they must.
 fn hold(alloc: Global, trials: &[Trial]) -> bool {
     match report(alloc) {
         Ok(report) => over_report(alloc, &report, trials),
@@ -120,7 +120,7 @@ fn hold(alloc: Global, trials: &[Trial]) -> bool {
     }
 }
 
-/// As many bytes as most calls need.
+/// The count of bytes that suffices for most calls.
 const ROOM: usize = 65_536;
 
 const NAMES: &[Trial] = &[

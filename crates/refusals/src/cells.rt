@@ -12,7 +12,7 @@ fn push_cell(alloc: Global, cells: &mut Items<Text>, text: &str) -> Result<(), A
     Ok(())
 }
 
-/// The cells of the first row of the first table, in the order of the template's columns.
+/// Returns the cells of the first row of the first table, in the order of the template's columns.
 fn first_cells(alloc: Global) -> Result<Items<Text>, AllocError> {
     let mut cells = Items::new(alloc);
     for cell in ["100", "x", "first"] {
@@ -21,7 +21,7 @@ fn first_cells(alloc: Global) -> Result<Items<Text>, AllocError> {
     Ok(cells)
 }
 
-/// That row.
+/// Returns that row.
 pub(crate) fn first_row(alloc: Global) -> Result<Row, AllocError> {
     let cells = first_cells(alloc)?;
     match Text::from_str(alloc, "r_1") {
@@ -30,7 +30,7 @@ pub(crate) fn first_row(alloc: Global) -> Result<Row, AllocError> {
     }
 }
 
-/// What a call did that gives the fact of that row's first cell.
+/// Returns what a call did that gives the fact of that row's first cell.
 fn of_fact(answer: Result<Option<Fact>, CellFault>) -> Answer {
     match answer {
         Ok(Some(fact)) => Answer::same(fact.id() == "t1.r_1.cash"),
@@ -39,7 +39,7 @@ fn of_fact(answer: Result<Option<Fact>, CellFault>) -> Answer {
     }
 }
 
-/// Resolves the first cell of a row of the first table, or makes the table's plan and asks that.
+/// Resolves the first cell of a row of the first table, directly or by the table's plan.
 pub(crate) fn resolves(alloc: Global, report: &Report, row: &Row, is_planned: bool) -> Answer {
     if report.tables() == 0 || report.columns(0) == 0 || row.cells.len() != report.columns(0) {
         return Answer::Wrong;

@@ -18,7 +18,7 @@ struct Compared<'a> {
     is_same: bool,
 }
 
-/// A writer for a document that took nothing yet.
+/// Returns a writer for a document that took nothing yet.
 fn comparing(document: &[u8]) -> Compared<'_> {
     Compared {
         document,
@@ -42,22 +42,23 @@ impl Write for Compared<'_> {
 }
 
 impl Compared<'_> {
-    /// Whether it took nothing.
+    /// Returns whether it took nothing.
     fn is_untouched(&self) -> bool {
         self.is_same && self.left.len() == self.document.len()
     }
 
-    /// Whether it took the whole document.
+    /// Returns whether it took the whole document.
     fn is_whole(&self) -> bool {
         self.is_same && self.left.is_empty()
     }
 
-    /// Whether it took the head alone.
+    /// Returns whether it took only the head.
     fn is_head(&self) -> bool {
         self.is_same && self.left.len().saturating_add(HEAD.len()) == self.document.len()
     }
 
-    /// Whether it took the document up to a place where a fact of this table begins or ends, of the two tables.
+    /// Returns whether it took the document up to a place where a fact of this table, of the two,
+    /// begins or ends.
     fn is_cut_at(&self, table: usize) -> bool {
         let left = self.left;
         let is_before_second = left.starts_with(b",\"t2.");
@@ -70,7 +71,8 @@ impl Compared<'_> {
     }
 }
 
-/// The number behind that of a fault's table, if the table is refused as a whole for want of memory, and is not before `least`.
+/// Returns the number after that of a fault's table, if memory refused the table as a whole, and
+/// the number is not below `least`.
 fn after(fault: &TableFault, least: usize) -> Option<usize> {
     let is_whole = fault.row == 0 && fault.column == 0;
     if is_whole && fault.kind == TableKind::Memory && fault.table >= least {
@@ -80,7 +82,7 @@ fn after(fault: &TableFault, least: usize) -> Option<usize> {
     }
 }
 
-/// The first of these tables, if they are refused for want of memory alone, in table order.
+/// Returns the first of these tables, if only memory refused them, in table order.
 fn first_of(faults: &[TableFault]) -> Option<usize> {
     let mut least = 0usize;
     for fault in faults {
@@ -89,7 +91,8 @@ fn first_of(faults: &[TableFault]) -> Option<usize> {
     Some(faults.first()?.table)
 }
 
-/// What a conversion did whose refused tables are refused for want of memory alone, of which this is the first.
+/// Returns what a conversion did whose refused tables were refused only for memory, of which
+/// `table` is the first.
 fn of_first(table: Option<usize>, writer: &Compared<'_>) -> Answer {
     match table {
         Some(table) if writer.is_cut_at(table) => Answer::Refused,
@@ -97,12 +100,12 @@ fn of_first(table: Option<usize>, writer: &Compared<'_>) -> Answer {
     }
 }
 
-/// What a conversion did that was refused memory before it began.
+/// Returns what a conversion did that was refused memory before it began.
 fn of_nothing(writer: &Compared<'_>) -> Answer {
     Answer::refused(writer.is_untouched())
 }
 
-/// What a conversion on one thread did.
+/// Returns what a conversion on one thread did.
 fn of_serial(answer: &Result<(), ConvertFault>, writer: &Compared<'_>) -> Answer {
     match answer {
         Ok(()) => Answer::same(writer.is_whole()),

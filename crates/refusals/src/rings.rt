@@ -5,7 +5,7 @@ use oim_convert::Claims;
 use oim_ring::{Drain, Feed, Lanes, lane};
 use std::alloc::{AllocError, Global};
 
-/// What opening a ring did.
+/// Returns what opening a ring did.
 fn of_ring(made: Result<(Feed, Drain), AllocError>) -> Answer {
     match made {
         Ok(_) => Answer::Enough,
@@ -13,7 +13,7 @@ fn of_ring(made: Result<(Feed, Drain), AllocError>) -> Answer {
     }
 }
 
-/// Opens a ring on its own, or the first ring of a report.
+/// Opens a single ring, or the first ring of a report.
 pub(crate) fn opens(alloc: Global, is_alone: bool) -> Answer {
     if is_alone {
         return of_ring(lane(alloc, 8));
@@ -24,7 +24,7 @@ pub(crate) fn opens(alloc: Global, is_alone: bool) -> Answer {
     }
 }
 
-/// What making such claims did.
+/// Returns what making such claims did.
 fn claim(alloc: Global, items: Vec<char>) -> Answer {
     let Ok((claims, mut seats)) = Claims::new(alloc, items, 3) else {
         return Answer::Refused;

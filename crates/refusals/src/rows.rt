@@ -9,13 +9,13 @@ use oim_resolve::Fact;
 use oim_rows::{Rows, TableFault, TableKind};
 use std::alloc::Global;
 
-/// What a call did that gave this fault of the first table.
+/// Returns what a call did that gave this fault of the first table.
 fn of_fault(fault: TableFault) -> Answer {
     let is_whole = fault.table == 0 && fault.row == 0 && fault.column == 0;
     Answer::refused(is_whole && fault.kind == TableKind::Memory)
 }
 
-/// What a reader of rows did that gave this fault, if it gives the same again.
+/// Returns what a reader of rows did that gave this fault, if it gives the same again.
 fn of_settled(rows: &mut Rows<'_, &[u8]>, fault: TableFault) -> Answer {
     match rows.next() {
         Err(again) if again == fault => of_fault(fault),
@@ -23,7 +23,7 @@ fn of_settled(rows: &mut Rows<'_, &[u8]>, fault: TableFault) -> Answer {
     }
 }
 
-/// What reading two rows of two facts did.
+/// Returns what reading two rows of two facts did.
 fn read_rows(rows: &mut Rows<'_, &[u8]>) -> Answer {
     for place in 0..3usize {
         match rows.next() {
@@ -39,8 +39,8 @@ fn read_rows(rows: &mut Rows<'_, &[u8]>) -> Answer {
     Answer::Wrong
 }
 
-/// What is left of the facts of a document's first table, and whether a block's text begins what is left, behind a comma if it is not
-/// the first.
+/// Returns the rest of a document's facts after a block's text, if that text is a prefix of what is
+/// left. A comma precedes the text if it is not the first.
 fn without<'a>(left: &'a [u8], whole: &[u8], block: &Block) -> Option<&'a [u8]> {
     let left = if left.len() == whole.len() {
         left
@@ -50,8 +50,8 @@ fn without<'a>(left: &'a [u8], whole: &[u8], block: &Block) -> Option<&'a [u8]> 
     left.strip_prefix(block.bytes())
 }
 
-/// What reading all blocks did, if the document's facts are theirs up to the second table. Facts that were read before memory was refused
-/// may come first.
+/// Returns what reading all blocks did, if their facts are the document's up to the second table.
+/// Facts that were read before memory was refused may be first.
 fn read_blocks(alloc: Global, blocks: &mut TableBlocks<'_, &[u8]>, whole: &[u8]) -> Answer {
     let mut left = whole;
     for _ in 0..5u32 {
@@ -67,7 +67,7 @@ fn read_blocks(alloc: Global, blocks: &mut TableBlocks<'_, &[u8]>, whole: &[u8])
     Answer::Wrong
 }
 
-/// The document behind its head.
+/// Returns the document after its head.
 fn facts_and_tail() -> &'static [u8] {
     DOCUMENT.strip_prefix(HEAD).unwrap_or(b"")
 }

@@ -1,4 +1,4 @@
-//! How a test takes all memory, and gives it back a little at a time.
+//! The tests' way to take all memory and to give it back a little at a time.
 
 use crate::calls::{Call, Over, made};
 use std::alloc::Global;
@@ -6,7 +6,7 @@ use std::alloc::Global;
 /// The largest number of bytes that a call may be given.
 const MOST: usize = 1 << 20;
 
-/// How many more bytes a call is given each time.
+/// The count of bytes that a call is given more each time.
 const STEP: usize = 16;
 
 /// What a call did with the memory that it had.
@@ -21,7 +21,8 @@ pub(crate) enum Answer {
 }
 
 impl Answer {
-    /// What a call did that was not refused memory, if this tells whether it answered as with ample memory.
+    /// Returns what a call did that was not refused memory, and answered as with ample memory or
+    /// not.
     pub(crate) fn same(is_same: bool) -> Answer {
         if is_same {
             Answer::Enough
@@ -30,7 +31,7 @@ impl Answer {
         }
     }
 
-    /// What a call did that was refused memory, if this tells whether it answered so.
+    /// Returns what a call did that was refused memory, and answered so or not.
     pub(crate) fn refused(is_refused: bool) -> Answer {
         if is_refused {
             Answer::Refused
@@ -40,20 +41,21 @@ impl Answer {
     }
 }
 
-/// Memory that is taken so that no one else has it.
+/// Memory that is taken so that nothing else has it.
 #[derive(Drop)]
 struct Hoard {
     blocks: Vec<Vec<u8>>,
 }
 
 impl Hoard {
-    /// Room for a hoard, which has nothing yet. `None` where there is no memory for it.
+    /// Returns a hoard that has nothing yet, or `None` if there is no memory for it.
     fn new(alloc: Global) -> Option<Hoard> {
         let blocks = Vec::with_capacity(alloc, 1 << 20).ok()?;
         Some(Hoard { blocks })
     }
 
-    /// Takes all that this thread can allocate, in ever smaller blocks. `None` where these are too many.
+    /// Takes all that this thread can allocate, in ever smaller blocks. Returns `None` if these are
+    /// too many.
     fn take_all(&mut self, alloc: Global) -> Option<()> {
         for shift in (4..47usize).rev() {
             for _ in 0..1u32 << 18 {
@@ -67,11 +69,11 @@ impl Hoard {
     }
 }
 
-/// How many bytes of the stack a call may use.
+/// The count of bytes of the stack that a call may use.
 const DEEPEST: usize = 1 << 18;
 
-/// Writes the bytes of the stack that a call may use, and gives one of them, which is 0 or 1. The stack cannot grow once
-/// all memory is taken, but it keeps what it has.
+/// Writes the bytes of the stack that a call may use, and returns one of them, which is 0 or 1. The
+/// stack cannot grow after all memory is taken, but it keeps what it has.
 #[inline(never)]
 fn reach_down(place: usize) -> u8 {
     let mut bytes = [0u8; DEEPEST];
@@ -81,7 +83,8 @@ fn reach_down(place: usize) -> u8 {
     bytes[place % DEEPEST]
 }
 
-/// A piece of memory, of which a call has a little and then ever more. It is kept apart, so that all else can be taken.
+/// A vector of which a call has a little memory and then ever more. It is separate, so that all
+/// other memory can be taken.
 #[derive(Drop)]
 struct Room {
     left: usize,
@@ -89,8 +92,8 @@ struct Room {
 }
 
 impl Room {
-    /// A room of `room` bytes, of which at most 1,048,576 count, and of which a call has none yet. `None` where there is no
-    /// memory for it.
+    /// Returns a room of `room` bytes, at most 1,048,576, of which a call has none yet. Returns
+    /// `None` if there is no memory for it.
     fn new(alloc: Global, room: usize) -> Option<Room> {
         let left = room.min(MOST);
         // The system's first large block is outside its heap, and a second one inside.
@@ -105,7 +108,7 @@ impl Room {
         })
     }
 
-    /// The same room with 16 bytes more for the call. `None` where all of it is the call's.
+    /// Returns the same room with 16 bytes more for the call, or `None` if the call has all of it.
     fn eased(self, alloc: Global) -> Option<Room> {
         let left = self.left.checked_sub(STEP)?;
         drop(self);
@@ -117,8 +120,8 @@ impl Room {
     }
 }
 
-/// How often a call is refused memory while it has none, then 16 bytes, and so on, until it has enough. `None` where it never has, or
-/// answers something else before.
+/// Returns how often a call is refused memory while it has none, then 16 bytes, and so on, until it
+/// has enough. Returns `None` if it never has enough, or gives another answer before.
 fn refusals_in(alloc: Global, room: Room, call: Call, over: Over<'_>) -> Option<u32> {
     let mut room = room;
     for refused in 0..=(MOST / STEP) as u32 {
@@ -131,17 +134,18 @@ fn refusals_in(alloc: Global, room: Room, call: Call, over: Over<'_>) -> Option<
     None
 }
 
-/// The same while all other memory of the process is taken, so the process must do nothing else.
+/// Does the same while all other memory of the process is taken, so the process must do nothing
+/// else.
 fn refusals_of(alloc: Global, room: Room, call: Call, over: Over<'_>) -> Option<u32> {
     let mut hoard = Hoard::new(alloc)?;
     hoard.take_all(alloc)?;
     refusals_in(alloc, room, call, over)
 }
 
-/// A call, the memory that it may need, and how often it is refused some before it has enough, at least.
+/// A call, the memory that it may need, and the least count of refusals before it has enough.
 pub(crate) type Trial = (Call, usize, u32);
 
-/// Whether a call is refused memory at least so often before it has enough.
+/// Returns whether a call is refused memory at least this often before it has enough.
 fn is_refused(alloc: Global, trial: &Trial, over: Over<'_>) -> bool {
     match Room::new(alloc, trial.1) {
         Some(room) => {
@@ -152,7 +156,7 @@ fn is_refused(alloc: Global, trial: &Trial, over: Over<'_>) -> bool {
     }
 }
 
-/// Whether each of these calls is.
+/// Returns whether each of these calls is.
 pub(crate) fn are_refused(alloc: Global, trials: &[Trial], over: Over<'_>) -> bool {
     for trial in trials {
         if !is_refused(alloc, trial, over) {

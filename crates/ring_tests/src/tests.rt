@@ -1,5 +1,5 @@
-//! Tests of the backlog of a report's rings: which feeds it holds back, that each is let go again, and
-//! that the feed of the table that the writer takes is never held back.
+//! Tests of the backlog of a report's rings: which feeds it holds back, that each continues later,
+//! and that the feed of the table that the writer takes is never held back.
 
 ghost use Rattle.oim_ring.specs.Limits.{IsRingSize};
 
@@ -13,20 +13,20 @@ use std::sync::atomic::{AtomicUsize, Ordering};
 use std::thread;
 use std::thread::Threads;
 
-/// How often a thread looks for what another one does.
+/// The count of checks by a thread for what another one does.
 const TURNS: u32 = 20_000_000;
 
-/// How many blocks of each table two workers send.
+/// The count of blocks of each table that two workers send.
 const BLOCKS: u32 = 300;
 
-/// A block of one fact.
+/// Returns a block of one fact.
 fn block(alloc: Global) -> Result<Block, AllocError> {
     let id = Text::from_str(alloc, "t1.r_1.a")?;
     let fact = Fact::new(id, None, None, Items::new(alloc));
     block_of(alloc, &[fact])
 }
 
-/// Whether the feed takes a block.
+/// Returns whether the feed takes a block.
 fn puts(alloc: Global, feed: &mut Feed) -> bool {
     match block(alloc) {
         Ok(block) => feed.put(block).is_ok(),
@@ -34,7 +34,7 @@ fn puts(alloc: Global, feed: &mut Feed) -> bool {
     }
 }
 
-/// Whether the drain gives a block.
+/// Returns whether the drain gives a block.
 fn gives(drain: &mut Drain) -> bool {
     matches!(drain.take(), Some(Item::Block(_)))
 }
@@ -47,7 +47,7 @@ struct Rings {
     last: (Feed, Drain),
 }
 
-/// The rings of the next three tables, of this size.
+/// Returns the rings of the next three tables, of this size.
 fn open_next(alloc: Global, lanes: &mut Lanes, size: usize) -> Result<Rings, AllocError>
     requires { IsRingSize size }
 {
@@ -57,7 +57,7 @@ fn open_next(alloc: Global, lanes: &mut Lanes, size: usize) -> Result<Rings, All
     Ok(Rings { own, next, last })
 }
 
-/// Three rings of this size, in which so many facts may wait together.
+/// Returns three rings of this size, in which `most` facts may wait together.
 fn open_three(alloc: Global, most: usize, size: usize) -> Result<Rings, AllocError>
     requires { IsRingSize size }
 {
@@ -65,13 +65,13 @@ fn open_three(alloc: Global, most: usize, size: usize) -> Result<Rings, AllocErr
     open_next(alloc, &mut lanes, size)
 }
 
-/// Whether tables 1 and 2 are held back, or not.
+/// Returns whether tables 1 and 2 are held back, or not.
 fn are_held(rings: &Rings, next: bool, last: bool) -> bool {
     rings.next.0.is_held() == next && rings.last.0.is_held() == last
 }
 
-/// Whether the second of two blocks of table 1 holds back that table and table 2, but not table 0, whose
-/// block passes meanwhile.
+/// Returns whether the second of two blocks of table 1 holds back that table and table 2, but not
+/// table 0, whose block passes meanwhile.
 fn hold_back(alloc: Global, rings: &mut Rings) -> bool {
     let is_one = puts(alloc, &mut rings.next.0) && are_held(rings, false, false);
     let are_two = puts(alloc, &mut rings.next.0) && are_held(rings, true, true);
@@ -82,13 +82,14 @@ fn hold_back(alloc: Global, rings: &mut Rings) -> bool {
     is_one && are_two && is_full && passes && are_held(rings, true, true)
 }
 
-/// Whether table 1 goes on once the writer has reached its ring, and then holds back only table 2.
+/// Returns whether table 1 continues after the writer has reached its ring, and then holds back
+/// only table 2.
 fn let_go(alloc: Global, rings: &mut Rings) -> bool {
     let is_let_go = gives(&mut rings.next.1) && are_held(rings, false, false);
     is_let_go && puts(alloc, &mut rings.next.0) && are_held(rings, false, true)
 }
 
-/// Whether an ending does not count as a block: one block waits in the ring, and then none.
+/// Returns whether an ending does not count as a block: one block waits in the ring, and then none.
 fn is_no_block(feed: Feed, drain: &mut Drain, last: &Feed) -> bool {
     let is_given = gives(drain) && !last.is_held();
     let is_closed = feed.close(Ending::Closed).is_ok() && !last.is_held();
@@ -96,7 +97,7 @@ fn is_no_block(feed: Feed, drain: &mut Drain, last: &Feed) -> bool {
     is_given && is_closed && is_empty && !last.is_held()
 }
 
-/// Whether the feeds of three rings, in which two blocks may wait, are held back as above.
+/// Returns whether the feeds of three rings, in which two blocks may wait, are held back as above.
 fn are_held_back(alloc: Global, rings: Rings) -> bool {
     let mut rings = rings;
     let is_so = hold_back(alloc, &mut rings) && let_go(alloc, &mut rings);
@@ -115,7 +116,7 @@ fn later_tables_are_held_back(rt: HostRuntime) {
     assert!(rt; are_held);
 }
 
-/// Whether a count reaches this value in time.
+/// Returns whether a count reaches this value in time.
 fn comes_to(count: &AtomicUsize, wanted: usize) -> bool {
     for _ in 0..TURNS {
         if count.load(Ordering::SeqCst) >= wanted {
@@ -133,7 +134,7 @@ fn wait_counted<T: Wait>(rt: &T, feed: &Feed, count: &AtomicUsize) {
     count.fetch_add(1, Ordering::SeqCst);
 }
 
-/// Whether many blocks pass through a ring, each at its turn.
+/// Returns whether many blocks pass through a ring, each at its turn.
 fn pass<T: Wait>(rt: &T, alloc: Global, ring: &mut (Feed, Drain)) -> bool {
     for _ in 0..BLOCKS {
         ring.0.wait_for_turn(rt);
@@ -144,8 +145,8 @@ fn pass<T: Wait>(rt: &T, alloc: Global, ring: &mut (Feed, Drain)) -> bool {
     true
 }
 
-/// Whether the table that the writer takes passes blocks while the next one waits, and the next one goes
-/// on once the writer looks at its ring, even though that is empty.
+/// Returns whether the table that the writer takes passes blocks while the next one waits. The next
+/// one must continue when the writer reaches its ring, even if that is empty.
 fn passes_before<T: Wait>(
     rt: &T,
     alloc: Global,
@@ -158,7 +159,8 @@ fn passes_before<T: Wait>(
     passes && was_held && next.take().is_none() && comes_to(count, 2)
 }
 
-/// Whether the feed of table 1, held back by two blocks of table 2, goes on only once the writer reaches it.
+/// Returns whether the feed of table 1, held back by two blocks of table 2, continues only when the
+/// writer reaches it.
 fn waits_for_the_writer<T: Threads + Wait + Sync>(
     rt: &T,
     alloc: Global,
@@ -185,13 +187,14 @@ fn a_later_table_waits_for_the_writer(rt: HostRuntime) {
     assert!(rt; waits);
 }
 
-/// Whether the other thread waits until a block is taken from the drain, and then goes on.
+/// Returns whether the other thread waits until a block is taken from the drain, and then
+/// continues.
 fn lets_go(drain: &mut Drain, count: &AtomicUsize) -> bool {
     let waits = comes_to(count, 1) && count.load(Ordering::SeqCst) == 1;
     waits && gives(drain) && comes_to(count, 2)
 }
 
-/// Whether the feed of table 1 goes on once a block of table 0 is taken.
+/// Returns whether the feed of table 1 continues after a block of table 0 is taken.
 fn waits_for_room<T: Threads + Wait + Sync>(rt: &T, alloc: Global, rings: Rings) -> bool {
     let Rings { own, next, last: _ } = rings;
     let (mut own, mut own_drain) = own;
@@ -216,7 +219,7 @@ fn a_later_table_waits_for_room(rt: HostRuntime) {
     assert!(rt; waits);
 }
 
-/// Puts a block once it is the feed's turn, and tries again while the ring is full.
+/// Puts a block at the feed's turn, and tries again while the ring is full.
 fn put_waiting<T: Wait>(rt: &T, feed: &mut Feed, block: Block) -> bool {
     let mut block = block;
     for _ in 0..TURNS {
@@ -244,7 +247,7 @@ fn close_waiting<T: Wait>(rt: &T, feed: Feed) -> bool {
     false
 }
 
-/// Sends a table of many blocks, and tells whether all were sent.
+/// Sends a table of many blocks, and returns whether all were sent.
 fn send_table<T: Wait>(rt: &T, alloc: Global, feed: Feed) -> bool {
     let mut feed = feed;
     for _ in 0..BLOCKS {
@@ -258,7 +261,7 @@ fn send_table<T: Wait>(rt: &T, alloc: Global, feed: Feed) -> bool {
     close_waiting(rt, feed)
 }
 
-/// The number of blocks before the ending.
+/// Returns the number of blocks before the ending.
 fn blocks_of<T: Wait>(rt: &T, drain: &mut Drain) -> u32 {
     let mut count = 0u32;
     for _ in 0..TURNS {
@@ -271,14 +274,15 @@ fn blocks_of<T: Wait>(rt: &T, drain: &mut Drain) -> u32 {
     0
 }
 
-/// Whether a vector is kept, which the feed then has.
+/// Returns whether a spare vector is kept, which the feed then has.
 fn keeps_one<T: Wait>(rt: &T, feed: &Feed) -> bool {
-    feed.kept_room(rt).is_some()
+    feed.kept_spare(rt).is_some()
 }
 
-/// Whether the vector that a block gave back reaches this feed and then not the other, and goes back.
+/// Returns whether the vector that a block gave back reaches this feed and then not the other, and
+/// goes back.
 fn is_handed_on<T: Wait>(rt: &T, next: &Feed, feed: &Feed) -> bool {
-    let Some(room) = next.kept_room(rt) else {
+    let Some(room) = next.kept_spare(rt) else {
         return false;
     };
     let is_kept = !room.is_empty() && !keeps_one(rt, feed);
@@ -286,8 +290,8 @@ fn is_handed_on<T: Wait>(rt: &T, next: &Feed, feed: &Feed) -> bool {
     is_kept
 }
 
-/// Whether the vector of a block that was given back reaches the feed of any table, and only once, and one that a feed gives back reaches
-/// another feed.
+/// Returns whether the vector of a block that was given back reaches the feed of any table, and
+/// only once, and one that a feed gives back reaches another feed.
 fn comes_back<T: Wait>(rt: &T, block: Block, rings: &Rings) -> bool {
     let (feed, next) = (&rings.own.0, &rings.next.0);
     let was_empty = !keeps_one(rt, feed);
@@ -307,7 +311,7 @@ fn a_room_comes_back(rt: HostRuntime) {
     assert!(rt; comes);
 }
 
-/// Whether two workers send three tables through these rings, which are of one block.
+/// Returns whether two workers send three tables through these rings, each of one block.
 fn send_three<T: Threads + Wait + Sync>(rt: &T, alloc: Global, rings: Rings) -> bool {
     let Rings {
         own: (first, mut first_drain),

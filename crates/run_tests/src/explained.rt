@@ -1,4 +1,4 @@
-//! Calls of `oim_explain`, and those of `oim_run` that it passes on.
+//! Calls of `oim_explain`, and those of `oim_run` that are its own.
 
 use oim_explain::explain_report;
 use oim_meta::{MetaFault, Parameters, Types};
@@ -10,7 +10,8 @@ use oim_run::{
 };
 use std::alloc::{AllocError, Global};
 
-/// Whether the fault of a metadata without a document type is explained at the key that is not there.
+/// Returns whether the fault of a metadata without a document type is explained at the missing
+/// key.
 fn explains_the_key(alloc: Global, folder: &mut Texts<'_>) -> Result<bool, AllocError> {
     let fault = MetaFault::NotReport;
     let text = explain_report(alloc, "m.json", "t.csv", folder, Source::Report, fault)?;
@@ -18,14 +19,14 @@ fn explains_the_key(alloc: Global, folder: &mut Texts<'_>) -> Result<bool, Alloc
     Ok(text.as_str().starts_with(place))
 }
 
-/// The record of that fault in the file of faults.
+/// Returns the record of that fault in the file of faults.
 fn row_of_the_key(alloc: Global, folder: &mut Texts<'_>) -> Result<Vec<u8>, AllocError> {
     let fault = MetaFault::NotReport;
     let told = report_explanation(alloc, "m.json", "t.csv", folder, Source::Report, fault)?;
     report_fault_row(alloc, fault, told.place.as_str(), told.found.as_str())
 }
 
-/// Whether it has its place.
+/// Returns whether it has its place.
 fn writes_the_key(alloc: Global, folder: &mut Texts<'_>) -> bool {
     match row_of_the_key(alloc, folder) {
         Ok(row) => {
@@ -36,19 +37,19 @@ fn writes_the_key(alloc: Global, folder: &mut Texts<'_>) -> bool {
     }
 }
 
-/// Whether the fault is explained, and has its record, over a folder.
+/// Returns whether the fault is explained, and has its record, over a folder.
 fn explains_a_report(alloc: Global) -> bool {
     let files = [("m.json", b"{}".as_slice()), ("t.csv", TYPES.as_bytes())];
     let folder = &mut Texts { files: &files };
     matches!(explains_the_key(alloc, folder), Ok(true)) && writes_the_key(alloc, folder)
 }
 
-/// Whether an explanation has a text.
+/// Returns whether an explanation has a text.
 fn has_text(alloc: Global, explanation: &Explanation) -> bool {
     explanation_text(alloc, explanation).is_ok()
 }
 
-/// Whether a fault of a metadata is explained, over its bytes.
+/// Returns whether a fault of a metadata is explained, over its bytes.
 fn explains(alloc: Global, metadata: &[u8], fault: MetaFault) -> bool {
     let (parameters, types) = (Parameters::none(alloc), Types::none(alloc));
     match explain_metadata(alloc, "m.json", metadata, parameters, types, fault) {
@@ -70,7 +71,7 @@ const FAULT: TableFault = TableFault {
     kind: TableKind::BadNumber,
 };
 
-/// Whether the fault has this record in the file of faults.
+/// Returns whether the fault has this record in the file of faults.
 fn is_written(alloc: Global, place: &FaultPlace, record: &[u8]) -> bool {
     match fault_row(alloc, "t1", &FAULT, place) {
         Ok(row) => row.as_slice() == record,
@@ -78,7 +79,7 @@ fn is_written(alloc: Global, place: &FaultPlace, record: &[u8]) -> bool {
     }
 }
 
-/// Whether it has a record where its place is not known.
+/// Returns whether it has a record if its place is not known.
 fn is_written_without_a_place(alloc: Global) -> bool {
     match FaultPlace::unknown(alloc) {
         Ok(place) => is_written(alloc, &place, b"t1,1,1,40,BadNumber,,,,\n"),
@@ -86,7 +87,7 @@ fn is_written_without_a_place(alloc: Global) -> bool {
     }
 }
 
-/// Whether it has one with its place, which is read again.
+/// Returns whether it has one with its place, which is read again.
 fn is_written_with_its_place(alloc: Global, folder: &mut Texts<'_>, again: &ReportAgain) -> bool {
     match fault_place(alloc, "m.json", folder, again, &FAULT) {
         Ok(place) => is_written(alloc, &place, b"t1,1,1,40,BadNumber,2,cash,x,\n"),
@@ -94,7 +95,7 @@ fn is_written_with_its_place(alloc: Global, folder: &mut Texts<'_>, again: &Repo
     }
 }
 
-/// Whether it is explained over a folder, and has a record with its place.
+/// Returns whether it is explained over a folder, and has a record with its place.
 fn explains_a_table(alloc: Global) -> bool {
     let files = [
         ("m.json", METADATA.as_bytes()),
@@ -111,7 +112,7 @@ fn explains_a_table(alloc: Global) -> bool {
     }
 }
 
-/// Whether the calls for a fault of a table answer as they must.
+/// Returns whether the calls for a fault of a table answer as they must.
 fn hold(alloc: Global) -> bool {
     explains_a_table(alloc)
         && is_written_without_a_place(alloc)

@@ -1,10 +1,11 @@
-//! Tests of runs, with folders and writers of their own: readers that fail at each place of the built-in report's files, writers whose flush fails,
-//! settings that no words give.
+//! Tests of runs, with their own folders and writers: readers that fail at each place of the
+//! built-in report's files, writers whose flush fails, and settings that no command line gives.
 //!
-//! And each public name of `oim_places`, `oim_explain` and `oim_run` in one call, in the form in which a caller from outside writes it. The first call of
-//! `places`, `explained` and `runs` is the one that its library's own page shows (`tests/public_calls.py` compares them).
+//! Also each public name of `oim_places`, `oim_explain` and `oim_run` in one call, in the form in
+//! which an outside caller writes it. The first call of `places`, `explained` and `runs` is the one
+//! on its library's own page (`tests/public_calls.py` compares them).
 //!
-//! What a report of files shows as well is left to the scripts over the built program.
+//! Tests that need only files are left to the scripts over the built program.
 #![tactic(auto)]
 
 #[cfg(test)]

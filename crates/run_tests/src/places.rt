@@ -6,8 +6,8 @@ use oim_meta::Records;
 use oim_names::Text;
 use oim_places::{
     FaultPlace, ReportAgain, RowAgain, cell_shown, excerpt, fault_place, first_record_with,
-    is_of_file, line_again, next_record, part_at, place_in_file, place_in_record, pointer,
-    pointer_to, quoted, record_again, record_shown, report_again, standing, table_path, text_at,
+    is_of_file, line_again, part_at, place_in_file, place_in_record, pointer, pointer_to, quoted,
+    record_again, record_shown, report_again, standing, table_path, text_at,
 };
 use oim_rows::{TableFault, TableKind};
 use oim_run::{METADATA, TYPES};
@@ -22,7 +22,8 @@ const FAULT: TableFault = TableFault {
     kind: TableKind::BadNumber,
 };
 
-/// Whether the fault of a table's first row is in the second line of its file, which has `x` under `cash` there.
+/// Returns whether the fault of a table's first row is in the second line of its file, which has
+/// `x` under `cash` there.
 fn finds_the_cell(
     alloc: Global,
     folder: &mut Texts<'_>,
@@ -34,7 +35,7 @@ fn finds_the_cell(
     Ok(is_there && place.line == Some(2))
 }
 
-/// Whether the first cell of a record is `x`.
+/// Returns whether the first cell of a record is `x`.
 fn has_the_cell(found: &Option<RowAgain>) -> bool {
     match found {
         Some(again) => text_at(&again.row, 0) == Some("x"),
@@ -42,7 +43,7 @@ fn has_the_cell(found: &Option<RowAgain>) -> bool {
     }
 }
 
-/// Whether the fault's record is in the file at a path.
+/// Returns whether the fault's record is in the file at a path.
 fn finds_a_record(
     alloc: Global,
     folder: &mut Texts<'_>,
@@ -61,7 +62,7 @@ fn finds_a_record(
     }
 }
 
-/// Whether both are found in the files of a folder.
+/// Returns whether both are found in the files of a folder.
 fn finds_the_fault(alloc: Global, folder: &mut Texts<'_>) -> bool {
     match report_again(alloc, "f/m.json", "t.csv", folder) {
         Ok(again) => {
@@ -72,7 +73,7 @@ fn finds_the_fault(alloc: Global, folder: &mut Texts<'_>) -> bool {
     }
 }
 
-/// Whether a text is this one.
+/// Returns whether a text is this one.
 fn is_text(text: Result<String, AllocError>, expected: &str) -> bool {
     match text {
         Ok(text) => text.as_str() == expected,
@@ -80,14 +81,14 @@ fn is_text(text: Result<String, AllocError>, expected: &str) -> bool {
     }
 }
 
-/// Whether the line of the fault is found, and the place is told by it.
+/// Returns whether the line of the fault is found, and the place has its number.
 fn tells_the_line(alloc: Global, folder: &mut Texts<'_>) -> bool {
     let line = line_again(alloc, folder, "f/t1.csv", 1);
     let place = place_in_file(alloc, "f/t1.csv", line, place_in_record(&FAULT));
     is_text(place, "f/t1.csv, line 2, cell 1") && !is_of_file(FAULT.kind)
 }
 
-/// Whether the calls over these answer as they must.
+/// Returns whether the calls over these answer as they must.
 fn hold(alloc: Global) -> bool {
     let files = [
         ("f/m.json", METADATA.as_bytes()),
@@ -103,20 +104,20 @@ fn calls_of_places_of_faults(rt: HostRuntime) {
     assert!(rt; hold(rt.alloc()));
 }
 
-/// Whether a record of one cell is shown, and its cell.
+/// Returns whether a record of one cell is shown, and its cell.
 fn shows_a_record(alloc: Global, row: &ByteRecord) -> bool {
     is_text(cell_shown(alloc, row, 0), "\"a\"")
         && is_text(record_shown(alloc, row), "(a record of 1)")
 }
 
-/// Whether the first record of a file is.
+/// Returns whether the first record of a file is shown.
 fn shows_the_first(alloc: Global, file: &[u8]) -> bool {
     let mut records = Records::new(alloc, file);
     let mut row = ByteRecord::new(alloc);
-    matches!(next_record(&mut records, &mut row), Ok(true)) && shows_a_record(alloc, &row)
+    matches!(records.read(&mut row), Ok(true)) && shows_a_record(alloc, &row)
 }
 
-/// Whether the first record with a cell is found in a file.
+/// Returns whether the first record with a cell is found in a file.
 fn finds_the_first(alloc: Global, file: &[u8]) -> bool {
     matches!(first_record_with(alloc, file, 0, b"x"), Ok(Some(1)))
 }
@@ -126,7 +127,7 @@ fn calls_of_records_read_again(rt: HostRuntime) {
     assert!(rt; finds_the_first(rt.alloc(), b"a\nx\n") && shows_the_first(rt.alloc(), b"a\n"));
 }
 
-/// Whether the part of a JSON text at a key is shown.
+/// Returns whether the part of a JSON text at a key is shown.
 fn shows_a_part(alloc: Global, part: &[u8]) -> bool {
     match Value::from_slice(alloc, part) {
         Ok(value) => is_text(standing(alloc, Some(&value)), "\"b\""),
@@ -134,7 +135,7 @@ fn shows_a_part(alloc: Global, part: &[u8]) -> bool {
     }
 }
 
-/// Whether it is found by its key.
+/// Returns whether the part is found by its key.
 fn finds_a_part(alloc: Global, json: &[u8], keys: &[Text]) -> bool {
     match part_at(alloc, json, keys) {
         Ok(Some(part)) => shows_a_part(alloc, part),
@@ -142,7 +143,7 @@ fn finds_a_part(alloc: Global, json: &[u8], keys: &[Text]) -> bool {
     }
 }
 
-/// Whether the calls for this key answer as they must.
+/// Returns whether the calls for this key answer as they must.
 fn hold_of_key(alloc: Global, keys: &[Text]) -> bool {
     finds_a_part(alloc, b"{\"a\":\"b\"}", keys)
         && is_text(pointer(alloc, keys), "/a")
@@ -151,7 +152,7 @@ fn hold_of_key(alloc: Global, keys: &[Text]) -> bool {
         && is_text(quoted(alloc, "b"), "\"b\"")
 }
 
-/// Whether the calls for a key do.
+/// Returns whether the calls for a key answer as they must.
 fn hold_of_json(alloc: Global) -> bool {
     match Text::from_str(alloc, "a") {
         Ok(key) => hold_of_key(alloc, &[key]),

@@ -5,15 +5,15 @@ use oim_files::{folder_of, report_of};
 use oim_json::{Layout, Marked};
 use oim_meta::{Limits, Report};
 use oim_run::{
-    Course, EarlyFault, Ending, Folder, METADATA, Outcome, Outputs, Request, Settings, Source,
-    TABLE, TYPES, Teller, Texts, cannot_write, convert_as, convert_report, convert_to, held_told,
-    line, request_of, run, run_to, shown, status, tell, terminal_line,
+    Course, EarlyFault, Folder, METADATA, Outcome, Outputs, Request, RunEnd, Settings, Source,
+    TABLE, TYPES, Teller, Texts, VERSION, cannot_write, convert_as, convert_report, convert_to,
+    held_told, line, request_of, run, run_alone, run_to, shown, status, tell, terminal_line,
 };
 use std::alloc::{AllocError, Global};
 use std::sync::Wait;
 use std::thread::Threads;
 
-/// A folder of a caller's own: it opens the files of the held report.
+/// A caller's own folder: it opens the files of the held report.
 #[derive(Clone, Copy)]
 struct Held;
 
@@ -28,7 +28,7 @@ impl Folder<&'static [u8]> for Held {
     }
 }
 
-/// The document of a report in a folder, by the words of a command line.
+/// Runs over a folder with these settings, and checks the end of the document.
 fn runs(
     rt: &(impl AllocGlobal + Threads + Wait + Sync),
     settings: &Settings,
@@ -40,12 +40,21 @@ fn runs(
     Ok(status(&outcome) == 0 && line.as_str() == "" && document.as_slice().ends_with(b"}}\n"))
 }
 
-/// Whether a request is for a whole document.
+/// Returns whether the built-in report is converted without a runtime, as the program of this
+/// version converts it.
+fn runs_alone(alloc: Global) -> bool {
+    let mut document = Vec::new(alloc);
+    let sink = &mut Marked::new(&mut document);
+    let outcome = run_alone(alloc, "m.json", "t.csv", Layout::Lines, &mut Held, sink);
+    status(&outcome) == 0 && document.as_slice().ends_with(b"}}\n") && !VERSION.is_empty()
+}
+
+/// Returns whether a request is for a whole document.
 fn is_whole(request: &Request) -> bool {
     request.whole && !request.progress
 }
 
-/// Whether the words ask for a whole document, beside the settings.
+/// Returns whether the options ask for a whole document, apart from the settings.
 fn asks(alloc: Global) -> bool {
     match request_of(alloc, &["m.json", "--types", "t.csv", "--whole"]) {
         Ok(request) => is_whole(&request),
@@ -53,7 +62,7 @@ fn asks(alloc: Global) -> bool {
     }
 }
 
-/// Whether a path is shown, as a line for a terminal has it.
+/// Returns whether a path is shown, as a line for a terminal has it.
 fn shows(alloc: Global, path: &str) -> bool {
     match shown(alloc, path) {
         Ok(path) => terminal_line(alloc, &Outcome::CannotRead(path)).is_ok(),
@@ -61,12 +70,12 @@ fn shows(alloc: Global, path: &str) -> bool {
     }
 }
 
-/// Whether a report is refused for its types table.
+/// Returns whether a report is refused for its types table.
 fn is_of_types(outcome: &Outcome) -> bool {
     matches!(outcome, Outcome::Report(Source::Types, _)) && status(outcome) == 1
 }
 
-/// Whether a report without types is refused, by a run to a writer behind a buffer.
+/// Returns whether a report without types is refused, by a run to a writer after a buffer.
 fn refuses(rt: &(impl AllocGlobal + Threads + Wait + Sync), settings: &Settings) -> bool {
     let files = [("m.json", METADATA.as_bytes()), ("t.csv", b"".as_slice())];
     let folder = &mut Texts { files: &files };
@@ -74,13 +83,13 @@ fn refuses(rt: &(impl AllocGlobal + Threads + Wait + Sync), settings: &Settings)
     is_of_types(&refused)
 }
 
-/// Whether the built-in report is converted to a writer.
+/// Returns whether the built-in report is converted to a writer.
 fn converts_to(rt: &(impl AllocGlobal + Threads + Wait + Sync)) -> bool {
     let (outcome, document) = convert_to(rt, rt.alloc(), Vec::new(rt.alloc()));
     status(&outcome) == 0 && document.as_slice().ends_with(b"}}\n")
 }
 
-/// Outputs of a caller's own, which count the whole documents that were ended.
+/// A caller's own outputs, which count the whole documents that were ended.
 #[derive(Clone, Copy)]
 struct Counting {
     alloc: Global,
@@ -96,15 +105,15 @@ impl Outputs<Vec<u8>> for Counting {
         None
     }
 
-    fn end(&mut self, writer: Vec<u8>, ran: &Outcome) -> Ending {
+    fn end(&mut self, writer: Vec<u8>, ran: &Outcome) -> RunEnd {
         if matches!(ran, Outcome::Done) && writer.as_slice().ends_with(b"}}\n") {
             self.whole = self.whole.saturating_add(1);
         }
-        Ending::Kept
+        RunEnd::Kept
     }
 }
 
-/// Whether one document is converted, to where the words say.
+/// Returns whether one document is converted, to the output of the request.
 fn converts(rt: &(impl AllocGlobal + Threads + Wait + Sync), request: &Request) -> bool {
     let mut outputs = Counting {
         alloc: rt.alloc(),
@@ -114,7 +123,7 @@ fn converts(rt: &(impl AllocGlobal + Threads + Wait + Sync), request: &Request) 
     status(&outcome) == 0 && outputs.whole == 1
 }
 
-/// Whether one is by the words of the held report.
+/// Returns whether one document is converted, for the arguments of the held report.
 fn converts_once(rt: &(impl AllocGlobal + Threads + Wait + Sync)) -> bool {
     match request_of(rt.alloc(), WORDS) {
         Ok(request) => converts(rt, &request),
@@ -122,7 +131,7 @@ fn converts_once(rt: &(impl AllocGlobal + Threads + Wait + Sync)) -> bool {
     }
 }
 
-/// A teller of a caller's own, which counts the bytes that it was given.
+/// A caller's own teller, which counts the bytes that it was given.
 #[derive(Clone, Copy)]
 struct Listening {
     bytes: usize,
@@ -138,20 +147,20 @@ impl Teller for Listening {
     }
 }
 
-/// Whether a person is told that a file cannot be written.
+/// Returns whether the teller is given the line of a file that cannot be written.
 fn is_told(alloc: Global) -> bool {
     let mut teller = Listening { bytes: 0 };
     tell(&mut teller, alloc, &cannot_write(alloc, "d.json")) == 3 && teller.bytes == 31
 }
 
-/// Whether the built-in report is converted, and nothing is told of it.
+/// Returns whether the built-in report is converted, and the teller is given nothing.
 fn is_silent(rt: &(impl AllocGlobal + Threads + Wait + Sync)) -> bool {
     let mut teller = Listening { bytes: 0 };
     let (status, document) = held_told(rt, rt.alloc(), Vec::new(rt.alloc()), &mut teller);
     status == 0 && teller.bytes == 0 && document.as_slice().ends_with(b"}}\n")
 }
 
-/// Whether the calls with settings answer as they must.
+/// Returns whether the calls with settings answer as they must.
 pub(crate) fn hold(rt: &(impl AllocGlobal + Threads + Wait + Sync), settings: &Settings) -> bool {
     matches!(runs(rt, settings), Ok(true)) && refuses(rt, settings)
 }
@@ -161,11 +170,12 @@ fn calls_of_runs(rt: HostRuntime) {
     assert!(rt; holds(&rt, WORDS, Trial::Runs));
 }
 
-/// Whether the calls without settings do.
+/// Returns whether the calls without settings answer as they must.
 fn hold_without(rt: &(impl AllocGlobal + Threads + Wait + Sync)) -> bool {
     asks(rt.alloc())
         && shows(rt.alloc(), "m.json")
         && is_told(rt.alloc())
+        && runs_alone(rt.alloc())
         && converts_to(rt)
         && converts_once(rt)
         && is_silent(rt)
@@ -176,7 +186,7 @@ fn calls_of_other_runs(rt: HostRuntime) {
     assert!(rt; hold_without(&rt));
 }
 
-/// Whether a report whose tables are given by readers is converted.
+/// Returns whether a report whose tables are given by readers is converted.
 fn converts_tables(
     rt: &(impl AllocGlobal + Threads + Wait + Sync),
     report: &Report,
@@ -194,7 +204,7 @@ fn converts_tables(
     status(&outcome) == 0 && document.as_slice().ends_with(b"}}\n")
 }
 
-/// Whether the held report is.
+/// Returns whether the held report is converted.
 fn converts_a_report(rt: &(impl AllocGlobal + Threads + Wait + Sync), report: &Report) -> bool {
     match vec![in rt.alloc(); Some(TABLE.as_bytes())] {
         Ok(tables) => converts_tables(rt, report, tables),
@@ -202,7 +212,7 @@ fn converts_a_report(rt: &(impl AllocGlobal + Threads + Wait + Sync), report: &R
     }
 }
 
-/// Whether it is where its files are read first.
+/// Returns whether it is converted after its files are read.
 fn converts_the_held(rt: &(impl AllocGlobal + Threads + Wait + Sync)) -> bool {
     let folder = &mut Held;
     let report: Result<Report, EarlyFault> = report_of(

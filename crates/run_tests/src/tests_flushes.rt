@@ -24,8 +24,8 @@ impl Write for Unflushed {
 /// The line for a failed flush.
 const NOT_FLUSHED: &str = "xbrl-json: output: Write (56)\n";
 
-/// The path of the types table, the bytes of the table, and the line: the document is whole, or a table is refused, or there is no
-/// types table.
+/// The path of the types table, the bytes of the table, and the line: the document is whole, or a
+/// table is refused, or there is no types table.
 type Case = (&'static str, &'static [u8], &'static str);
 
 const CASES: &[Case] = &[
@@ -34,7 +34,7 @@ const CASES: &[Case] = &[
     ("none.csv", b"cash\n1\n", "xbrl-json: cannot read t.csv\n"),
 ];
 
-/// Whether a run over these files says so.
+/// Returns whether a run over these files has this line.
 fn ends_unflushed(
     rt: &(impl AllocGlobal + Threads + Wait + Sync),
     settings: &Settings,
@@ -50,13 +50,13 @@ fn ends_unflushed(
     has_lines(rt.alloc(), &outcome, case.2) && status(&outcome) == 3
 }
 
-/// Whether the conversion of the built-in report says that a flush failed.
+/// Returns whether the conversion of the built-in report reports the failed flush.
 fn is_held_unflushed(rt: &(impl AllocGlobal + Threads + Wait + Sync)) -> bool {
     let (outcome, _) = convert_to(rt, rt.alloc(), Unflushed);
     has_lines(rt.alloc(), &outcome, NOT_FLUSHED) && status(&outcome) == 3
 }
 
-/// Whether each run says so.
+/// Returns whether each run has its line.
 pub(crate) fn end_unflushed(
     rt: &(impl AllocGlobal + Threads + Wait + Sync),
     settings: &Settings,

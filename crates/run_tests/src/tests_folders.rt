@@ -1,4 +1,4 @@
-//! Runs over a folder of the test's own, which only opens files, and whose readers fail.
+//! Runs over the test's own folder, which only opens files, and whose readers fail.
 
 use crate::words::{Trial, has_lines, holds};
 use oim_json::Marked;
@@ -8,7 +8,7 @@ use std::io::Read;
 use std::sync::Wait;
 use std::thread::Threads;
 
-/// A reader of bytes that fails once this many of them were read.
+/// A reader of bytes that fails after this many of them were read.
 #[derive(Clone, Copy)]
 struct Failing {
     bytes: &'static [u8],
@@ -29,7 +29,8 @@ impl Read for Failing {
     }
 }
 
-/// The built-in report as a folder: the reader of the file at `path` fails once `left` bytes were read.
+/// The built-in report as a folder: the reader of the file at `path` fails after `left` bytes were
+/// read.
 #[derive(Clone, Copy)]
 struct Opening {
     path: &'static str,
@@ -66,7 +67,7 @@ const FILES: &[File] = &[
     ),
 ];
 
-/// Whether a run whose reader of this file fails once this many bytes were read has these lines.
+/// Returns whether a run has these lines if its reader of this file fails after this many bytes.
 fn says(
     rt: &(impl AllocGlobal + Threads + Wait + Sync),
     settings: &Settings,
@@ -81,7 +82,7 @@ fn says(
     has_lines(rt.alloc(), &outcome, lines)
 }
 
-/// Whether it has where the reader of a file fails anywhere, and no lines where it does not fail.
+/// Returns whether it has if the reader fails anywhere in a file, and no lines if it does not fail.
 fn fails_anywhere(
     rt: &(impl AllocGlobal + Threads + Wait + Sync),
     settings: &Settings,
@@ -95,7 +96,7 @@ fn fails_anywhere(
     says(rt, settings, file.0, usize::MAX, "")
 }
 
-/// The same for each file.
+/// Does the same for each file.
 pub(crate) fn fail(rt: &(impl AllocGlobal + Threads + Wait + Sync), settings: &Settings) -> bool {
     for file in FILES {
         if !fails_anywhere(rt, settings, file) {
@@ -105,7 +106,7 @@ pub(crate) fn fail(rt: &(impl AllocGlobal + Threads + Wait + Sync), settings: &S
     true
 }
 
-/// The words for this number of workers.
+/// The arguments for this number of workers.
 const ONE: &[&str] = &["m.json", "--types", "t.csv", "--workers", "1"];
 
 const TWO: &[&str] = &["m.json", "--types", "t.csv", "--workers", "2"];

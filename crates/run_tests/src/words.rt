@@ -6,7 +6,7 @@ use std::alloc::Global;
 use std::sync::Wait;
 use std::thread::Threads;
 
-/// What is tried with settings.
+/// The trials of settings.
 #[derive(Clone, Copy)]
 pub(crate) enum Trial {
     /// Calls of `oim_run`.
@@ -17,7 +17,7 @@ pub(crate) enum Trial {
     Folders,
 }
 
-/// Whether a trial with settings ends as it must.
+/// Returns whether a trial with settings ends as it must.
 fn succeeds(
     rt: &(impl AllocGlobal + Threads + Wait + Sync),
     settings: &Settings,
@@ -30,7 +30,7 @@ fn succeeds(
     }
 }
 
-/// Whether one with the settings of these words does.
+/// Returns whether a trial with the settings of these arguments does.
 pub(crate) fn holds(
     rt: &(impl AllocGlobal + Threads + Wait + Sync),
     words: &[&str],
@@ -42,10 +42,10 @@ pub(crate) fn holds(
     }
 }
 
-/// The words that name the files of the held report.
+/// The arguments with the files of the held report.
 pub(crate) const WORDS: &[&str] = &["m.json", "--types", "t.csv"];
 
-/// Whether an outcome has these lines.
+/// Returns whether an outcome has these lines.
 pub(crate) fn has_lines(alloc: Global, outcome: &Outcome, lines: &str) -> bool {
     match line(alloc, outcome) {
         Ok(line) => line.as_str() == lines,

@@ -1,24 +1,26 @@
-//! The files of the system. No contract says anything about them.
+//! The system's files, as the files of a report.
+//!
+//! Not proved: all of this file. Tests over real files show what it does.
 
 ghost use Rattle.std.specs.Io.{ReadsAtMost};
 
 use crate::progress::Progress;
-use crate::written::Written;
+use crate::written::WrittenFiles;
 use oim_run::Folder;
 use std::fs::File;
 use std::io::{ErrorKind, Read};
 use std::{fs, io};
 
-/// A file of the system, or where it is.
+/// An open file of the system, or the path of one.
 #[derive(Drop)]
-enum Source<'a> {
+enum DiskFileState<'a> {
     /// The open file.
     Open(File),
-    /// The file at this path, which is not open yet.
+    /// The path of a file that is not open yet.
     Named(&'a HostRuntime, String),
 }
 
-/// Reads from a file. Where a signal came before anything was read, it asks again.
+/// Reads from a file. If a signal interrupts the read before any byte, it reads again.
 fn read_through_signals<F: Read>(file: &mut F, buf: &mut [u8]) -> io::Result<usize>
     ensures { ReadsAtMost result buf.new }
 {
@@ -35,34 +37,35 @@ fn read_through_signals<F: Read>(file: &mut F, buf: &mut [u8]) -> io::Result<usi
     Err(io::Error::from(ErrorKind::Interrupted))
 }
 
-impl<'a> Source<'a> {
-    /// Reads from the file, which is opened for that.
+impl<'a> DiskFileState<'a> {
+    /// Reads from the file, and opens it first if it is not open.
     fn read(&mut self, buf: &mut [u8]) -> io::Result<usize>
         ensures { ReadsAtMost result buf.new }
     {
-        if let Source::Named(rt, path) = self {
-            *self = Source::Open(fs::open(*rt, path.as_str())?);
+        if let DiskFileState::Named(rt, path) = self {
+            *self = DiskFileState::Open(fs::open(*rt, path.as_str())?);
         }
         match self {
-            Source::Open(file) => read_through_signals(file, buf),
-            Source::Named(_, _) => Err(io::Error::from(ErrorKind::NotFound)),
+            DiskFileState::Open(file) => read_through_signals(file, buf),
+            DiskFileState::Named(_, _) => Err(io::Error::from(ErrorKind::NotFound)),
         }
     }
 }
 
-/// A file of the system, which is opened at its first read unless it is open already. The bytes of a table's file are counted, and
-/// its table counts as done once it is dropped.
+/// A file of the system, which is opened at its first read unless it is already open.
+///
+/// If it has a progress, its bytes are counted, and dropping it counts its table as done.
 pub struct DiskFile<'a> {
-    source: Source<'a>,
-    /// Where its bytes are counted, if anywhere.
+    source: DiskFileState<'a>,
+    /// The progress that counts its bytes, if any.
     progress: Option<&'a Progress<'a>>,
 }
 
 impl<'a> DiskFile<'a> {
-    /// An open file, whose bytes are not counted.
+    /// Makes it from an open file, whose bytes are not counted.
     pub fn of(file: File) -> DiskFile<'a> {
         DiskFile {
-            source: Source::Open(file),
+            source: DiskFileState::Open(file),
             progress: None,
         }
     }
@@ -90,28 +93,35 @@ impl<'a> Read for DiskFile<'a> {
     }
 }
 
-/// The files of the system. A file that is opened at once and cannot be opened counts as missing, and so
-/// does one that the run writes. A file that is looked for counts as missing only if the system says that
-/// there is no such file; any other that cannot be opened fails at its first read.
+/// The system's files.
+///
+/// `open` returns `None` for a file that cannot be opened or that the run writes. `find` returns
+/// `None` only if the system reports that the file does not exist. Any other file that cannot be
+/// opened fails at its first read.
 #[derive(Drop)]
 pub struct Disk<'a> {
     /// The system.
     pub rt: &'a HostRuntime,
-    /// The files that the run writes: each file of the report is compared with them.
-    pub written: &'a Written<'a>,
-    /// Counts each file that is looked for as a table, if there is one.
+    /// The files that the run writes, to compare each file of the report with.
+    pub written: &'a WrittenFiles<'a>,
+    /// The progress that counts each file found as a table, if any.
     pub progress: Option<&'a Progress<'a>>,
 }
 
-/// The size of a file that is looked for, as far as it is known. `None` where the system says that there is no such file: it was
-/// not found, or a part of its path is not a folder.
+/// Returns whether the system reports that a file does not exist: it was not found, or a part of
+/// its path is not a folder.
+fn is_missing(metadata: &io::Result<fs::Metadata>) -> bool {
+    match metadata {
+        Ok(_) => false,
+        Err(error) => matches!(error.kind(), ErrorKind::NotFound | ErrorKind::NotADirectory),
+    }
+}
+
+/// Returns the size of a regular file, and `None` for any other file.
 fn size_of(metadata: &io::Result<fs::Metadata>) -> Option<u64> {
     match metadata {
-        Ok(metadata) => Some(metadata.len()),
-        Err(error) => match error.kind() {
-            ErrorKind::NotFound | ErrorKind::NotADirectory => None,
-            _ => Some(0),
-        },
+        Ok(metadata) if metadata.is_file() => Some(metadata.len()),
+        _ => None,
     }
 }
 
@@ -129,16 +139,16 @@ impl<'a> Folder<DiskFile<'a>> for Disk<'a> {
     fn find(&mut self, path: String) -> Option<DiskFile<'a>> {
         let metadata = fs::metadata(self.rt, path.as_str());
         self.written.look_at_path(path.as_str(), &metadata);
-        let size = size_of(&metadata);
+        let is_missing = is_missing(&metadata);
         if let Some(progress) = self.progress {
-            progress.table_found(size);
+            progress.table_found(is_missing, size_of(&metadata));
         }
-        match size {
-            Some(_) => Some(DiskFile {
-                source: Source::Named(self.rt, path),
-                progress: self.progress,
-            }),
-            None => None,
+        if is_missing {
+            return None;
         }
+        Some(DiskFile {
+            source: DiskFileState::Named(self.rt, path),
+            progress: self.progress,
+        })
     }
 }

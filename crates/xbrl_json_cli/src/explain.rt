@@ -1,4 +1,6 @@
-//! The faults of a run, explained to a person: the files are read again. No contract says anything about them.
+//! Prints the places and causes of a run's faults. It reads the report's files again.
+//!
+//! Not proved: all of this file.
 
 use crate::disk::DiskFile;
 use crate::reason::{why_unread, why_unwritten};
@@ -12,11 +14,12 @@ use oim_run::{
 use std::alloc::{AllocError, Global};
 use std::fs;
 
-/// How many refused tables are explained.
+/// The number of refused tables that are explained.
 const MOST_TABLES: usize = 100;
 
-/// The files of the system that can be read a second time: the ordinary ones. Who opens a pipe once more may
-/// wait for ever.
+/// The system's files that can be read a second time: only regular files.
+///
+/// A pipe is not opened, because that could wait for ever.
 #[derive(Drop)]
 pub struct Ordinary<'a> {
     /// The system.
@@ -36,14 +39,15 @@ impl<'a> Folder<DiskFile<'a>> for Ordinary<'a> {
     }
 }
 
-/// Prints lines, if memory did not run out for them.
+/// Prints lines, unless memory ran out for them.
 fn print(rt: &HostRuntime, lines: Result<String, AllocError>) {
     if let Ok(lines) = lines {
         let _ = rt.eprint(lines.as_str());
     }
 }
 
-/// Prints below the line of a fault of the metadata, the types table or the parameters file what there is to say of it.
+/// Prints the explanation below the line of a fault of the metadata, the types table or the
+/// parameters file.
 fn explain_early(
     rt: &HostRuntime,
     alloc: Global,
@@ -59,8 +63,8 @@ fn explain_early(
     );
 }
 
-/// Prints below the line of an outcome what there is to say of its fault. What cannot be printed, or finds
-/// no memory, is left out.
+/// Prints the explanation below the line of an outcome. Leaves out what cannot be printed, or what
+/// memory runs out for.
 pub fn explain_fault(rt: &HostRuntime, alloc: Global, settings: &Settings, outcome: &Outcome) {
     let reason = match outcome {
         Outcome::Report(source, fault) => {
@@ -74,7 +78,7 @@ pub fn explain_fault(rt: &HostRuntime, alloc: Global, settings: &Settings, outco
     let _ = eprint!(rt; "    {reason}\n");
 }
 
-/// Prints what there is to say of the fault of a table, whose report was read again.
+/// Prints the explanation of a table's fault, given the report as read again.
 fn explain_again(
     rt: &HostRuntime,
     alloc: Global,
@@ -93,7 +97,7 @@ fn explain_again(
     }
 }
 
-/// Prints the line of each refused table, and below each of the first 100 what there is to say of its fault.
+/// Prints the line of each refused table, with the explanation of each of the first `MOST_TABLES`.
 fn explain_each(
     rt: &HostRuntime,
     alloc: Global,
@@ -110,7 +114,7 @@ fn explain_each(
     }
 }
 
-/// Prints what `explain_each` does, and how many more tables there are.
+/// Prints the lines of all refused tables, and how many of them are not explained.
 pub fn explain_tables(
     rt: &HostRuntime,
     alloc: Global,

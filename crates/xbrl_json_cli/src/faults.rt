@@ -1,5 +1,6 @@
-//! The file of faults (`--faults`), which is written once the run has ended. No contract says anything about the
-//! system's files.
+//! Writes the file of `--faults`, after the run has ended.
+//!
+//! Not proved: what is written to the system's files.
 
 ghost use Rattle.std.specs.Prelude.{IfSome};
 ghost use Rattle.oim_run.specs.Outputs.{IsLeftUnwritten};
@@ -20,7 +21,7 @@ use std::fs::OpenOptions;
 use std::io::{BufWriter, Write};
 use std::{fs, io};
 
-/// The path of the document's file.
+/// Returns the path of the document's file.
 fn document_path(settings: &Settings) -> &str {
     match &settings.out {
         Some(path) => path.as_str(),
@@ -28,7 +29,7 @@ fn document_path(settings: &Settings) -> &str {
     }
 }
 
-/// Whether the file is the metadata, the types table or the document's.
+/// Whether the file at a path is the metadata, the types table or the document.
 fn is_taken(rt: &HostRuntime, settings: &Settings, path: &str) -> bool {
     let target = Target::of(rt, path);
     settings.reads(path)
@@ -37,8 +38,10 @@ fn is_taken(rt: &HostRuntime, settings: &Settings, path: &str) -> bool {
         || target.is_at(rt, document_path(settings))
 }
 
-/// A new file beside the one at a path, if that is an ordinary one or not there. `Some(None)` for any other, which
-/// is written straight; `None` if there can be no such file.
+/// Makes a new file next to the one at a path, if that is a regular file or does not exist.
+///
+/// Returns `Some(None)` for any other file, which is written directly, and `None` if no new file
+/// can be made.
 fn file_beside(rt: &HostRuntime, alloc: Global, path: &str) -> Option<Option<NewFile>> {
     let Some(old) = replaced(rt, path) else {
         return Some(None);
@@ -49,7 +52,8 @@ fn file_beside(rt: &HostRuntime, alloc: Global, path: &str) -> Option<Option<New
     }
 }
 
-/// Whether a file that is written straight can be one of faults, which is not opened for that: no folder can.
+/// Whether a file that is written directly can hold the faults: any but a folder. It is not opened
+/// to find out.
 fn is_no_folder(rt: &HostRuntime, path: &str) -> bool {
     match fs::metadata(rt, path) {
         Ok(metadata) => !metadata.is_dir(),
@@ -57,9 +61,11 @@ fn is_no_folder(rt: &HostRuntime, path: &str) -> bool {
     }
 }
 
-/// Whether the file of the faults can be written, as far as that is known before the run: a new file can be made
-/// beside it, or it is neither an ordinary file nor a folder, and neither the report's two files nor the document's
-/// are it. A pipe is not opened for it, since who reads it would see its end.
+/// Whether the file of the faults can be written, as far as can be known before the run.
+///
+/// Either a new file can be made next to it, or it is neither a regular file nor a folder. It must
+/// not be the metadata, the types table or the document. A pipe is not opened to find out, because
+/// closing it again would end its reader's input.
 fn can_be_written(rt: &HostRuntime, alloc: Global, settings: &Settings, path: &str) -> bool {
     if is_taken(rt, settings, path) {
         return false;
@@ -74,7 +80,8 @@ fn can_be_written(rt: &HostRuntime, alloc: Global, settings: &Settings, path: &s
     }
 }
 
-/// The outcome of a run that cannot write the file of the faults, as far as that is known before the run.
+/// Returns the outcome of a run that cannot write the file of the faults, if that is known before
+/// the run.
 pub fn refused_before(rt: &HostRuntime, alloc: Global, request: &Request) -> Option<Outcome> {
     let path = request.faults.as_ref()?;
     let path = path.as_str();
@@ -84,7 +91,8 @@ pub fn refused_before(rt: &HostRuntime, alloc: Global, request: &Request) -> Opt
     Some(cannot_write(alloc, path))
 }
 
-/// The record of a refused table, with what stands at the place of its fault if the report could be read again.
+/// Returns the record of a refused table, with the text at its fault's place if the report was read
+/// again.
 fn row_of(
     alloc: Global,
     meta: &str,
@@ -100,7 +108,7 @@ fn row_of(
     fault_row(alloc, id, fault, &place)
 }
 
-/// Writes the records of refused tables, whose report was read again.
+/// Writes the records of refused tables, given the report as read again.
 fn write_each<W: Write>(
     alloc: Global,
     meta: &str,
@@ -116,7 +124,7 @@ fn write_each<W: Write>(
     Ok(())
 }
 
-/// Writes the records of refused tables.
+/// Writes the records of refused tables. Reads the report again for them.
 fn write_rows<W: Write>(
     rt: &HostRuntime,
     alloc: Global,
@@ -130,7 +138,8 @@ fn write_rows<W: Write>(
     write_each(alloc, meta, folder, &report, tables, to)
 }
 
-/// Writes the record of a fault of the metadata, the types table or the parameters file, which are read again.
+/// Writes the record of a fault of the metadata, the types table or the parameters file. Reads
+/// these files again for it.
 fn write_report_row<W: Write>(
     rt: &HostRuntime,
     alloc: Global,
@@ -146,7 +155,7 @@ fn write_report_row<W: Write>(
     to.write_all(row.as_slice())
 }
 
-/// Writes the header, and the records of the faults that a run with this outcome had.
+/// Writes the header and the records of a run's faults.
 fn write_to<W: Write>(
     rt: &HostRuntime,
     alloc: Global,
@@ -168,7 +177,7 @@ fn write_to<W: Write>(
     buffered.flush()
 }
 
-/// Writes a new file, which then takes its name, and answers whether that is done.
+/// Writes a new file, gives it its name, and returns whether both succeeded.
 fn write_new(
     rt: &HostRuntime,
     alloc: Global,
@@ -184,7 +193,7 @@ fn write_new(
     false
 }
 
-/// Writes the file at a path as it is, and answers whether that is done.
+/// Writes the file at a path directly, and returns whether that succeeded.
 fn write_straight(
     rt: &HostRuntime,
     alloc: Global,
@@ -198,7 +207,7 @@ fn write_straight(
     }
 }
 
-/// Writes the file, and answers whether it is written whole.
+/// Writes the file of the faults, and returns whether it is whole.
 fn write_file(
     rt: &HostRuntime,
     alloc: Global,
@@ -216,9 +225,11 @@ fn write_file(
     }
 }
 
-/// Writes the file of the faults, if the words name one, for a run that ended so with status 0 or 1: its header, and a
-/// record for each refused table, or for the fault of the report's other files. The file has that once it is
-/// whole, and is else as it was. The answer is that it cannot be written, if that is so.
+/// Writes the file of the faults, if the command line names one and the exit status is 0 or 1.
+///
+/// The file gets its header and a record for each refused table, or for the fault of another file
+/// of the report. It is replaced only by a whole one. Returns the outcome that it cannot be
+/// written, if so.
 pub fn write_faults(
     rt: &HostRuntime,
     alloc: Global,

@@ -1,24 +1,30 @@
 //! `xbrl-json`: converts a report in xBRL-CSV 1.0 to xBRL-JSON 1.0.
 //!
-//! `xbrl-json META --types FILE [--workers N] [--ring K] [--out FILE] [--whole] [--layout
-//! compact|lines] [--progress] [--explain] [--faults FILE]` converts the report whose metadata file is META, to standard
-//! output or to the file given by `--out`. Without any words the program converts its built-in report to standard
-//! output.
+//! `xbrl-json META --types FILE [--workers N] [--ring K] [--out FILE] [--whole] [--layout LAYOUT]
+//! [--progress] [--explain] [--faults FILE]` converts the report whose metadata file is META, to
+//! standard output or to the file of `--out`. Without arguments it converts its built-in report to
+//! standard output.
 //!
-//! What is proved of a run, its lines and its status is said by the crate `oim_run`. This crate is the
-//! edge: it opens the system's files, shows the progress, and prints. Of it is proved:
+//! The crate `oim_run` proves what a run writes and which faults it answers. This crate is the
+//! edge: it opens the system's files, shows the progress, and prints. Proved here:
 //!
-//! - over any files, outputs and teller (`convert_and_tell`): exactly one run is made, to the output that the words name, or
-//!   none: for an output that is written as the path of the metadata or of the types table, or that cannot be opened. Its
-//!   outcome, or that the output did not end well, is told at most once. Nothing is told where memory ran out for the lines;
-//!   and with `--explain` the lines of refused tables are printed past the teller, of which no clause speaks. The exit
-//!   status is that of the outcome, or of the file of the faults that cannot be written behind it;
-//! - the exit status for words that are refused is that of the kind of their fault (`explained`); for the help or the version
-//!   it is 0 or 3, and only tests show that it is 3 exactly where they cannot be printed.
+//! - `convert_and_tell`, over any files, outputs and teller: exactly one run is made, to the output
+//!   that the command line names. No run is made if that output is written as the path of the
+//!   metadata or of the types table, or cannot be opened. The outcome, or that the output did not
+//!   end well, is told at most once. The exit status is that of the outcome, or of the file of the
+//!   faults if that cannot be written afterwards.
+//! - `explained`: the exit status for a refused command line follows from the kind of its fault.
+//!   For the help and the version it is 0 or 3.
 //!
-//! Nothing is claimed about what the system's files hold, what its outputs do (`SystemOutputs`: only tests show that a
-//! file of the report is no output by any path, and that a file gets its name once it is whole), that `converted` hands in
-//! these and makes one call, what the system says about the arguments, or the line that `--progress` shows.
+//! Not proved:
+//!
+//! - what the system's files contain, and what `SystemOutputs` does. Tests show that no file of the
+//!   report is written by any path, and that a file gets its name only once it is whole;
+//! - that `converted` passes these to one call, and what the system gives as arguments;
+//! - that the outcome is printed: memory may run out for its lines, and with `--explain` the lines
+//!   of refused tables are printed past the teller;
+//! - that the status is 3 exactly if the help or the version cannot be printed (tested);
+//! - the line of `--progress`.
 #![tactic(auto)]
 
 mod disk;
@@ -47,17 +53,17 @@ use std::io::{ErrorKind, IsTerminal};
 use std::process::ExitCode;
 use std::sync::Wait;
 use std::thread::Threads;
-use written::Written;
+use written::WrittenFiles;
 
-/// Converts as the words ask for, from the system's files to its outputs, and gives the exit status. If the words
-/// ask for it, standard error shows the progress of the run.
+/// Converts from the system's files to its outputs, with a progress if the command line asks for
+/// one. Returns the exit status.
 fn converted<T: Threads + Wait + Sync>(
     rt: &HostRuntime,
     threads: &T,
     alloc: Global,
     request: &Request,
 ) -> u8 {
-    let written = &Written::new(rt, request);
+    let written = &WrittenFiles::new(rt, request);
     let progress = if request.progress {
         Progress::start(rt, rt.stderr().is_terminal())
     } else {
@@ -79,7 +85,7 @@ fn converted<T: Threads + Wait + Sync>(
     convert_and_tell(rt, threads, alloc, request, disk, outputs, errors)
 }
 
-/// Runs as the words ask for, and gives the exit status.
+/// Checks what the arguments ask for and runs it. Returns the exit status.
 fn asked<T: Threads + Wait + Sync>(
     rt: &HostRuntime,
     threads: &T,
@@ -96,7 +102,7 @@ fn asked<T: Threads + Wait + Sync>(
     }
 }
 
-/// Runs with these words, which do not include the program's name, and gives the exit status.
+/// Runs with these arguments, without the program's name. Returns the exit status.
 fn started<T: Threads + Wait + Sync>(
     rt: &HostRuntime,
     threads: &T,
@@ -113,13 +119,13 @@ fn started<T: Threads + Wait + Sync>(
     }
 }
 
-/// Tells that memory ran out, and gives the exit status.
+/// Prints that memory ran out. Returns the exit status.
 fn no_memory(rt: &HostRuntime) -> u8 {
     let outcome = Outcome::Run(ConvertFault::Memory);
     tell(&mut StandardError { rt }, rt.alloc(), &outcome)
 }
 
-/// The arguments as words.
+/// Returns the arguments as slices.
 fn words_of(alloc: Global, args: &[String]) -> Result<Vec<&str>, AllocError> {
     let mut words = Vec::new(alloc);
     for arg in args {
@@ -128,7 +134,7 @@ fn words_of(alloc: Global, args: &[String]) -> Result<Vec<&str>, AllocError> {
     Ok(words)
 }
 
-/// Runs with these arguments, and gives the exit status.
+/// Runs with these arguments. Returns the exit status.
 fn with_args<T: Threads + Wait + Sync>(rt: &HostRuntime, threads: &T, args: &[String]) -> u8 {
     let alloc = rt.alloc();
     match words_of(alloc, args) {
@@ -137,7 +143,7 @@ fn with_args<T: Threads + Wait + Sync>(rt: &HostRuntime, threads: &T, args: &[St
     }
 }
 
-/// Runs with the arguments of the process, and gives the exit status.
+/// Runs with the arguments of the process. Returns the exit status.
 fn program<T: Threads + Wait + Sync>(rt: &HostRuntime, threads: &T) -> u8 {
     let args = match std::env::args(rt) {
         Ok(args) => args,

@@ -1,27 +1,34 @@
-//! A new file beside the document's, which takes its name once it holds the whole document.
+//! A new file next to the document's, which takes its name once it holds the whole document.
 
 use crate::paths::{reached, sync_folder};
 use crate::target::FileId;
 use std::alloc::{AllocError, Global};
-use std::fs::{File, Metadata};
+use std::fs::{File, Metadata, OpenOptions};
 use std::io::ErrorKind;
+use std::os::unix::fs::OpenOptionsExt;
 use std::{fs, io};
 
-/// How many names are tried for a new file.
+/// The number of names that are tried for a new file.
 const MOST_NAMES: u32 = 100;
 
-/// The new file, and the path that it is to have.
+/// The permissions of a file that only its owner reads and writes.
+const PRIVATE: u32 = 0o600;
+
+/// The permissions of a file that everyone reads and writes, before the system's mask applies.
+const PUBLIC: u32 = 0o666;
+
+/// The new file, and the path that it will get.
 #[derive(Drop)]
 pub struct NewFile {
     /// The file, open for writing.
     pub file: File,
     /// Its path.
     path: String,
-    /// The path of the document's file, which it is to have.
+    /// The path of the document's file, which it will get.
     target: String,
 }
 
-/// The path of a new file beside the document's, the `n`th that is tried.
+/// Returns the path of a new file next to the document's, the `n`th that is tried.
 fn path_beside(alloc: Global, target: &str, n: u32) -> Result<String, AllocError> {
     if n == 0 {
         format!(in alloc; "{target}.new")
@@ -30,8 +37,8 @@ fn path_beside(alloc: Global, target: &str, n: u32) -> Result<String, AllocError
     }
 }
 
-/// The metadata of the ordinary file at a path, which a new one can replace, or that nothing is there. `None` where anything
-/// else is.
+/// Returns the metadata of the regular file at a path, which a new one can replace. `Some(None)` if
+/// nothing is there, and `None` if something else is.
 pub fn replaced(rt: &HostRuntime, path: &str) -> Option<Option<Metadata>> {
     match fs::metadata(rt, path) {
         Ok(old) if old.is_file() => Some(Some(old)),
@@ -40,11 +47,17 @@ pub fn replaced(rt: &HostRuntime, path: &str) -> Option<Option<Metadata>> {
     }
 }
 
-/// Makes a file that is not there yet, with its path beside the document's.
-fn made(rt: &HostRuntime, alloc: Global, target: &str) -> Option<(File, String)> {
+/// Makes a file that does not exist yet with these permissions, less what the system's mask takes
+/// away, and returns it with its path.
+fn made(rt: &HostRuntime, alloc: Global, target: &str, mode: u32) -> Option<(File, String)> {
     for n in 0..MOST_NAMES {
         let path = path_beside(alloc, target, n).ok()?;
-        match fs::File::create_new(rt, path.as_str()) {
+        match OpenOptions::new()
+            .write(true)
+            .create_new(true)
+            .mode(mode)
+            .open(rt, path.as_str())
+        {
             Ok(file) => return Some((file, path)),
             Err(error) if error.kind() == ErrorKind::AlreadyExists => {}
             Err(_) => return None,
@@ -54,7 +67,8 @@ fn made(rt: &HostRuntime, alloc: Global, target: &str) -> Option<(File, String)>
 }
 
 impl NewFile {
-    /// Gives it the permissions of the file that it is to replace. If the system refuses that, it is removed.
+    /// Gives it the permissions of the file that it will replace. If the system refuses that,
+    /// removes it.
     fn like(self, rt: &HostRuntime, old: &Metadata) -> Option<NewFile> {
         if self.file.set_permissions(old.permissions()).is_ok() {
             return Some(self);
@@ -63,8 +77,10 @@ impl NewFile {
         None
     }
 
-    /// Makes a new file beside the one at a path, with the permissions of that if it is there. `None` if
-    /// the system refuses that, or memory runs out.
+    /// Makes a new file next to the one at a path, with the permissions of that one if it exists.
+    ///
+    /// At no moment can anyone read it who could not read the old one. Returns `None` if the system
+    /// refuses it, or memory runs out.
     pub fn make(
         rt: &HostRuntime,
         alloc: Global,
@@ -72,7 +88,8 @@ impl NewFile {
         old: &Option<Metadata>,
     ) -> Option<NewFile> {
         let target = reached(rt, alloc, path)?;
-        let (file, path) = made(rt, alloc, target.as_str())?;
+        let mode = if old.is_some() { PRIVATE } else { PUBLIC };
+        let (file, path) = made(rt, alloc, target.as_str(), mode)?;
         let new = NewFile { file, path, target };
         match old {
             Some(old) => new.like(rt, old),
@@ -80,7 +97,7 @@ impl NewFile {
         }
     }
 
-    /// Which file it is.
+    /// Returns its identity, if the system gives it.
     pub fn id(&self) -> Option<FileId> {
         match self.file.metadata() {
             Ok(metadata) => FileId::of(&metadata),
@@ -88,14 +105,14 @@ impl NewFile {
         }
     }
 
-    /// Gives it the document's name, once all of it is on the disk.
+    /// Writes it to the disk, then gives it the document's name.
     fn rename(&self, rt: &HostRuntime) -> io::Result<()> {
         self.file.sync_all()?;
         fs::rename(rt, self.path.as_str(), self.target.as_str())
     }
 
-    /// Gives it the document's name, once all of it is on the disk, and answers whether that could be
-    /// done; else it is removed.
+    /// Writes it to the disk, gives it the document's name, and returns whether that succeeded. If
+    /// not, removes it.
     pub fn take_name(self, rt: &HostRuntime) -> bool {
         let is_named = self.rename(rt).is_ok();
         if is_named {

@@ -1,40 +1,40 @@
-//! The system's outputs: standard output, and the file that the words name.
+//! The system's outputs: standard output, and the file of `--out`.
 
 use crate::new_file::{NewFile, replaced};
 use crate::over::Over;
 use crate::paths::reached;
 use crate::progress::Progress;
 use crate::target::FileId;
-use crate::written::Written;
-use oim_run::{Ending, Outcome, Outputs, Request};
+use crate::written::WrittenFiles;
+use oim_run::{Outcome, Outputs, Request, RunEnd};
 use std::fs::Metadata;
 use std::io::{Printer, Write};
 use std::{fs, io};
 
-/// What the document is written to.
+/// Where the document is written.
 #[derive(Drop)]
 enum To<'a> {
     /// Standard output.
     Standard(Printer<'a, HostRuntime>),
-    /// The file at the path, over what was in it.
+    /// The file at the path, which keeps its old content until the first write.
     Over(Over),
-    /// A new file, which is to have the path once it holds the whole document.
+    /// A new file, which gets the path once it holds the whole document.
     Beside(NewFile),
 }
 
-/// An output that is open. It takes nothing once the report was seen to read a file that the run writes, and its bytes are
-/// counted.
+/// An open output. Its bytes are counted. It refuses every write once the report was seen to read a
+/// file that the run writes.
 #[derive(Drop)]
 pub struct Output<'a> {
     to: To<'a>,
     /// The files that the run writes.
-    written: &'a Written<'a>,
-    /// Where its bytes are counted, if anywhere.
+    written: &'a WrittenFiles<'a>,
+    /// The progress that counts its bytes, if any.
     progress: Option<&'a Progress<'a>>,
 }
 
 impl<'a> Output<'a> {
-    /// Makes it ready for more bytes.
+    /// Prepares for more bytes.
     fn prepare(&mut self) -> io::Result<()> {
         self.written.allow()?;
         match &mut self.to {
@@ -68,14 +68,14 @@ impl<'a> Write for Output<'a> {
     }
 }
 
-/// Removes a file that was made here, since the report reads it: it is again not there.
+/// Removes a file that was made here, because the report reads it: it did not exist before.
 fn unmake(rt: &HostRuntime, path: &str) {
     if let Some(path) = reached(rt, rt.alloc(), path) {
         let _ = fs::remove_file(rt, path.as_str());
     }
 }
 
-/// Which file has this metadata, if there is one and it is an ordinary file.
+/// Returns the identity of the regular file with this metadata, if there is one.
 fn id_of(metadata: &Option<Metadata>) -> Option<FileId> {
     match metadata {
         Some(metadata) => FileId::of(metadata),
@@ -83,21 +83,23 @@ fn id_of(metadata: &Option<Metadata>) -> Option<FileId> {
     }
 }
 
-/// The outputs of a run over the system's files. No contract says what they do.
+/// The outputs of a run over the system's files.
+///
+/// Not proved: what they do.
 #[derive(Drop)]
 pub struct SystemOutputs<'a> {
     /// The system.
     pub rt: &'a HostRuntime,
-    /// What the words ask for.
+    /// What the command line asks for.
     pub request: &'a Request,
-    /// The files that the run writes, which the report's files are compared with.
-    pub written: &'a Written<'a>,
-    /// Counts the bytes that are written, if there is one.
+    /// The files that the run writes, to compare the report's files with.
+    pub written: &'a WrittenFiles<'a>,
+    /// The progress that counts the bytes written, if any.
     pub progress: Option<&'a Progress<'a>>,
 }
 
 impl<'a> SystemOutputs<'a> {
-    /// The writer to this.
+    /// Returns the writer to this.
     fn writer(&self, to: To<'a>) -> Output<'a> {
         Output {
             to,
@@ -119,8 +121,9 @@ impl<'a> SystemOutputs<'a> {
         meta || types
     }
 
-    /// Opens the file at a path, to be written over; it is made if it is not there. `None` if it cannot be
-    /// written, or is the metadata or the types table; then it is as it was.
+    /// Opens the file at a path for writing over it, and makes it if it does not exist. Returns
+    /// `None` if it cannot be written, or if it is the metadata or the types table. Then it is
+    /// unchanged.
     fn over(&self, path: &str) -> Option<To<'a>> {
         let over = Over::open(self.rt, path)?;
         self.written.are(over.id, None);
@@ -133,8 +136,8 @@ impl<'a> SystemOutputs<'a> {
         None
     }
 
-    /// Makes a new file beside the one at a path. `None` if there can be no such file, or the one at the path
-    /// is the metadata or the types table.
+    /// Makes a new file next to the one at a path. Returns `None` if no such file can be made, or
+    /// if the one at the path is the metadata or the types table.
     fn beside(&self, path: &str, old: &Option<Metadata>) -> Option<To<'a>> {
         let new = NewFile::make(self.rt, self.rt.alloc(), path, old)?;
         self.written.are(id_of(old), new.id());
@@ -145,8 +148,8 @@ impl<'a> SystemOutputs<'a> {
         None
     }
 
-    /// Opens the file at a path. With `--whole` it is replaced once the document is whole, if it is an
-    /// ordinary one or not there.
+    /// Opens the file at a path. With `--whole`, a regular file or one that does not exist is
+    /// replaced only once the document is whole.
     fn open(&self, path: &str) -> Option<To<'a>> {
         if !self.request.whole {
             return self.over(path);
@@ -157,11 +160,11 @@ impl<'a> SystemOutputs<'a> {
         }
     }
 
-    /// Removes the file that was written over, if it was made here and the report reads a file that the run
-    /// writes.
-    fn end_over(&self, is_new: bool) -> Ending {
+    /// Removes the file that was written over, if it was made here and the report reads a file that
+    /// the run writes.
+    fn end_over(&self, is_new: bool) -> RunEnd {
         let how = self.written.ending();
-        if is_new && !matches!(how, Ending::Kept) {
+        if is_new && !matches!(how, RunEnd::Kept) {
             if let Some(path) = &self.request.settings.out {
                 unmake(self.rt, path.as_str());
             }
@@ -169,17 +172,17 @@ impl<'a> SystemOutputs<'a> {
         how
     }
 
-    /// Gives the new file the document's name after a run that ended well, and else removes it.
-    fn end_beside(&self, new: NewFile, ran: &Outcome) -> Ending {
+    /// Gives the new file the document's name if the run ended well, otherwise removes it.
+    fn end_beside(&self, new: NewFile, ran: &Outcome) -> RunEnd {
         let how = self.written.ending();
-        if !matches!(how, Ending::Kept) || !matches!(ran, Outcome::Done) {
+        if !matches!(how, RunEnd::Kept) || !matches!(ran, Outcome::Done) {
             new.remove(self.rt);
             return how;
         }
         if new.take_name(self.rt) {
-            Ending::Kept
+            RunEnd::Kept
         } else {
-            Ending::NotKept
+            RunEnd::NotKept
         }
     }
 }
@@ -196,7 +199,7 @@ impl<'a> Outputs<Output<'a>> for SystemOutputs<'a> {
         }
     }
 
-    fn end(&mut self, writer: Output<'a>, ran: &Outcome) -> Ending {
+    fn end(&mut self, writer: Output<'a>, ran: &Outcome) -> RunEnd {
         if let Some(progress) = self.progress {
             progress.end();
         }

@@ -1,9 +1,9 @@
-//! Paths of the system's files, as the system has them.
+//! Paths of the system's files.
 
 use std::alloc::Global;
 use std::fs;
 
-/// The path without links of what is there, as the system says.
+/// Returns the path of an existing file with its links resolved.
 fn without_links(rt: &HostRuntime, path: &str) -> Option<String> {
     match fs::canonicalize(rt, path) {
         Ok(path) => Some(path.into_string()),
@@ -11,8 +11,8 @@ fn without_links(rt: &HostRuntime, path: &str) -> Option<String> {
     }
 }
 
-/// The path of the file that a write to this path reaches: that to which it leads, if it is a symbolic
-/// link. `None` if a link leads nowhere, or memory runs out.
+/// Returns the path of the file that a write to this path reaches, which differs for a symbolic
+/// link. Returns `None` if a link leads nowhere, or memory runs out.
 pub fn reached(rt: &HostRuntime, alloc: Global, path: &str) -> Option<String> {
     match fs::symlink_metadata(rt, path) {
         Ok(metadata) if metadata.is_symlink() => without_links(rt, path),
@@ -20,7 +20,7 @@ pub fn reached(rt: &HostRuntime, alloc: Global, path: &str) -> Option<String> {
     }
 }
 
-/// The path of the folder of a file, and the file's name there.
+/// Returns the path of a file's folder, and the file's name in it.
 pub fn parts_of(path: &str) -> (&str, &str) {
     match path.rsplit_once('/') {
         Some(("", name)) => ("/", name),
@@ -29,7 +29,8 @@ pub fn parts_of(path: &str) -> (&str, &str) {
     }
 }
 
-/// The path of a file without links, if its folder is there; the file itself need not be.
+/// Returns the path of a file with its links resolved, if its folder exists. The file need not
+/// exist.
 pub fn true_path(rt: &HostRuntime, alloc: Global, path: &str) -> Option<String> {
     if let Some(path) = without_links(rt, path) {
         return Some(path);
@@ -40,8 +41,8 @@ pub fn true_path(rt: &HostRuntime, alloc: Global, path: &str) -> Option<String> 
     format!(in alloc; "{folder}/{name}").ok()
 }
 
-/// Has the system put onto its disk which files the folder of this file has. Not every system can, so it
-/// is no fault if it fails.
+/// Makes the system write the entries of a file's folder to its disk. Ignores failures, because not
+/// every system can do it.
 pub fn sync_folder(rt: &HostRuntime, path: &str) {
     let (folder, _) = parts_of(path);
     if let Ok(folder) = fs::open(rt, folder) {

@@ -1,23 +1,27 @@
 //! The progress of a run, shown on standard error while it works.
 
-use std::sync::atomic::{AtomicU64, Ordering};
+use std::sync::atomic::{AtomicBool, AtomicU64, Ordering};
 use std::time::Instant;
 
-/// How often the line on a terminal is rewritten, in milliseconds.
+/// Milliseconds between updates of the line on a terminal.
 const ON_A_TERMINAL: u64 = 200;
 
-/// How often a new line is written where standard error is not a terminal, in milliseconds.
+/// Milliseconds between lines if standard error is not a terminal.
 const ELSEWHERE: u64 = 10_000;
 
-/// A count of bytes in megabytes (1,000,000 bytes), and the decimal place behind them.
+/// Returns a count of bytes in megabytes (1,000,000 bytes), and the first decimal place.
 fn megabytes(bytes: &AtomicU64) -> (u64, u64) {
     let bytes = bytes.load(Ordering::SeqCst);
     (bytes / 1_000_000, bytes / 100_000 % 10)
 }
 
-/// The progress of a run: its tables, and the bytes of their files and of the document. The threads of
-/// the run share it, and whichever of them counts something when a line is due writes the line. No
-/// contract says anything about the counts.
+/// The progress of a run: its tables, the bytes read from their files, and the bytes of the
+/// document.
+///
+/// The threads of the run share it. Any of them that counts something when a line is due writes the
+/// line.
+///
+/// Not proved: the counts.
 #[derive(Drop)]
 pub struct Progress<'a> {
     /// The system.
@@ -32,8 +36,10 @@ pub struct Progress<'a> {
     tables: AtomicU64,
     /// The number of tables that are done.
     done: AtomicU64,
-    /// The size of the tables' files in bytes, as the system tells it.
+    /// The size of the tables' files in bytes, as the system reports it.
     size: AtomicU64,
+    /// Whether a table's file has no size, as a pipe, so that the whole size is unknown.
+    is_endless: AtomicBool,
     /// The number of bytes read from them.
     read: AtomicU64,
     /// The number of bytes of the document that were written.
@@ -41,7 +47,7 @@ pub struct Progress<'a> {
 }
 
 impl<'a> Progress<'a> {
-    /// Starts with nothing done. `None` if the system has no clock.
+    /// Starts with nothing done. Returns `None` if the system has no clock.
     pub fn start(rt: &'a HostRuntime, terminal: bool) -> Option<Progress<'a>> {
         let Ok(start) = Instant::now(rt) else {
             return None;
@@ -54,19 +60,25 @@ impl<'a> Progress<'a> {
             tables: AtomicU64::new(0),
             done: AtomicU64::new(0),
             size: AtomicU64::new(0),
+            is_endless: AtomicBool::new(false),
             read: AtomicU64::new(0),
             written: AtomicU64::new(0),
         })
     }
 
-    /// Counts a table whose file has this size in bytes, or which has no file and is done at once.
-    pub fn table_found(&self, size: Option<u64>) {
+    /// Counts a table with the size of its file in bytes, if it has one. A table without a file is
+    /// done at once.
+    pub fn table_found(&self, is_missing: bool, size: Option<u64>) {
         self.tables.fetch_add(1, Ordering::SeqCst);
+        if is_missing {
+            self.table_done();
+            return;
+        }
         match size {
             Some(size) => {
                 self.size.fetch_add(size, Ordering::SeqCst);
             }
-            None => self.table_done(),
+            None => self.is_endless.store(true, Ordering::SeqCst),
         }
     }
 
@@ -87,7 +99,7 @@ impl<'a> Progress<'a> {
         self.show_if_due();
     }
 
-    /// Writes the line if it is due and no other thread writes it.
+    /// Writes the line if it is due and no other thread is writing it.
     fn show_if_due(&self) {
         let Ok(elapsed) = self.start.elapsed(self.rt) else {
             return;
@@ -115,7 +127,7 @@ impl<'a> Progress<'a> {
         }
     }
 
-    /// Writes the line. A line that cannot be written is left out.
+    /// Writes the line, or leaves it out if it cannot be written.
     fn show(&self, end: &str) {
         let begin = if self.terminal { "\r" } else { "" };
         let done = self.done.load(Ordering::SeqCst);
@@ -123,8 +135,14 @@ impl<'a> Progress<'a> {
         let (read, read_tenth) = megabytes(&self.read);
         let (size, size_tenth) = megabytes(&self.size);
         let (written, written_tenth) = megabytes(&self.written);
-        let _ = eprint!(self.rt;
-            "{begin}xbrl-json: {done} of {tables} tables, {read}.{read_tenth} of {size}.{size_tenth} MB read, {written}.{written_tenth} MB written{end}"
-        );
+        let _ = if self.is_endless.load(Ordering::SeqCst) {
+            eprint!(self.rt;
+                "{begin}xbrl-json: {done} of {tables} tables, {read}.{read_tenth} MB read, {written}.{written_tenth} MB written{end}"
+            )
+        } else {
+            eprint!(self.rt;
+                "{begin}xbrl-json: {done} of {tables} tables, {read}.{read_tenth} of {size}.{size_tenth} MB read, {written}.{written_tenth} MB written{end}"
+            )
+        };
     }
 }

@@ -1,4 +1,6 @@
-//! Why a file cannot be read or written, as far as the system tells that afterwards. No contract says anything about it.
+//! Reasons why a file cannot be read or written, as far as the system gives them afterwards.
+//!
+//! Not proved: all of this file.
 
 use crate::paths::parts_of;
 use oim_run::Settings;
@@ -6,7 +8,7 @@ use std::fs;
 use std::fs::OpenOptions;
 use std::io::ErrorKind;
 
-/// Why nothing can be seen at a path.
+/// Returns why nothing can be seen at a path.
 fn why_unseen(kind: ErrorKind) -> &'static str {
     match kind {
         ErrorKind::NotFound => "there is no such file",
@@ -16,7 +18,8 @@ fn why_unseen(kind: ErrorKind) -> &'static str {
     }
 }
 
-/// Why an ordinary file that could not be read is not opened. It can be opened where the run writes it.
+/// Returns why a regular file that could not be read cannot be opened. It can be opened if the run
+/// writes it.
 fn why_closed(rt: &HostRuntime, path: &str) -> &'static str {
     match fs::open(rt, path) {
         Ok(_) => "the run writes it, or it has changed meanwhile",
@@ -25,7 +28,8 @@ fn why_closed(rt: &HostRuntime, path: &str) -> &'static str {
     }
 }
 
-/// Why the file at a path could not be opened for reading. A pipe is not opened again, since that may wait for ever.
+/// Returns why the file at a path could not be opened for reading. A pipe is not opened again,
+/// because that could wait for ever.
 pub fn why_unread(rt: &HostRuntime, path: &str) -> &'static str {
     match fs::metadata(rt, path) {
         Ok(metadata) if metadata.is_file() => why_closed(rt, path),
@@ -34,7 +38,8 @@ pub fn why_unread(rt: &HostRuntime, path: &str) -> &'static str {
     }
 }
 
-/// Why an ordinary file that could not be written is not opened for that. It can be opened where the run reads it too.
+/// Returns why a regular file that could not be written cannot be opened for that. It can be opened
+/// if the run also reads it.
 fn why_kept(rt: &HostRuntime, path: &str) -> &'static str {
     match OpenOptions::new().write(true).open(rt, path) {
         Ok(_) => "the run reads it or writes it twice, or no file can be made beside it",
@@ -43,7 +48,7 @@ fn why_kept(rt: &HostRuntime, path: &str) -> &'static str {
     }
 }
 
-/// Why a file that is not there could not be made.
+/// Returns why a file that does not exist could not be made.
 fn why_unmade(rt: &HostRuntime, path: &str) -> &'static str {
     let (folder, _) = parts_of(path);
     match fs::metadata(rt, folder) {
@@ -56,7 +61,7 @@ fn why_unmade(rt: &HostRuntime, path: &str) -> &'static str {
     }
 }
 
-/// Why the file at a path could not be written.
+/// Returns why the file at a path could not be written.
 pub fn why_unwritten(rt: &HostRuntime, settings: &Settings, path: &str) -> &'static str {
     if settings.reads(path) {
         return "it is a file of the report, which is only read";

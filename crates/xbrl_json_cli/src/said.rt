@@ -1,4 +1,4 @@
-//! What the program prints when a run ends, and its exit status.
+//! The lines that the program prints when a run ends, and its exit status.
 
 ghost use Rattle.std.specs.Prelude.{◌≡◌, ◌⊎◌};
 ghost use Rattle.clap.specs.Values.{kind_of};
@@ -17,7 +17,7 @@ use std::thread::Threads;
 /// The system's file that holds nothing.
 const NOTHING: &str = "/dev/null";
 
-/// What is printed if standard output does not take the help or the version.
+/// The line to print if the help or the version cannot be written to standard output.
 const UNPRINTED: &str = "xbrl-json: output: Write (56)\n";
 
 /// Standard error.
@@ -37,15 +37,15 @@ impl<'a> Teller for StandardError<'a> {
     }
 }
 
-/// Prints what there is to say of an outcome below its line, if the words ask for it.
+/// Prints the explanation below the line of an outcome, if the command line asks for it.
 fn explain_if_asked(rt: &HostRuntime, alloc: Global, request: &Request, outcome: &Outcome) {
     if request.explain {
         explain_fault(rt, alloc, &request.settings, outcome);
     }
 }
 
-/// Tells the lines of an outcome, with the places of its faults if the words ask for them. The lines of tables with
-/// their places are printed one by one, and not as one text.
+/// Tells the lines of an outcome, with the places of its faults if the command line asks for them.
+/// With places, the lines of tables are printed one by one, past the teller.
 fn told_as_asked<L: Teller>(
     rt: &HostRuntime,
     alloc: Global,
@@ -68,8 +68,8 @@ fn told_as_asked<L: Teller>(
     explain_fault(rt, alloc, &request.settings, outcome);
 }
 
-/// Writes the file of the faults of a run that ended so, with this exit status. If that cannot be written, tells so, and
-/// gives the exit status of that.
+/// Writes the file of the faults of a run with this outcome, and returns the outcome's exit status.
+/// If the file cannot be written, tells so and returns the exit status of that.
 fn faults_told<L: Teller>(
     rt: &HostRuntime,
     alloc: Global,
@@ -87,17 +87,18 @@ fn faults_told<L: Teller>(
     status
 }
 
-/// Tells how a run ended that was not begun, and gives its exit status.
+/// Tells the outcome of a run that was not begun, and returns its exit status.
 pub fn told_before(rt: &HostRuntime, alloc: Global, request: &Request, outcome: &Outcome) -> u8 {
     let status = tell(&mut StandardError { rt }, alloc, outcome);
     explain_if_asked(rt, alloc, request, outcome);
     status
 }
 
-/// Converts as `convert_as` does, with the numbers of standard input, output and error taken: where the
-/// program was started without one of them, the first file that it opens would get that number, and what is
-/// printed would go into the document. A file that holds nothing and is open for reading takes it, so that
-/// printing fails.
+/// Converts as `convert_as` does, with the numbers of standard input, output and error occupied.
+///
+/// If the program was started without one of these, the first file that it opens would get that
+/// number, and what is printed would go into the document. So each free number is occupied by
+/// `/dev/null`, opened for reading, so that printing fails.
 fn convert_apart<
     R: Read + Drop + Send,
     F: Folder<R>,
@@ -120,8 +121,8 @@ fn convert_apart<
     convert_as(threads, alloc, request, folder, outputs)
 }
 
-/// Converts as the words ask for, tells how that ended, and writes the file of the faults. Gives the exit
-/// status: that of what was told last. `threads` starts the workers' threads.
+/// Converts as the command line asks, tells the outcome, and writes the file of the faults. Returns
+/// the exit status of what was told last. `threads` starts the workers.
 pub fn convert_and_tell<
     R: Read + Drop + Send,
     F: Folder<R>,
@@ -145,14 +146,14 @@ pub fn convert_and_tell<
     faults_told(rt, alloc, request, &outcome, to)
 }
 
-/// Puts a line without control characters behind others.
+/// Appends a line with its control characters escaped.
 fn put_line(alloc: Global, lines: &mut String, line: &str) -> Result<(), AllocError> {
     let line = shown(alloc, line)?;
     lines.push_str(line.as_str())?;
     lines.push('\n')
 }
 
-/// A text without control characters but the ends of its lines.
+/// Returns a text with its control characters escaped, except for line ends.
 fn lines_shown(alloc: Global, text: &str) -> Result<String, AllocError> {
     let mut lines = String::new(alloc);
     for line in text.lines() {
@@ -161,7 +162,7 @@ fn lines_shown(alloc: Global, text: &str) -> Result<String, AllocError> {
     Ok(lines)
 }
 
-/// Prints on a terminal what there is to say about words that are refused.
+/// Prints on a terminal why the command line was refused.
 fn explained_there(rt: &HostRuntime, alloc: Global, error: &clap::Error) {
     let text = match format!(in alloc; "{error}") {
         Ok(text) => lines_shown(alloc, text.as_str()),
@@ -173,7 +174,8 @@ fn explained_there(rt: &HostRuntime, alloc: Global, error: &clap::Error) {
     };
 }
 
-/// The exit status for words of this kind, as they were refused, or as they ask for help or the version.
+/// Returns the exit status for a command line of this kind: refused, or a request for the help or
+/// the version.
 fn status_of_words(error: &clap::Error) -> u8
     ensures { result ≡ words_status (kind_of error.now) }
 {
@@ -184,8 +186,8 @@ fn status_of_words(error: &clap::Error) -> u8
     }
 }
 
-/// Prints what there is to say about words that are refused, or that ask for help or the version, and
-/// gives the exit status: 3 if the help or the version cannot be printed.
+/// Prints why the command line was refused, or the help or the version if it asks for them. Returns
+/// the exit status, which is 3 if the help or the version cannot be printed.
 pub fn explained(rt: &HostRuntime, alloc: Global, error: &clap::Error) -> u8
     ensures { (result ≡ words_status (kind_of error.now)) ⊎ (result ≡ unprinted_status (kind_of error.now)) }
 {

@@ -1,11 +1,11 @@
-//! Which file a path leads to.
+//! The file that a path leads to.
 
 use crate::paths::true_path;
 use std::fs::Metadata;
 use std::os::unix::fs::MetadataExt;
 use std::{fs, io};
 
-/// A file, whatever its path: its device and its number there.
+/// The identity of a file, whatever its path: its device and its number there.
 #[derive(Clone, Copy)]
 pub struct FileId {
     device: u64,
@@ -13,8 +13,8 @@ pub struct FileId {
 }
 
 impl FileId {
-    /// The file that has this metadata, if it is an ordinary one: only such a file loses by a write what
-    /// was in it.
+    /// Returns the identity of the regular file with this metadata. `None` for other files, because
+    /// a write removes nothing from them.
     pub fn of(metadata: &Metadata) -> Option<FileId> {
         if metadata.is_file() {
             Some(FileId {
@@ -35,16 +35,16 @@ impl FileId {
 /// What a path leads to.
 #[derive(Drop)]
 pub enum Target {
-    /// An ordinary file.
+    /// A regular file.
     File(FileId),
-    /// A file that is not there, which would have this path without links.
+    /// A file that does not exist, by its path with links resolved.
     Missing(String),
-    /// Anything else, or it is not known.
+    /// Something else, or unknown.
     Other,
 }
 
 impl Target {
-    /// What a path leads to where there is nothing.
+    /// Returns what a path leads to if nothing is there.
     fn missing(rt: &HostRuntime, path: &str) -> Target {
         match true_path(rt, rt.alloc(), path) {
             Some(path) => Target::Missing(path),
@@ -52,7 +52,7 @@ impl Target {
         }
     }
 
-    /// What a path leads to.
+    /// Returns what a path leads to.
     pub fn of(rt: &HostRuntime, path: &str) -> Target {
         match fs::metadata(rt, path) {
             Ok(metadata) => match FileId::of(&metadata) {
@@ -63,7 +63,8 @@ impl Target {
         }
     }
 
-    /// Whether a path, which has this metadata, leads to the same ordinary file, or to the same one that is not there.
+    /// Whether a path with this metadata leads to the same regular file, or to the same one that
+    /// does not exist.
     pub fn is(&self, rt: &HostRuntime, path: &str, metadata: &io::Result<Metadata>) -> bool {
         match (self, metadata) {
             (Target::File(file), Ok(metadata)) => file.has(metadata),
@@ -75,7 +76,7 @@ impl Target {
         }
     }
 
-    /// The same for a path whose metadata is looked for.
+    /// Whether a path leads to the same file. Looks up its metadata.
     pub fn is_at(&self, rt: &HostRuntime, path: &str) -> bool {
         self.is(rt, path, &fs::metadata(rt, path))
     }

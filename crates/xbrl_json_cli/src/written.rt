@@ -2,7 +2,7 @@
 
 use crate::target::{FileId, Target};
 use oim_names::Text;
-use oim_run::{Ending, Request};
+use oim_run::{Request, RunEnd};
 use std::cell::Cell;
 use std::fs::Metadata;
 use std::io;
@@ -11,16 +11,17 @@ use std::sync::atomic::{AtomicBool, Ordering};
 
 /// The files that a run writes, and which of them the report was seen to read.
 #[derive(Drop)]
-pub struct Written<'a> {
+pub struct WrittenFiles<'a> {
     /// The system.
     rt: &'a HostRuntime,
-    /// The document's file, if it is there when the run begins, and an ordinary one.
+    /// The document's file, if it is a regular file when the run begins.
     document: Cell<Option<FileId>>,
-    /// The new file beside it, if the document is written there first.
+    /// The new file next to it, if the document is first written there.
     beside: Cell<Option<FileId>>,
-    /// What the path of the document's file leads to when the run begins, if the words name one.
+    /// What the path of the document's file leads to when the run begins, if the command line names
+    /// one.
     place: Target,
-    /// The file of the faults, if the words name one.
+    /// The file of the faults, if the command line names one.
     faults: Target,
     /// Whether the report reads one of the document's files.
     is_read: AtomicBool,
@@ -28,7 +29,7 @@ pub struct Written<'a> {
     faults_are_read: AtomicBool,
 }
 
-/// Whether this metadata is that of a file, if there is one.
+/// Whether this metadata is that of the file, if there is one.
 fn is_of(file: Option<FileId>, metadata: &Metadata) -> bool {
     match file {
         Some(file) => file.has(metadata),
@@ -36,7 +37,7 @@ fn is_of(file: Option<FileId>, metadata: &Metadata) -> bool {
     }
 }
 
-/// What a path leads to, if the words name one.
+/// Returns what a path leads to, if there is one.
 fn target_of(rt: &HostRuntime, path: &Option<Text>) -> Target {
     match path {
         Some(path) => Target::of(rt, path.as_str()),
@@ -44,12 +45,13 @@ fn target_of(rt: &HostRuntime, path: &Option<Text>) -> Target {
     }
 }
 
-impl<'a> Written<'a> {
-    /// The file of the faults that the words name, and no file of the document, as long as none is open.
-    pub fn new(rt: &'a HostRuntime, request: &Request) -> Written<'a> {
+impl<'a> WrittenFiles<'a> {
+    /// Starts with the file of the faults, and without files of the document, because none is open
+    /// yet.
+    pub fn new(rt: &'a HostRuntime, request: &Request) -> WrittenFiles<'a> {
         let place = target_of(rt, &request.settings.out);
         let faults = target_of(rt, &request.faults);
-        Written {
+        WrittenFiles {
             rt,
             document: Cell::new(None),
             beside: Cell::new(None),
@@ -60,13 +62,14 @@ impl<'a> Written<'a> {
         }
     }
 
-    /// Takes note of the document's file, and of the new one beside it, if there are such files.
+    /// Records the document's file and the new one next to it, if they exist.
     pub fn are(&self, document: Option<FileId>, beside: Option<FileId>) {
         self.document.set(document);
         self.beside.set(beside);
     }
 
-    /// Looks at a file that the report reads, by its metadata, and gives whether it is one of the document's.
+    /// Checks a file that the report reads, by its metadata, and returns whether it is one of the
+    /// document's.
     pub fn look_at(&self, metadata: &io::Result<Metadata>) -> bool {
         let Ok(metadata) = metadata else {
             return false;
@@ -78,7 +81,8 @@ impl<'a> Written<'a> {
         is_one
     }
 
-    /// The same by its path too, and gives whether it is one of the document's or that of the faults.
+    /// Checks a file by its path as well, and returns whether it is one of the document's or that
+    /// of the faults.
     pub fn look_at_path(&self, path: &str, metadata: &io::Result<Metadata>) -> bool {
         let are_faults = self.faults.is(self.rt, path, metadata);
         if are_faults {
@@ -91,21 +95,22 @@ impl<'a> Written<'a> {
         self.look_at(metadata) || are_faults || is_place
     }
 
-    /// How an output ends, by the files that the report was seen to read.
-    pub fn ending(&self) -> Ending {
+    /// Returns how an output ends, from the files that the report was seen to read.
+    pub fn ending(&self) -> RunEnd {
         if self.is_read.load(Ordering::SeqCst) {
-            Ending::IsRead
+            RunEnd::IsRead
         } else if self.faults_are_read.load(Ordering::SeqCst) {
-            Ending::FaultsAreRead
+            RunEnd::FaultsAreRead
         } else {
-            Ending::Kept
+            RunEnd::Kept
         }
     }
 
-    /// Fails if the report was seen to read one of the files: then no more of the document is written.
+    /// Fails if the report was seen to read one of the files. Then no more of the document is
+    /// written.
     pub fn allow(&self) -> io::Result<()> {
         match self.ending() {
-            Ending::Kept => Ok(()),
+            RunEnd::Kept => Ok(()),
             _ => Err(io::Error::from(ErrorKind::PermissionDenied)),
         }
     }

@@ -3,7 +3,7 @@ use Rattle.std.specs.Prelude.{⊤, Result, Ok, Err}
 use Rattle.oim_convert.specs.declared.fault.ConvertFault.{ConvertFault}
 use Rattle.oim_convert.specs.declared.fault.ConvertFault.TheVariants as fault
 
--- the answer is one of a conversion that has begun to write
+-- The answer is that of a conversion that has begun to write.
 abbrev pub HasBegun : Result (Unit {0}) ConvertFault → Type 0
 HasBegun (Ok u) = ⊤
 HasBegun (Err (fault.Tables faults)) = ⊤

@@ -1,4 +1,4 @@
--- What each part of a conversion on one thread gives to the writer.
+-- The items that each part of a conversion on one thread gives to the writer.
 use Rattle.std.specs.Prelude.{◌≡◌, ℕ, true, List, ◌++◌, Option, Some, Result, Ok, Err, IfSome}
 use mathlib.Core.List.{IsPrefix}
 use Rattle.oim_json.specs.declared.mark.WriteFault.{WriteFault}
@@ -14,34 +14,35 @@ use Rattle.oim_rows.specs.Streams.{Stream, facts_of, table_stream}
 use Rattle.oim_convert.specs.Histories.{IsGiven, facts_in}
 use Rattle.oim_convert.specs.ReadAlone.{AreRead}
 
--- the facts that a table with this stream gave, and its ending; or a write failed after the first of its facts
+-- The facts of a table with this stream, and its ending; or a write failed after a prefix of its
+-- facts.
 abbrev pub Gave : ℕ → Stream → List Fact → Result Endings.Ending WriteFault → Type 0
 Gave table s facts (Ok ending) = IsGiven table s facts ending
 Gave table s facts (Err w) = IsPrefix facts (facts_of s)
 
--- the same of a table whose file has these bytes, where they are known
+-- The same for a table's file, if contracts see its bytes.
 abbrev pub GaveFile : Option (List ℕ) → ReportValue → ℕ → ℕ → List Fact → Result Endings.Ending WriteFault → Type 0
 GaveFile known report table limit facts answer = IfSome known (λ bytes. Gave table (table_stream report table limit (Some bytes)) facts answer)
 
--- the same of a table with this reader, or with none
+-- The same for a table with this reader, or without one.
 abbrev pub GaveTable : {R : Type 0} → (R → Option (List ℕ)) → ReportValue → ℕ → ℕ → Option R → List Fact → Result Endings.Ending WriteFault → Type 0
 GaveTable told report table limit reader facts answer =
     (file : Option (List ℕ)) → IsFileOf told reader file → Gave table (table_stream report table limit file) facts answer
 
--- the writer was given blocks, and of their facts this holds
+-- The writer was given blocks, and `Holds` is true of their facts.
 pub record TookBlocks (old new : WriterView) (Holds : List Fact → Type 0) : Type 0 where
   pub blocks : List Item
   pub only : blocks_only blocks ≡ true
   pub is : new ≡ given old blocks new.sink
   pub facts : Holds (facts_in blocks)
 
--- the items are those of the histories of these readers' tables
+-- The items are those of the histories of these readers' tables.
 pub record AreItemsOf {R : Type 0} (told : R → Option (List ℕ)) (report : ReportValue) (limit : ℕ) (readers : List (Option R)) (items : List Item) : Type 0 where
   pub histories : List (List Item)
   pub read : AreRead told report limit 0 readers histories
   pub are : items ≡ all_of histories
 
--- the items that the tables of these readers gave; or, where a write failed, the first of such items
+-- The items of these readers' tables; if a write failed, a prefix of such items.
 abbrev pub ReadsTables : {R : Type 0} → (R → Option (List ℕ)) → ReportValue → ℕ → List (Option R) → List Item → Result (Unit {0}) WriteFault → Type 0
 ReadsTables told report limit readers items (Ok u) = AreItemsOf told report limit readers items
 ReadsTables told report limit readers items (Err w) = (more : List Item) × AreItemsOf told report limit readers (items ++ more)

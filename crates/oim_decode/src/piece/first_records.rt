@@ -1,4 +1,6 @@
-//! The records that a table's file begins with, its header first.
+//! The first records of a table's file, which begin with its header.
+//!
+//! Not proved: when `open_pieces` fails.
 
 ghost use Rattle.std.specs.Prelude.{◌≡◌, ◌⊎◌, ◌-◌, ◌<◌, ◌≤◌, [], IfErr, IfNone, IfOk, IfSome, None, Some, length};
 ghost use Rattle.oim_records.specs.Grids.{grid};
@@ -19,12 +21,14 @@ use std::marker::Model;
 /// A byte-order mark, which a reader of records skips.
 const MARK: [u8; 3] = [0xEF, 0xBB, 0xBF];
 
-/// The first piece of a table's file that has a record: the table's header, and the rows behind it. A contract sees its records.
+/// The first piece of a table's file that has a record: the header and the rows after it.
+///
+/// Contracts see its records.
 #[derive(Drop)]
 pub struct FirstRecords {
-    // a mark, and then the piece
+    // A byte-order mark, and then the piece.
     marked: Vec<u8>,
-    // how many records the piece has
+    // How many records the piece has.
     records: u64,
 }
 
@@ -41,7 +45,8 @@ impl Model for FirstRecords {
     ghost invariant = { λ a. (a.marked.items ≡ mark ++ drop 3 a.marked.items) × (a.records ≡ length (records_left state.StartRecord (drop 3 a.marked.items))) };
 }
 
-/// The first piece that has a record, or `None` where no record is left. Pieces without a record are passed over.
+/// Returns the first piece that has a record, or `None` if no record is left. Skips the pieces
+/// without a record.
 fn first_piece<R: Read + Drop>(pieces: &mut PieceReader<R>) -> Result<Option<FilePiece>, ReadFault>
     ensures piece { IfOk result (λ o. IfSome o (λ piece. KeepsLeft (left_behind [] pieces.old) (left_behind (records_in piece.bytes.items) pieces.new))) }
     ensures records { IfOk result (λ o. IfSome o (λ piece. piece.records ≡ length (records_in piece.bytes.items))) }
@@ -61,10 +66,12 @@ fn first_piece<R: Read + Drop>(pieces: &mut PieceReader<R>) -> Result<Option<Fil
     Err(ReadFault::Memory)
 }
 
-/// Reads the beginning of a table's file, past one byte-order mark, or gives `None` where the file has no record. What is left of the file is
-/// in the pieces behind the head. When it fails, no clause says:
+/// Reads the head of a table's file, after an optional byte-order mark, or returns `None` if the
+/// file has no record.
 ///
-/// - `Read`: the reader failed before the header's end;
+/// The reader that is returned has the pieces after the head. Fails with:
+///
+/// - `Read`: the reader failed before the end of the header;
 /// - `Memory`: memory ran out.
 pub fn open_pieces<R: Read + Drop>(
     alloc: Global,
@@ -86,7 +93,7 @@ pub fn open_pieces<R: Read + Drop>(
 }
 
 impl FirstRecords {
-    /// The head with the bytes of a piece. Fails where memory is short.
+    /// Copies the bytes of a piece to a head.
     fn of(alloc: Global, piece: &FilePiece) -> Result<FirstRecords, AllocError>
         requires { piece.now.records ≡ length (records_in piece.now.bytes.items) }
         ensures { IfOk result (λ head. head ≡ records_in piece.now.bytes.items) }
@@ -100,21 +107,21 @@ impl FirstRecords {
         })
     }
 
-    /// The bytes of the piece.
+    /// Returns the bytes of the piece.
     fn bytes(&self) -> &[u8]
         ensures { records_in result.now ≡ self.now }
     {
         &self.marked[3..]
     }
 
-    /// How many rows there are behind the header.
+    /// Returns how many rows are after the header.
     pub fn rows(&self) -> u64
         ensures { result ≡ length self.now - 1 }
     {
         self.records.saturating_sub(1)
     }
 
-    /// The piece itself. Fails where memory is short.
+    /// Returns a copy of the piece.
     pub(crate) fn piece(&self, alloc: Global) -> Result<Vec<u8>, AllocError>
         ensures { IfOk result (λ piece. records_in piece.items ≡ self.now) }
     {
@@ -123,10 +130,10 @@ impl FirstRecords {
         Ok(piece)
     }
 
-    /// The header of the table at this place of a report. The rows are at most `limit`.
+    /// Reads the header of the table at place `table` of the report, with at most `limit` rows.
     ///
-    /// Fails with the header's first fault, in this order: NoHeader, UnknownHeader, RepeatedHeader, NoRowIdColumn; and with
-    /// Memory where memory is short; its clause allows Read as well.
+    /// Fails with the header's first fault, in this order: NoHeader, UnknownHeader, RepeatedHeader,
+    /// NoRowIdColumn. Fails with Memory if memory runs out. The contract also allows Read.
     pub fn header<'a>(
         &self,
         alloc: Global,
@@ -146,7 +153,8 @@ impl FirstRecords {
         TableHeader::read(alloc, report, table, limit, &mut records)
     }
 
-    /// What decodes pieces of the table at this place of a report, whose rows are at most `limit`. Fails as `header` does.
+    /// Makes a decoder for pieces of the table at place `table` of the report, with at most `limit`
+    /// rows. Fails as `header` does.
     pub fn decoder<'a>(
         &self,
         alloc: Global,

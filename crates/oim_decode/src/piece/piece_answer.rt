@@ -1,4 +1,4 @@
-//! What a piece gives by itself.
+//! What a piece gives without the other pieces.
 
 ghost use Rattle.std.specs.Prelude.{◌≡◌, ◌++◌, ◌<◌, IfOk, IfSome, None, Some, option_to_list, vec_capacity, vec_len};
 ghost use Rattle.std.specs.Option.{is_none};
@@ -8,7 +8,7 @@ ghost use Rattle.oim_decode.specs.PieceAnswers.{refused as no_memory};
 ghost use Rattle.oim_decode.specs.state.PieceAnswers.{AddsApart, cells_apart, no_rows};
 
 use crate::piece::piece_rows::PieceRows;
-use crate::piece::rooms::Rooms;
+use crate::piece::spare_vectors::SpareVectors;
 use crate::table::row_texts::RowTexts;
 use oim_fast::TableRow;
 use oim_records::Fields;
@@ -16,9 +16,12 @@ use oim_rows::{RowId, TableFault, TableKind, whole_fault};
 use std::alloc::{AllocError, Global};
 use std::marker::Model;
 
-/// What a piece of a table gives by itself: the texts of the facts of its rows before the first bad one, the identifiers of these rows,
-/// where the table has a column for them, and the first fault. The identifier of the bad row is the last where only its cells have a
-/// fault. A contract sees the facts of each row, the identifiers and the fault.
+/// The decoded rows of a piece: the texts of the facts of each row before the first bad one, the
+/// identifiers of these rows if the table has a column for them, and the first fault.
+///
+/// If only the cells of the bad row have a fault, its identifier is the last.
+///
+/// Contracts see the facts of each row, the identifiers and the fault.
 #[derive(Drop)]
 pub struct PieceAnswer {
     pub(crate) rows: PieceRows,
@@ -34,7 +37,8 @@ impl Model for PieceAnswer {
     ghost view = { λ a. record { rows = a.rows; ids = a.ids.items; fault = a.fault } };
 }
 
-/// The identifier of a row, where its table has a column for it, and room for it behind others. Fails where memory is short.
+/// Returns the identifier of a row, if its table has a column for it, and reserves room for it in
+/// `ids`.
 #[inline]
 fn id_of(
     alloc: Global,
@@ -54,7 +58,7 @@ fn id_of(
     }
 }
 
-/// Adds an identifier to others, where there is room for it.
+/// Adds an identifier, for which there is room.
 #[inline]
 fn keep_id(ids: &mut Vec<RowId>, id: Option<RowId>)
     requires { IfSome id (λ _. vec_len ids.old < vec_capacity ids.old) }
@@ -66,18 +70,19 @@ fn keep_id(ids: &mut Vec<RowId>, id: Option<RowId>)
 }
 
 impl PieceAnswer {
-    /// No row, and no fault. The texts of the first rows are put to `room`. It takes no memory.
-    pub(crate) fn within(alloc: Global, room: Vec<u8>) -> PieceAnswer
+    /// Makes an answer without a row or a fault, whose first texts go to the spare vector `spare`,
+    /// without taking memory.
+    pub(crate) fn within(alloc: Global, spare: Vec<u8>) -> PieceAnswer
         ensures { result ≡ no_rows }
     {
         PieceAnswer {
-            rows: PieceRows::within(alloc, room),
+            rows: PieceRows::within(alloc, spare),
             ids: Vec::new(alloc),
             fault: None,
         }
     }
 
-    /// No row of the table at this place, since memory was refused. It takes no memory.
+    /// Makes an answer of Memory without a row, for the table at this place, without taking memory.
     pub fn refused(alloc: Global, table: usize) -> PieceAnswer
         ensures { result ≡ no_memory table }
     {
@@ -86,22 +91,24 @@ impl PieceAnswer {
         answer
     }
 
-    /// Ends with a fault.
+    /// Ends the answer with a fault.
     pub(crate) fn end(&mut self, fault: TableFault)
         ensures { self.new ≡ record self.old { fault = Some fault } }
     {
         self.fault = Some(fault);
     }
 
-    /// Adds a row that has no fault apart from its cells, or ends with the fault of the first of its cells that has one, or with Memory where
-    /// memory is short. Says whether the row was added. `rooms` has memory for its texts.
+    /// Adds a row that has no fault apart from its cells, and returns whether it did.
+    ///
+    /// Otherwise ends the answer with the fault of the row's first faulty cell, or with Memory if
+    /// memory runs out. `spares` has spare vectors for the texts.
     pub(crate) fn push_row<'a>(
         &mut self,
         alloc: Global,
         texts: &mut RowTexts<'a>,
         row: &TableRow<'a, '_>,
         fields: &Fields<'_>,
-        rooms: &mut Rooms,
+        spares: &mut SpareVectors,
     ) -> bool
         requires header { row.now.header ≡ texts.old }
         requires fields { fields.now ≡ row.now.fields }
@@ -115,7 +122,7 @@ impl PieceAnswer {
             self.end(whole_fault(row.table(), TableKind::Memory));
             return false;
         };
-        match self.rows.push_row(alloc, texts, row, fields, rooms) {
+        match self.rows.push_row(alloc, texts, row, fields, spares) {
             Ok(()) => {
                 keep_id(&mut self.ids, id);
                 true

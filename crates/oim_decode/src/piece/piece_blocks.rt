@@ -11,7 +11,7 @@ use crate::table::table_blocks::MOST;
 use oim_json::Block;
 use std::alloc::{AllocError, Global};
 
-/// Adds blocks of some facts to others. Fails where memory is short.
+/// Appends some facts to `blocks` as blocks.
 #[tactic(auto, using(crate::proofs::BlockLists::block_more, crate::proofs::BlockLists::block_taken))]
 fn push_blocks(
     alloc: Global,
@@ -33,7 +33,7 @@ fn push_blocks(
     Ok(())
 }
 
-/// Adds the facts of stretches of rows to blocks, stretch by stretch. Fails where memory is short.
+/// Appends the facts of stretches of rows to `blocks`, stretch by stretch.
 #[tactic(auto, using(crate::proofs::BlockLists::stretch_more, crate::proofs::BlockLists::no_stretch))]
 fn push_stretches(
     alloc: Global,
@@ -48,8 +48,8 @@ fn push_stretches(
     Ok(())
 }
 
-/// The facts of rows in blocks, row by row. Each stretch that has facts is a block, or more where they are more than a block may have. Fails where
-/// memory is short.
+/// Returns the facts of rows in blocks, row by row. Each stretch that has facts is one block, or
+/// more if a block cannot have them all.
 #[tactic(auto, using(crate::proofs::BlockLists::all_stretches))]
 pub(crate) fn blocks_of(alloc: Global, rows: PieceRows) -> Result<Vec<Block>, AllocError>
     ensures { IfOk result (λ blocks. facts_of_rows blocks.items ≡ facts_of_rows rows) }

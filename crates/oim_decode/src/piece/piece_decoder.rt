@@ -9,7 +9,7 @@ ghost use Rattle.oim_rows.specs.RowFacts.{row_fault};
 
 use crate::piece::first_records::FirstRecords;
 use crate::piece::piece_answer::PieceAnswer;
-use crate::piece::rooms::Rooms;
+use crate::piece::spare_vectors::SpareVectors;
 use crate::table::row_texts::RowTexts;
 use oim_fast::TableRow;
 use oim_records::{Fields, PieceRecords, TextFields};
@@ -17,20 +17,22 @@ use oim_rows::{RowIds, TableFault, TableHeader, TableKind, whole_fault};
 use std::alloc::{AllocError, Global};
 use std::marker::Model;
 
-/// What decodes the pieces of one table, each by itself: from its bytes and the number of its first row alone. A contract sees the
-/// table's header, and the records that are left of the piece at hand.
+/// A decoder for the pieces of one table. It needs only a piece's bytes and the number of its first
+/// row.
+///
+/// Contracts see the table's header, and the records that are left of the current piece.
 pub struct PieceDecoder<'a> {
     alloc: Global,
     header: TableHeader<'a>,
     texts: RowTexts<'a>,
     records: PieceRecords,
-    // memory for texts
-    rooms: Rooms,
-    // the identifiers of other rows: none is known
+    // Spare vectors for texts.
+    spares: SpareVectors,
+    // The identifiers of other rows: always empty.
     ids: RowIds,
 }
 
-// By hand, so that who lets one go elsewhere makes one call.
+// Written by hand so that dropping one elsewhere compiles to a single call.
 impl Drop for PieceDecoder<'_> {
     fn drop(self) {
         let Self {
@@ -38,7 +40,7 @@ impl Drop for PieceDecoder<'_> {
             header: _,
             texts: _,
             records: _,
-            rooms: _,
+            spares: _,
             ids: _,
         } = self;
     }
@@ -55,7 +57,8 @@ impl<'a> Model for PieceDecoder<'a> {
     ghost invariant = { λ a. (a.texts ≡ a.header) × (a.ids ≡ []) × (a.header.limit < 2 ^ 32 - 1) };
 }
 
-/// The first fault of row `number` apart from those of its cells, where `texts` is the row as text if it is that. Then no field is tested again.
+/// Returns the first fault of row `number` apart from those of its cells. `texts` is the row as
+/// text if all its fields are text; they are then not tested again.
 fn fault_of(
     header: &TableHeader<'_>,
     number: u32,
@@ -73,7 +76,7 @@ fn fault_of(
 }
 
 impl<'a> PieceDecoder<'a> {
-    /// What decodes pieces of the table with this header, whose rows are at most 4,294,967,294. Fails where memory is short.
+    /// Makes a decoder for the table with this header.
     pub fn new(alloc: Global, header: TableHeader<'a>) -> Result<PieceDecoder<'a>, AllocError>
         requires { header.limit ≤ 4294967294 }
         ensures { IfOk result (λ decoder. decoder ≡ record { header = header.entry; left = [] }) }
@@ -84,14 +87,14 @@ impl<'a> PieceDecoder<'a> {
             header,
             texts,
             records: PieceRecords::new(alloc, Vec::new(alloc)),
-            rooms: Rooms::new(alloc),
+            spares: SpareVectors::new(alloc),
             ids: RowIds::new(alloc),
         })
     }
 }
 
 impl<'a> PieceDecoder<'a> {
-    /// The header of its table.
+    /// Returns the header of its table.
     pub fn header(&self) -> &TableHeader<'a>
         ensures { result.now ≡ self.now.header }
     {
@@ -100,9 +103,11 @@ impl<'a> PieceDecoder<'a> {
 }
 
 impl PieceDecoder<'_> {
-    /// Decodes a piece, whose first row has this number, at most one past the limit of rows. Its text begins where a record may begin, and its
-    /// end ends a record. The answer has the piece's first fault: Ragged, NotUtf8, TooManyRows, MissingRowId, BadRowId or one of a cell; or
-    /// Memory where memory is short.
+    /// Decodes a piece whose first row has number `first`. The piece must begin where a record may
+    /// begin, and end at a record's end.
+    ///
+    /// The answer has the piece's first fault: Ragged, NotUtf8, TooManyRows, MissingRowId, BadRowId
+    /// or one of a cell; or Memory if memory runs out.
     pub fn decode(&mut self, piece: Vec<u8>, first: u32) -> PieceAnswer
         requires { first ≤ self.old.header.limit + 1 }
         ensures answer { IsPieceDecoded self.old.header first (records_left state.StartRecord piece.items) result }
@@ -113,29 +118,30 @@ impl PieceDecoder<'_> {
         self.decode_left(first)
     }
 
-    /// Gives back the vector of the last piece, with whatever bytes, so that a later piece can be read to it. No record is left then.
-    pub fn take_room(&mut self) -> Vec<u8>
+    /// Returns the vector of the last piece, with any bytes, for reading a later piece into it. No
+    /// record is left then.
+    pub fn take_spare(&mut self) -> Vec<u8>
         ensures header { self.new.header ≡ self.old.header }
         ensures left { self.new.left ≡ [] }
     {
-        self.records.take_room(self.alloc)
+        self.records.take_spare(self.alloc)
     }
 
-    /// Keeps the memory of a vector for texts that are decoded later.
-    pub fn keep_room(&mut self, room: Vec<u8>)
+    /// Keeps a spare vector for texts that are decoded later.
+    pub fn keep_spare(&mut self, spare: Vec<u8>)
         ensures { self.new ≡ self.old }
     {
-        self.rooms.keep(room);
+        self.spares.keep(spare);
     }
 
-    /// Gives back a vector whose memory was kept for texts and not used, if there is one.
-    pub fn free_room(&mut self) -> Option<Vec<u8>>
+    /// Returns a spare vector that was not used, if one is left.
+    pub fn free_spare(&mut self) -> Option<Vec<u8>>
         ensures { self.new ≡ self.old }
     {
-        self.rooms.free()
+        self.spares.free()
     }
 
-    /// Decodes the rows behind the header in the head of the table. The answer is as that of `decode`.
+    /// Decodes the rows after the header in a table's head. The answer is like that of `decode`.
     pub fn decode_head(&mut self, head: &FirstRecords) -> PieceAnswer
         ensures answer { IsPieceDecoded self.old.header 1 (drop 1 head.now) result }
         ensures numbers { 1 + length result.ids ≤ 4294967296 }
@@ -151,15 +157,15 @@ impl PieceDecoder<'_> {
         }
     }
 
-    /// No row yet, in memory that was kept for texts.
+    /// Makes an answer without a row, with a spare vector for its texts.
     fn begin(&mut self) -> PieceAnswer
         ensures answer { result ≡ no_rows }
         ensures same { self.new ≡ self.old }
     {
-        PieceAnswer::within(self.alloc, self.rooms.take(self.alloc))
+        PieceAnswer::within(self.alloc, self.spares.take(self.alloc))
     }
 
-    /// Decodes the records that are left of the piece at hand.
+    /// Decodes the records that are left of the current piece.
     fn decode_left(&mut self, first: u32) -> PieceAnswer
         requires { first ≤ self.old.header.limit + 1 }
         ensures answer { IsPieceDecoded self.old.header first self.old.left result }
@@ -179,7 +185,8 @@ impl PieceDecoder<'_> {
         answer
     }
 
-    /// Adds row `number`, the next record, to the rows of an answer, or ends it. Says whether it was added.
+    /// Adds row `number`, the next record, to an answer and returns true, or ends the answer and
+    /// returns false.
     fn next_row(&mut self, number: u32, answer: &mut PieceAnswer) -> bool
         requires { answer.old.fault ≡ None }
         ensures row { StepsRow self.old.header number self.old.left answer.old result self.new.left answer.new }
@@ -201,6 +208,6 @@ impl PieceDecoder<'_> {
         }
         let Some(texts) = texts else { unreachable!() };
         let row = TableRow::new(&self.header, number, &texts);
-        answer.push_row(self.alloc, &mut self.texts, &row, &fields, &mut self.rooms)
+        answer.push_row(self.alloc, &mut self.texts, &row, &fields, &mut self.spares)
     }
 }

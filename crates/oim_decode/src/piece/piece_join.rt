@@ -13,7 +13,9 @@ use oim_rows::{RowId, RowIds, TableFault, TableHeader, TableKind, fault_at_place
 use std::alloc::{AllocError, Global};
 use std::marker::Model;
 
-/// What joins the pieces of a table, in their order. A contract sees the row identifiers of the pieces before.
+/// The join of a table's pieces, in order.
+///
+/// Contracts see the row identifiers of the joined pieces.
 #[derive(Drop)]
 pub struct PieceJoin {
     alloc: Global,
@@ -28,8 +30,10 @@ impl Model for PieceJoin {
     ghost view = { λ a. a.ids };
 }
 
-/// The facts of a piece up to the first row whose identifier came before, and the fault behind them. A contract sees the facts of each row
-/// and the fault.
+/// The facts of a piece up to the first row that repeats an earlier identifier, and the fault after
+/// them.
+///
+/// Contracts see the facts of each row and the fault.
 #[derive(Drop)]
 pub struct JoinedPiece {
     rows: PieceRows,
@@ -44,8 +48,11 @@ impl Model for JoinedPiece {
     ghost view = { λ a. record { rows = a.rows; fault = a.fault } };
 }
 
-/// The place of the first identifier that came before, or None; then all of them join those before. Fails where memory is short. In each
-/// case the first of them join, and nothing else. All are looked for before one joins: memory that is far away is then asked for many at a time.
+/// Returns the place of the first identifier that is in `before` or earlier in `ids`, or None. If
+/// None, all of `ids` are added to `before`.
+///
+/// In each other case, also if memory runs out, only a prefix of `ids` is added. All identifiers
+/// are searched before one is added, so that reads of distant memory overlap.
 fn first_repeated(before: &mut RowIds, ids: Vec<RowId>) -> Result<Option<usize>, AllocError>
     ensures place { IfOk result (λ place. place ≡ repeated_from 0 before.old ids.items) }
     ensures within { IfOk result (λ place. IfSome place (λ k. k < length ids.items)) }
@@ -66,7 +73,7 @@ fn first_repeated(before: &mut RowIds, ids: Vec<RowId>) -> Result<Option<usize>,
     Ok(None)
 }
 
-/// The fault of row `number` where an earlier row has its identifier.
+/// Returns RepeatedRowId for row `number`.
 fn fault_of_repeated_id(header: &TableHeader<'_>, number: u32) -> TableFault
     ensures { result ≡ repeated_id header.now number }
 {
@@ -78,7 +85,7 @@ fn fault_of_repeated_id(header: &TableHeader<'_>, number: u32) -> TableFault
 }
 
 impl PieceJoin {
-    /// No piece yet. It takes no memory.
+    /// Makes a join without a piece, without taking memory.
     pub fn new(alloc: Global) -> PieceJoin
         ensures { result ≡ [] }
     {
@@ -88,10 +95,13 @@ impl PieceJoin {
         }
     }
 
-    /// Joins the answer for the next piece of the table with this header, whose first row has this number: its rows up to the first whose identifier came
-    /// before, which is RepeatedRowId there, or all of them and the piece's own fault. With Memory, and no row, where memory is short. The
-    /// identifiers of its first rows join those of the rows before, those of all its rows where there is no fault. The rows of the
-    /// answer's identifiers have numbers up to 4,294,967,295, as those of `decode` do.
+    /// Joins the table's next piece, whose first row has number `first`.
+    ///
+    /// Returns the piece's rows and its own fault, if it has one. If a row repeats an earlier row's
+    /// identifier, returns the rows before it and RepeatedRowId. If memory runs out, returns no row
+    /// and Memory.
+    ///
+    /// Remembers the identifiers for later pieces: all of them if there is no fault, else a prefix.
     pub fn join(&mut self, header: &TableHeader<'_>, first: u32, answer: PieceAnswer) -> JoinedPiece
         requires { first + length answer.ids ≤ 4294967296 }
         ensures stream { IsJoined header.now first self.old answer result }
@@ -122,14 +132,14 @@ impl PieceJoin {
 }
 
 impl JoinedPiece {
-    /// The fault behind the piece's rows, if there is one.
+    /// Returns the fault after the piece's rows, if it has one.
     pub fn fault(&self) -> Option<TableFault>
         ensures { result ≡ self.now.fault }
     {
         self.fault
     }
 
-    /// The facts of the piece in blocks of 1 to 256, in header order and row by row. Fails where memory is short.
+    /// Returns the facts of the piece in blocks of 1 to 256, in header order, row by row.
     pub fn into_blocks(self, alloc: Global) -> Result<Vec<Block>, AllocError>
         ensures { IfOk result (λ blocks. facts_of_rows blocks.items ≡ facts_of_rows self.rows) }
     {

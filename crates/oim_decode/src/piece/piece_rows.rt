@@ -6,7 +6,7 @@ ghost use Rattle.oim_rows.specs.RowFacts.{IsTextRecord};
 ghost use Rattle.oim_decode.specs.state.RowEnds.{IsEndIn, stretches};
 ghost use Rattle.oim_decode.specs.state.RowTexts.{AddsRowFacts};
 
-use crate::piece::rooms::Rooms;
+use crate::piece::spare_vectors::SpareVectors;
 use crate::piece::written_rows::WrittenRows;
 use crate::table::row_texts::RowTexts;
 use crate::table::table_blocks::has_room;
@@ -20,14 +20,16 @@ use std::mem;
 /// How many stretches a piece has room for at first.
 const FEW: usize = 16;
 
-/// The texts of the facts of a piece's rows, in stretches of whole rows that each have the facts of one block, where they fit. A
-/// contract sees the facts of each row.
+/// The texts of the facts of a piece's rows, in stretches of whole rows. Each stretch has the facts
+/// of one block, if they fit.
+///
+/// Contracts see the facts of each row.
 pub(crate) struct PieceRows {
     full: Vec<WrittenRows>,
     last: WrittenRows,
 }
 
-// By hand, so that who lets one go elsewhere makes one call.
+// Written by hand so that dropping one elsewhere compiles to a single call.
 impl Drop for PieceRows {
     fn drop(self) {
         let Self { full: _, last: _ } = self;
@@ -44,7 +46,8 @@ impl Model for PieceRows {
     ghost view = { λ a. stretches a.full.items ++ a.last };
 }
 
-/// The stretch in which a number of rows ends, and how many of them are in it. It is the one behind these where they have fewer.
+/// Returns the stretch in which the first `count` rows end, and how many of them it has. If the
+/// stretches have fewer rows, it is the one after them.
 #[tactic(auto, using(crate::proofs::RowCuts::stretch_found, crate::proofs::RowCuts::stretch_passed, crate::proofs::RowCuts::none_found))]
 fn end_of(full: &[WrittenRows], count: usize) -> (usize, usize)
     ensures { IsEndIn full.now count result }
@@ -61,25 +64,26 @@ fn end_of(full: &[WrittenRows], count: usize) -> (usize, usize)
 }
 
 impl PieceRows {
-    /// No rows. The texts of the first ones are put to `room`. It takes no memory.
-    pub(crate) fn within(alloc: Global, room: Vec<u8>) -> PieceRows
+    /// Makes a list without a row, whose first texts go to the spare vector `spare`, without taking
+    /// memory.
+    pub(crate) fn within(alloc: Global, spare: Vec<u8>) -> PieceRows
         ensures { result ≡ [] }
     {
         PieceRows {
             full: Vec::new(alloc),
-            last: WrittenRows::within(alloc, room),
+            last: WrittenRows::within(alloc, spare),
         }
     }
 
-    /// Begins a new stretch, whose texts are put to `room`. Fails where memory is short. The rows stay.
+    /// Starts a new stretch, whose texts go to the spare vector `spare`. The rows stay.
     #[tactic(auto, using(crate::proofs::RowCounts::closed))]
-    fn close(&mut self, alloc: Global, room: Vec<u8>) -> Result<(), AllocError>
+    fn close(&mut self, alloc: Global, spare: Vec<u8>) -> Result<(), AllocError>
         ensures { self.new ≡ self.old }
     {
         if self.full.is_empty() {
             self.full.reserve(FEW)?;
         }
-        let next = self.last.like(alloc, room)?;
+        let next = self.last.like(alloc, spare)?;
         let full = mem::replace(&mut self.last, next);
         match self.full.push(full) {
             Ok(()) => Ok(()),
@@ -90,7 +94,7 @@ impl PieceRows {
         }
     }
 
-    /// Keeps the first `count` rows, or all where there are fewer.
+    /// Keeps the first `count` rows, or all if there are fewer.
     pub(crate) fn cut(&mut self, count: usize)
         ensures { self.new ≡ take count self.old }
     {
@@ -104,7 +108,7 @@ impl PieceRows {
         self.last.cut(left);
     }
 
-    /// The stretches, and the one behind them.
+    /// Returns the full stretches, and the last one.
     pub(crate) fn into_stretches(self) -> (Vec<WrittenRows>, WrittenRows)
         ensures { self ≡ stretches result.0.items ++ result.1 }
     {
@@ -112,9 +116,10 @@ impl PieceRows {
         (full, last)
     }
 
-    /// Adds the facts of a row. `rooms` has memory for their texts.
+    /// Adds the facts of a row. `spares` has spare vectors for their texts.
     ///
-    /// Fails with the fault of the row's first cell that has one, and with Memory where memory is short. Then nothing is added.
+    /// Fails with the fault of the row's first faulty cell, and with Memory if memory runs out.
+    /// Then nothing is added.
     #[tactic(auto, using(crate::proofs::RowCounts::adds_behind))]
     pub(crate) fn push_row<'a>(
         &mut self,
@@ -122,7 +127,7 @@ impl PieceRows {
         texts: &mut RowTexts<'a>,
         row: &TableRow<'a, '_>,
         fields: &Fields<'_>,
-        rooms: &mut Rooms,
+        spares: &mut SpareVectors,
     ) -> Result<(), TableFault>
         requires header { row.now.header ≡ texts.old }
         requires fields { fields.now ≡ row.now.fields }
@@ -131,7 +136,7 @@ impl PieceRows {
         ensures same { texts.new ≡ texts.old }
     {
         let is_full = !has_room(self.last.count(), row.header().columns().len());
-        if is_full && self.close(alloc, rooms.take(alloc)).is_err() {
+        if is_full && self.close(alloc, spares.take(alloc)).is_err() {
             return Err(whole_fault(row.table(), TableKind::Memory));
         }
         self.last.push_row(alloc, texts, row, fields)

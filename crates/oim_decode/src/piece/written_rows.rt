@@ -21,11 +21,13 @@ use std::marker::Model;
 /// How many rows a stretch has room for at first.
 const FEW_ROWS: usize = 64;
 
-/// The texts of the facts of some rows, and where those of each row end. A contract sees the facts of each row.
+/// The texts of the facts of some rows, and where those of each row end.
+///
+/// Contracts see the facts of each row.
 #[derive(Drop)]
 pub(crate) struct WrittenRows {
     facts: PendingFacts,
-    // how many facts there are up to the end of each row
+    // How many facts there are up to the end of each row.
     ends: Vec<usize>,
     rows: GhostValue<Items<Items<Fact>>>,
 }
@@ -43,7 +45,7 @@ impl Model for WrittenRows {
     ghost invariant = { λ a. (a.facts ≡ facts_of_rows a.rows.value) × (a.ends.items ≡ counts_from 0 a.rows.value) };
 }
 
-/// A row of a table, by which the facts of one row are told.
+/// A row of a table that denotes the list of its facts.
 #[derive(Drop)]
 struct OneRow<'a, 'b, 'r> {
     row: &'b TableRow<'a, 'r>,
@@ -53,7 +55,7 @@ impl Denotes<Items<Items<Fact>>> for OneRow<'_, '_, '_> {
     ghost denoted = { λ t. facts_of_answer (facts_of_row t.row.now) ∷ [] };
 }
 
-/// How many facts the first `count` rows have, where these are the ends of all rows.
+/// Returns how many facts the first `count` rows have. `ends` are the ends of all rows.
 fn facts_before(ends: &[usize], count: usize) -> usize
     requires { count ≤ length ends.now }
     ensures none { count ≡ 0 → result ≡ 0 }
@@ -65,7 +67,8 @@ fn facts_before(ends: &[usize], count: usize) -> usize
     ends[count - 1]
 }
 
-/// For how many rows room is made where there are so many: for some at first, so that it seldom grows.
+/// Returns how many more rows to reserve after `count`: many at first, so that the list rarely
+/// grows.
 fn room_for(count: usize) -> usize
     ensures { 1 ≤ result }
 {
@@ -73,44 +76,45 @@ fn room_for(count: usize) -> usize
 }
 
 impl WrittenRows {
-    /// No rows, whose texts are put to `room`. It takes no memory.
-    pub(crate) fn within(alloc: Global, room: Vec<u8>) -> WrittenRows
+    /// Makes a list without a row, whose texts go to the spare vector `spare`, without taking
+    /// memory.
+    pub(crate) fn within(alloc: Global, spare: Vec<u8>) -> WrittenRows
         ensures { result ≡ [] }
     {
         WrittenRows {
-            facts: PendingFacts::within(alloc, room),
+            facts: PendingFacts::within(alloc, spare),
             ends: Vec::new(alloc),
             rows: none(),
         }
     }
 
-    /// No rows, with memory for as many texts as these have, that of `room` first, so that the texts are not copied as they grow. Fails where
-    /// memory is short.
-    pub(crate) fn like(&self, alloc: Global, room: Vec<u8>) -> Result<WrittenRows, AllocError>
+    /// Makes a list without a row, with memory for as many rows and texts as these have, so that
+    /// the texts are not copied as they grow. It uses the memory of `spare` first.
+    pub(crate) fn like(&self, alloc: Global, spare: Vec<u8>) -> Result<WrittenRows, AllocError>
         ensures { IfOk result (λ rows. rows ≡ []) }
     {
         Ok(WrittenRows {
-            facts: self.facts.like(alloc, room)?,
+            facts: self.facts.like(alloc, spare)?,
             ends: Vec::with_capacity(alloc, self.ends.len().max(FEW_ROWS))?,
             rows: none(),
         })
     }
 
-    /// How many facts there are.
+    /// Returns the number of facts.
     pub(crate) fn count(&self) -> usize
         ensures { result ≡ length (facts_of_rows self.now) }
     {
         self.facts.count()
     }
 
-    /// How many rows there are.
+    /// Returns the number of rows.
     pub(crate) fn len(&self) -> usize
         ensures { result ≡ length self.now }
     {
         self.ends.len()
     }
 
-    /// Keeps the first `count` rows, or all where there are fewer.
+    /// Keeps the first `count` rows, or all if there are fewer.
     pub(crate) fn cut(&mut self, count: usize)
         ensures { self.new ≡ take count self.old }
     {
@@ -123,7 +127,7 @@ impl WrittenRows {
         self.rows = first(&self.rows, count);
     }
 
-    /// The facts of all rows.
+    /// Returns the facts of all rows.
     pub(crate) fn into_facts(self) -> PendingFacts
         ensures { result ≡ facts_of_rows self }
     {
@@ -137,7 +141,8 @@ impl WrittenRows {
 
     /// Adds the facts of a row.
     ///
-    /// Fails with the fault of the row's first cell that has one, and with Memory where memory is short. Then nothing is added.
+    /// Fails with the fault of the row's first faulty cell, and with Memory if memory runs out.
+    /// Then nothing is added.
     pub(crate) fn push_row<'a>(
         &mut self,
         alloc: Global,

@@ -1,4 +1,4 @@
-//! Lists that only contracts see, put together without any item in memory.
+//! Lists that only contracts see. No item of them is in memory.
 
 ghost use Rattle.std.specs.Prelude.{◌≡◌, ◌++◌, [], take, drop};
 
@@ -11,7 +11,7 @@ impl<T> Denotes<Items<T>> for Nothing {
     ghost denoted = { λ _. [] };
 }
 
-/// The empty list.
+/// Returns the empty list.
 #[inline(always)]
 pub(crate) fn none<T>() -> GhostValue<Items<T>>
     ensures { result.value ≡ [] }
@@ -29,7 +29,7 @@ impl<T, N: Denotes<Items<T>>> Denotes<Items<T>> for Both<'_, T, N> {
     ghost denoted = { λ t. t.before.now.value ++ N.denoted t.note.now };
 }
 
-/// A list, and then what a note tells.
+/// Returns the list, followed by what `note` denotes.
 #[inline(always)]
 pub(crate) fn then<T, N: Denotes<Items<T>>>(
     before: &GhostValue<Items<T>>,
@@ -50,7 +50,7 @@ impl<T> Denotes<Items<T>> for Front<'_, T> {
     ghost denoted = { λ t. take t.count t.all.now.value };
 }
 
-/// The first `count` items.
+/// Returns the first `count` items.
 #[inline(always)]
 pub(crate) fn first<T>(all: &GhostValue<Items<T>>, count: usize) -> GhostValue<Items<T>>
     ensures { result.value ≡ take count all.now.value }
@@ -68,7 +68,7 @@ impl<T> Denotes<Items<T>> for Back<'_, T> {
     ghost denoted = { λ t. drop t.count t.all.now.value };
 }
 
-/// The items behind the first `count`.
+/// Returns the items after the first `count`.
 #[inline(always)]
 pub(crate) fn rest<T>(all: &GhostValue<Items<T>>, count: usize) -> GhostValue<Items<T>>
     ensures { result.value ≡ drop count all.now.value }

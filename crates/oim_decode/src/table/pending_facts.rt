@@ -19,14 +19,16 @@ use std::alloc::{AllocError, Global};
 use std::marker::Model;
 use std::mem;
 
-/// How many bytes more than the last texts have are made ready for others.
+/// How many bytes to reserve beyond the length of the last texts.
 const AHEAD: usize = 2048;
 
-/// The texts of facts, each behind a comma. A contract sees the list of facts, which no code holds.
+/// The texts of facts, with a comma before each.
+///
+/// Contracts see the list of facts, which no code holds.
 #[derive(Drop)]
 pub(crate) struct PendingFacts {
     bytes: TextBuffer,
-    // where each text ends
+    // Where each text ends.
     ends: Vec<usize>,
     facts: GhostValue<Items<Fact>>,
 }
@@ -43,7 +45,7 @@ impl Model for PendingFacts {
     ghost invariant = { λ b. (b.bytes.items ≡ behind_commas b.facts.value) × (b.ends.items ≡ ends_from 0 b.facts.value) };
 }
 
-/// A row of a table, by which its facts are told.
+/// A row of a table that denotes its facts.
 #[derive(Drop)]
 struct RowNote<'a, 'b, 'r> {
     row: &'b TableRow<'a, 'r>,
@@ -53,8 +55,8 @@ impl Denotes<Items<Fact>> for RowNote<'_, '_, '_> {
     ghost denoted = { λ t. facts_of_answer (facts_of_row t.row.now) };
 }
 
-/// How many bytes are made ready for texts of a length: none where there is memory for so many, else some more than these, so that they
-/// are seldom moved.
+/// Returns how many bytes to reserve for texts of this length: 0 if they fit, else somewhat more
+/// than the length, so that they rarely move.
 fn more_than(capacity: usize, length: usize) -> usize {
     if length <= capacity {
         0
@@ -63,18 +65,18 @@ fn more_than(capacity: usize, length: usize) -> usize {
     }
 }
 
-/// The empty text in the memory of `room`. It takes no memory.
-fn no_text(alloc: Global, room: Vec<u8>) -> TextBuffer
+/// Returns the empty text in the memory of `spare`, without taking memory.
+fn no_text(alloc: Global, spare: Vec<u8>) -> TextBuffer
     ensures { result.items ≡ [] }
 {
-    match TextBuffer::within(room, 0) {
+    match TextBuffer::within(spare, 0) {
         Ok(bytes) => bytes,
         Err(_) => TextBuffer::new(alloc),
     }
 }
 
 impl PendingFacts {
-    /// No facts. It takes no memory.
+    /// Makes an empty list, without taking memory.
     pub(crate) fn new(alloc: Global) -> PendingFacts
         ensures { result ≡ [] }
     {
@@ -85,31 +87,31 @@ impl PendingFacts {
         }
     }
 
-    /// No facts, whose texts are put to `room`. It takes no memory.
-    pub(crate) fn within(alloc: Global, room: Vec<u8>) -> PendingFacts
+    /// Makes an empty list whose texts go to the spare vector `spare`, without taking memory.
+    pub(crate) fn within(alloc: Global, spare: Vec<u8>) -> PendingFacts
         ensures { result ≡ [] }
     {
         PendingFacts {
-            bytes: no_text(alloc, room),
+            bytes: no_text(alloc, spare),
             ends: Vec::new(alloc),
             facts: none(),
         }
     }
 
-    /// No facts, with memory for as many texts as these have, and some more, that of `room` first, so that the texts are not copied as they grow.
-    /// Fails where memory is short.
-    pub(crate) fn like(&self, alloc: Global, room: Vec<u8>) -> Result<PendingFacts, AllocError>
+    /// Makes an empty list with memory for texts as long as these and somewhat more, so that they
+    /// are not copied as they grow. It uses the memory of `spare` first.
+    pub(crate) fn like(&self, alloc: Global, spare: Vec<u8>) -> Result<PendingFacts, AllocError>
         ensures { IfOk result (λ facts. facts ≡ []) }
     {
-        let more = more_than(room.capacity(), self.bytes.len());
+        let more = more_than(spare.capacity(), self.bytes.len());
         Ok(PendingFacts {
-            bytes: TextBuffer::within(room, more)?,
+            bytes: TextBuffer::within(spare, more)?,
             ends: Vec::with_capacity(alloc, MOST)?,
             facts: none(),
         })
     }
 
-    /// How many facts there are.
+    /// Returns the number of facts.
     pub(crate) fn count(&self) -> usize
         ensures { result ≡ length self.now }
     {
@@ -118,7 +120,8 @@ impl PendingFacts {
 
     /// Adds the facts of a row.
     ///
-    /// Fails with the fault of the row's first cell that has one, and with Memory where memory is short. Then nothing is added.
+    /// Fails with the fault of the row's first faulty cell, and with Memory if memory runs out.
+    /// Then nothing is added.
     pub(crate) fn push_row<'a>(
         &mut self,
         alloc: Global,
@@ -148,13 +151,13 @@ impl PendingFacts {
         }
     }
 
-    /// Takes the first `count` facts as a block. The texts that stay are moved to `room`. Fails where
-    /// memory is short, and then nothing is taken.
+    /// Takes the first `count` facts as a block, and moves the other texts to the spare vector
+    /// `spare`. If memory runs out, takes nothing.
     pub(crate) fn take_block(
         &mut self,
         alloc: Global,
         count: usize,
-        room: Vec<u8>,
+        spare: Vec<u8>,
     ) -> Result<Block, AllocError>
         requires some { 1 ≤ count }
         requires most { count ≤ 256 }
@@ -163,25 +166,25 @@ impl PendingFacts {
         ensures left { OnOk result (self.new ≡ drop count self.old) }
         ensures same { OnErr result (self.new ≡ self.old) }
     {
-        let left = self.from_place(alloc, count, room)?;
+        let left = self.from_place(alloc, count, spare)?;
         let all = mem::replace(self, left);
         Ok(all.into_block(count))
     }
 
-    // The facts from a place on, whose texts stand in `room`.
+    // Copies the facts after the first `count`, with their texts in `spare`.
     fn from_place(
         &self,
         alloc: Global,
         count: usize,
-        room: Vec<u8>,
+        spare: Vec<u8>,
     ) -> Result<PendingFacts, AllocError>
         requires some { 1 ≤ count }
         requires there { count ≤ length self.now }
         ensures { IfOk result (λ b. b ≡ drop count self.now) }
     {
         let start = self.ends[count - 1];
-        let more = more_than(room.capacity(), self.bytes.len());
-        let mut bytes = TextBuffer::within(room, more)?;
+        let more = more_than(spare.capacity(), self.bytes.len());
+        let mut bytes = TextBuffer::within(spare, more)?;
         bytes.put(after(self.bytes.as_slice(), start))?;
         Ok(PendingFacts {
             bytes,
@@ -190,7 +193,7 @@ impl PendingFacts {
         })
     }
 
-    /// Keeps the first `count` facts.
+    /// Keeps only the first `count` facts.
     pub(crate) fn keep_first(&mut self, count: usize)
         requires { count ≤ length self.old }
         ensures { self.new ≡ take count self.old }
@@ -206,7 +209,7 @@ impl PendingFacts {
         self.facts = first(&self.facts, count);
     }
 
-    // The block of the first facts.
+    // Returns the first `count` facts as a block, and drops the others.
     pub(crate) fn into_block(self, count: usize) -> Block
         requires some { 1 ≤ count }
         requires most { count ≤ 256 }
@@ -240,7 +243,7 @@ fn behind(ends: &[usize], count: usize) -> &[usize]
     &ends[count..]
 }
 
-// The same ends, counted from a place.
+// Returns the ends, counted from `start`.
 fn counted_from(alloc: Global, ends: &[usize], start: usize) -> Result<Vec<usize>, AllocError>
     ensures { IfOk result (λ counted. counted.items ≡ map (λ end. end - start) ends.now) }
 {

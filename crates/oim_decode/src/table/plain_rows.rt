@@ -17,7 +17,9 @@ use std::alloc::{AllocError, Global};
 use std::marker::Model;
 use std::snapshot::Snapshot;
 
-/// The rows of a table by the plain way, whose plan is made for the first of them. A contract sees the table's header.
+/// The plain way for the rows of a table. Its plan is made for the first row that needs it.
+///
+/// Contracts see the table's header.
 #[derive(Drop)]
 pub(crate) struct PlainRows<'a> {
     plan: Option<RowPlan<'a>>,
@@ -35,7 +37,7 @@ impl<'a> Model for PlainRows<'a> {
     ghost invariant = { λ a. IfSome a.plan (λ plan. plan ≡ a.header.value) };
 }
 
-/// Appends the text of each fact behind a comma, and notes where each of them ends.
+/// Appends the text of each fact with a comma before it, and records where each ends.
 fn put_facts(
     alloc: Global,
     facts: &Items<Fact>,
@@ -56,7 +58,7 @@ fn put_facts(
 }
 
 impl<'a> PlainRows<'a> {
-    /// The rows under a header. It takes no memory.
+    /// Makes the plain way for a header, without taking memory.
     pub(crate) fn new(header: &TableHeader<'a>) -> PlainRows<'a>
         ensures { result ≡ header.now }
     {
@@ -66,7 +68,7 @@ impl<'a> PlainRows<'a> {
         }
     }
 
-    /// The facts of a row. The plan of the table is made where it is not yet.
+    /// Returns the facts of a row, and makes the table's plan if it does not exist yet.
     fn facts(
         &mut self,
         alloc: Global,
@@ -90,10 +92,11 @@ impl<'a> PlainRows<'a> {
         facts
     }
 
-    /// Appends the texts of a row's facts in header order, each behind a comma, and notes where each of them ends.
+    /// Appends the texts of a row's facts in header order, each with a comma before it, and records
+    /// where each ends.
     ///
-    /// Fails with the fault of the row's first cell that has one, and with Memory where memory is short. What was there stays
-    /// then, with anything behind it.
+    /// Fails with the fault of the row's first faulty cell, and with Memory if memory runs out.
+    /// Then the old text stays, perhaps with more after it.
     #[cold]
     pub(crate) fn put_row(
         &mut self,

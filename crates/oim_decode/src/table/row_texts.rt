@@ -1,4 +1,4 @@
-//! A row of a table to the texts of its facts, by one of two ways.
+//! From a row of a table to the texts of its facts, by the fast or the plain way.
 
 ghost use Rattle.std.specs.Prelude.{◌≡◌, Err, IfErr, IfOk};
 ghost use mathlib.Core.List.{IsPrefix};
@@ -13,7 +13,9 @@ use oim_rows::{TableFault, TableHeader, TableKind, whole_fault};
 use std::alloc::{AllocError, Global};
 use std::marker::Model;
 
-/// How the rows of a table become the texts of their facts. A contract sees the table's header.
+/// How the rows of a table become the texts of their facts.
+///
+/// Contracts see the table's header.
 #[derive(Drop)]
 pub(crate) struct RowTexts<'a> {
     fast: RowWriter<'a>,
@@ -32,7 +34,7 @@ impl<'a> Model for RowTexts<'a> {
 }
 
 impl<'a> RowTexts<'a> {
-    /// The rows under a header. Fails where memory is short.
+    /// Prepares both ways for the rows of a table.
     pub(crate) fn new(alloc: Global, header: &TableHeader<'a>) -> Result<RowTexts<'a>, AllocError>
         ensures { IfOk result (λ texts. texts ≡ header.now) }
     {
@@ -42,10 +44,11 @@ impl<'a> RowTexts<'a> {
         })
     }
 
-    /// Appends the texts of a row's facts in header order, each behind a comma, and notes where each of them ends.
+    /// Appends the texts of a row's facts in header order, each with a comma before it, and records
+    /// where each ends.
     ///
-    /// Fails with the fault of the row's first cell that has one, and with Memory where memory is short. What was there stays
-    /// then, with anything behind it.
+    /// Fails with the fault of the row's first faulty cell, and with Memory if memory runs out.
+    /// Then the old text stays, perhaps with more after it.
     pub(crate) fn put_row(
         &mut self,
         alloc: Global,

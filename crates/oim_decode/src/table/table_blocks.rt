@@ -1,4 +1,6 @@
 //! The facts of one table, in blocks of text.
+//!
+//! Not proved: a block has whole rows if they fit.
 
 ghost use Rattle.std.specs.Prelude.{◌≡◌, ◌⊎◌, ◌≤◌, ◌<◌, ◌+◌, [], IfErr, IfOk, IfSome, None, Some, false, length, true};
 ghost use Rattle.oim_records.specs.Grids.{grid};
@@ -15,23 +17,24 @@ use std::alloc::Global;
 use std::io::Read;
 use std::marker::Model;
 
-/// How many facts a block has at most.
+/// The most facts that a block has.
 pub(crate) const MOST: usize = 256;
 
-/// The facts of one table that are left, as blocks of text (xBRL-CSV 1.0, table files: the first record is
-/// the header, and each record behind it a row). It borrows the table's report. A contract sees the
-/// table's place, the limit, how many rows were read, the facts that are read and not given, the stream
-/// behind them and the records that are unread, where the reader tells its bytes, and what is answered
-/// again once the table is settled.
+/// The remaining facts of one table, as blocks of text (xBRL-CSV 1.0, table files: the first record
+/// is the header, and each record after it a row).
+///
+/// Contracts see the table's place and limit, how many rows were read, the facts that are read and
+/// not given, and the answer of a settled table. For a reader whose bytes are known, they also see
+/// the stream after these facts and the unread records.
 pub struct TableBlocks<'a, R: Read + Drop> {
     alloc: Global,
     rows: TextRows<'a, R>,
     facts: PendingFacts,
-    // the end or the fault that was found behind the facts that are read
+    // The end or the fault after the facts that are read, once it was found.
     settled: Option<Option<TableFault>>,
 }
 
-// By hand, so that who lets one go elsewhere makes one call.
+// Written by hand so that dropping one elsewhere compiles to a single call.
 impl<R: Read + Drop> Drop for TableBlocks<'_, R> {
     fn drop(self) {
         let Self {
@@ -53,12 +56,12 @@ impl<'a, R: Read + Drop> Model for TableBlocks<'a, R> {
 }
 
 impl<'a, R: Read + Drop> TableBlocks<'a, R> {
-    /// Reads the header of the table at this place of a report, past one byte-order mark. The rows
-    /// are at most `limits.rows`, itself at most 4,294,967,294.
+    /// Opens the table at place `table` of the report: reads its header, after an optional
+    /// byte-order mark.
     ///
-    /// Fails with the header's first fault, in this order: NoHeader, UnknownHeader, RepeatedHeader,
-    /// NoRowIdColumn. Fails with Read where the reader failed, and with Memory where memory is
-    /// short.
+    /// The table may have at most `limits.rows` rows. Fails with the header's first fault, in this
+    /// order: NoHeader, UnknownHeader, RepeatedHeader, NoRowIdColumn. Fails with Read if the reader
+    /// failed, and with Memory if memory runs out.
     pub fn open(
         alloc: Global,
         report: &'a Report,
@@ -69,14 +72,14 @@ impl<'a, R: Read + Drop> TableBlocks<'a, R> {
         requires place { table < length report.now.tables }
         requires rows { limits.rows ≤ 4294967294 }
 
-        // The facts of the table, where its header has no fault.
+        // The facts of the table, if its header has no fault.
         ensures start { IfOk result (λ blocks. (blocks.table ≡ table) × (blocks.limit ≡ limits.rows)) }
         ensures begun { IfOk result (λ blocks. (blocks.given ≡ 0) × (blocks.pending ≡ []) × (blocks.answered ≡ None)) }
         ensures stream { IfSome (R.remaining reader) (λ bytes. IfOk result (λ blocks. blocks.left
             ≡ Some (stream_of report.now table limits.rows (grid bytes)))) }
         ensures header { IfSome (R.remaining reader) (λ bytes. IfOk result (λ _. file_header_fault report.now table (grid bytes) ≡ None)) }
 
-        // Its fault, unless the reader failed or memory was refused.
+        // Its fault, unless the reader failed or memory ran out.
         ensures fault { IfSome (R.remaining reader) (λ bytes. IfErr result (λ e. IsOutside table e
             ⊎ (file_header_fault report.now table (grid bytes) ≡ Some e))) }
     {
@@ -96,16 +99,19 @@ ghost use Rattle.std.specs.Prelude.{IsSome, OnSome};
 ghost use Rattle.oim_decode.specs.state.Blocks.{HasRead};
 
 impl<R: Read + Drop> TableBlocks<'_, R> {
-    /// The next facts in header order and row by row, 1 to 256 of them, or None at the end. A block
-    /// has whole rows where they fit, which no clause says. `room` is where further texts are put, and may be
-    /// that of an earlier block. With each block rows were read, at most as many as the limit, or fewer facts wait, so a table
-    /// without end ends too. After the end or a fault it answers the same again and takes no record.
+    /// Returns the next 1 to 256 facts in header order, row by row, or None at the end of the
+    /// table.
     ///
-    /// Fails, where the facts of all rows before were given, with the first fault of the first bad
-    /// row, in this order: Ragged, NotUtf8, TooManyRows, MissingRowId, BadRowId, RepeatedRowId, then
-    /// the faults of its cells from left to right. Fails with Read where the reader failed, and with
-    /// Memory where memory is short.
-    pub fn next_block(&mut self, room: Vec<u8>) -> Result<Option<Block>, TableFault>
+    /// Further texts go to the spare vector `spare`, which may be that of an earlier block. With
+    /// each block a row was read or fewer facts wait, and at most `limits.rows` rows are read, so
+    /// even an endless file ends. After the end or a fault each call answers the same and takes no
+    /// record.
+    ///
+    /// After the facts of all earlier rows, fails with the first fault of the first bad row, in
+    /// this order: Ragged, NotUtf8, TooManyRows, MissingRowId, BadRowId, RepeatedRowId, then the
+    /// faults of its cells from left to right. Fails with Read if the reader failed, and with
+    /// Memory if memory runs out.
+    pub fn next_block(&mut self, spare: Vec<u8>) -> Result<Option<Block>, TableFault>
         ensures next { IfSome self.old.left (λ s. GivesBlock self.old.table self.old.pending s result self.new.pending self.new.left) }
         ensures kept { KeepsAnswer result self.new.answered }
         ensures again { IfSome self.old.answered (λ kept. self.old.pending ≡ [] → (result ≡ answer_of kept) × (self.new ≡ self.old)) }
@@ -127,7 +133,10 @@ impl<R: Read + Drop> TableBlocks<'_, R> {
                 Some(None) | None => Ok(None),
             };
         }
-        match self.facts.take_block(self.alloc, share(count, whole), room) {
+        match self
+            .facts
+            .take_block(self.alloc, share(count, whole), spare)
+        {
             Ok(block) => Ok(Some(block)),
             Err(_) => {
                 let fault = whole_fault(self.rows.table(), TableKind::Memory);
@@ -138,8 +147,8 @@ impl<R: Read + Drop> TableBlocks<'_, R> {
         }
     }
 
-    // Reads rows until one more might have more facts than a block has room for, and says how many
-    // facts were there before the last row.
+    // Reads rows until one more might exceed a block. Returns how many facts there were before the
+    // last row.
     fn fill(&mut self) -> usize
         ensures reads { IfSome self.old.left (λ s. HasRead self.old.table s self.old.pending self.new.pending self.new.left) }
         ensures settled { self.new.answered ≡ None → 1 ≤ length self.new.pending }
@@ -168,8 +177,8 @@ impl<R: Read + Drop> TableBlocks<'_, R> {
     }
 }
 
-// Whether a row of this many cells is read before the facts that are there are given: where there are
-// none, or where a block has room for one more of each cell.
+// Returns whether to read a row of `width` cells before giving the waiting facts: if none waits, or
+// if a block still has room for one fact of each cell.
 pub(crate) fn has_room(count: usize, width: usize) -> bool
     ensures some { result ≡ false → 1 ≤ count }
     ensures full { result ≡ false → 256 < count + width }
@@ -179,8 +188,8 @@ pub(crate) fn has_room(count: usize, width: usize) -> bool
     count == 0 || (width <= MOST && count <= MOST - width)
 }
 
-// How many of these facts make the next block, where `whole` of them stood before the last row: all
-// where they fit, else those of the whole rows, else as many as fit.
+// Returns how many of `count` facts the next block gets, if `whole` of them are from before the
+// last row: all if they fit, else those of the whole rows, else as many as fit.
 fn share(count: usize, whole: usize) -> usize
     requires some { 1 ≤ count }
     requires whole { whole ≤ 256 }

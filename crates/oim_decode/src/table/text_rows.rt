@@ -25,8 +25,10 @@ use std::alloc::{AllocError, Global};
 use std::io::Read;
 use std::marker::Model;
 
-/// The rows of one table that are not read yet. A contract sees how they are read, how many were, the stream of those left, where
-/// the reader tells its bytes, and the records left in the reader.
+/// The rows of one table that are not read yet.
+///
+/// Contracts see the header, how many rows were read, and the records left in the reader. For a
+/// reader whose bytes are known, they also see the stream of the rows that are left.
 #[derive(Drop)]
 pub(crate) struct TextRows<'a, R: Read + Drop> {
     alloc: Global,
@@ -34,7 +36,8 @@ pub(crate) struct TextRows<'a, R: Read + Drop> {
     texts: RowTexts<'a>,
     records: RecordReader<R>,
     ids: RowIds,
-    // stays empty: a row's own faults are looked for with no identifiers, and its identifier among `ids` as it joins them
+    // Always empty: a row's own faults are tested without identifiers, and its identifier is
+    // compared with `ids` when it is added to them.
     no_ids: RowIds,
     given: u32,
 }
@@ -57,10 +60,10 @@ impl<'a, R: Read + Drop> Model for TextRows<'a, R> {
 }
 
 impl<'a, R: Read + Drop> TextRows<'a, R> {
-    /// Reads the header of a table. The rows are at most `limit`.
+    /// Opens a table of at most `limit` rows, and reads its header.
     ///
-    /// Fails with the header's first fault, with Read where the reader failed, and with Memory where
-    /// memory is short.
+    /// Fails with the header's first fault, with Read if the reader failed, and with Memory if
+    /// memory runs out.
     pub(crate) fn open(
         alloc: Global,
         report: &'a Report,
@@ -99,7 +102,7 @@ impl<'a, R: Read + Drop> TextRows<'a, R> {
 }
 
 impl<R: Read + Drop> TextRows<'_, R> {
-    /// How many cells a row has, and so at most how many facts.
+    /// Returns how many cells a row has, which is the most facts that it can have.
     pub(crate) fn width(&self) -> usize
         ensures value { result ≡ length (self.now).header.columns }
         ensures within { (self.now).given ≤ (self.now).header.limit }
@@ -107,17 +110,17 @@ impl<R: Read + Drop> TextRows<'_, R> {
         self.header.columns().len()
     }
 
-    /// The place of the table in its report.
+    /// Returns the place of the table in its report.
     pub(crate) fn table(&self) -> usize
         ensures { result ≡ (self.now).header.table }
     {
         self.header.table()
     }
 
-    /// Adds the facts of the next row to others. False at the end: then nothing is added.
+    /// Adds the facts of the next row to `facts`. Returns false at the end, and adds nothing then.
     ///
-    /// Fails with the row's first fault, with Read where the reader failed, and with Memory where
-    /// memory is short, and then nothing is added.
+    /// Fails with the row's first fault, with Read if the reader failed, and with Memory if memory
+    /// runs out. Then nothing is added.
     pub(crate) fn next_row(&mut self, facts: &mut PendingFacts) -> Result<bool, TableFault>
         ensures next { IfSome self.old.left (λ s. AddsRow self.old.header.table s facts.old facts.new result self.new.left) }
         ensures header { self.new.header ≡ self.old.header }
@@ -158,8 +161,9 @@ impl<R: Read + Drop> TextRows<'_, R> {
     }
 }
 
-/// What the reader's answer for row `number` gives without memory and without the rows before: the reader's own fault, the end, or a
-/// fault of the row itself. None where the row's identifier and its cells are to be read.
+/// Returns the answer for row `number` that needs neither memory nor the earlier rows: the reader's
+/// fault, the end, or a fault of the row itself. Returns None if the identifier and the cells must
+/// be read.
 fn early_answer<R: Read + Drop>(
     header: &TableHeader<'_>,
     number: u32,
@@ -180,8 +184,9 @@ fn early_answer<R: Read + Drop>(
     }
 }
 
-/// Adds an identifier to those before it, if none of these is the same, and says whether it did. Fails where memory is short and none is the same,
-/// and then nothing is added.
+/// Adds an identifier to `ids` unless it is there already, and returns whether it did.
+///
+/// Fails only if memory runs out and the identifier is new. Then nothing is added.
 #[inline(never)]
 fn join_id(alloc: Global, text: &str, ids: &mut RowIds) -> Result<bool, AllocError>
     ensures added { IfOk result (λ added. added ≡ not (list_any (bytes_eq text.now) ids.old)) }
@@ -199,10 +204,11 @@ fn join_id(alloc: Global, text: &str, ids: &mut RowIds) -> Result<bool, AllocErr
     added
 }
 
-/// Adds the identifier of a row to those before it, where its table has a column for them. Apart from its cells and the rows before it the row
-/// has no fault.
+/// Adds the identifier of a row to `ids`, if its table has a column for it. Apart from its cells
+/// and the earlier rows, the row has no fault.
 ///
-/// Fails with RepeatedRowId where a row before it has the same, and else with Memory where memory is short. Then nothing is added.
+/// Fails with RepeatedRowId if an earlier row has the same identifier, else with Memory if memory
+/// runs out. Then nothing is added.
 #[inline(always)]
 fn keep_id(alloc: Global, row: &TableRow<'_, '_>, ids: &mut RowIds) -> Result<(), TableFault>
     requires { row_fault row.now.header row.now.number [] row.now.fields ≡ None }
@@ -227,8 +233,10 @@ fn keep_id(alloc: Global, row: &TableRow<'_, '_>, ids: &mut RowIds) -> Result<()
     }
 }
 
-/// Adds the facts of a row to others. Apart from its cells and the rows before it the row has no fault. Where it is refused, its identifier may
-/// have joined those before it, and nothing else.
+/// Adds the facts of a row to `facts`. Apart from its cells and the earlier rows, the row has no
+/// fault.
+///
+/// If it fails, at most the row's identifier was added to `ids`.
 #[inline(always)]
 fn add_row<'a>(
     alloc: Global,

@@ -1,19 +1,44 @@
--- The fields of an entry and the words of a types table, as the program holds them.
-use Rattle.std.specs.Prelude.{ℕ, List}
+-- The fields of an entry and the type names of a types table, as the program holds them.
+use Rattle.std.specs.Prelude.{◌≡◌, ⊤, ℕ, List, Result, Ok, Err}
 use Rattle.std.specs.Borrow.{Bor}
 use Rattle.oim_records.specs.Grids.{Field}
 use Rattle.oim_entries.specs.declared.type_words.TypeWords.{TypeWords}
 use Rattle.oim_entries.specs.declared.type_words.TypeWords.TheVariants.{Plain, Wider}
 use Rattle.oim_entries.specs.TypeWords.{Words, plain_words, wider_words}
+use Rattle.oim_entries.specs.BadEntries.{BadRecord}
+use Rattle.oim_entries.specs.CsvFiles.{fault_of_read}
+use Rattle.oim_entries.specs.EntryFaults.{meta_fault}
+use Rattle.oim_entries.specs.declared.entry_fault.EntryFault.{EntryFault}
+use Rattle.oim_entries.specs.declared.entry_fault.Refused.{Refused}
+use Rattle.oim_entries.specs.declared.entry_fault.Refused.TheVariants.{Bad, Unread}
+use Rattle.oim_entries.specs.declared.fault.MetaFault.{MetaFault}
+use Rattle.oim_records.specs.Grids.{Record}
 
--- the bytes of two texts, and of three
+-- The bytes of two texts, and of three.
 abbrev pub seen_two : Bor (List ℕ) × Bor (List ℕ) → Field × Field
 seen_two p = (p.0.now, p.1.now)
 
 abbrev pub seen_three : Bor (List ℕ) × Bor (List ℕ) × Bor (List ℕ) → Field × Field × Field
 seen_three p = (p.0.now, p.1.now, p.2.now)
 
--- the tables of words, as the program names them
+-- The sets of type names, by the program's names for them.
 abbrev pub words_in : TypeWords → Words
 words_in Plain = plain_words
 words_in Wider = wider_words
+
+-- The published fault of a file whose bad records have this one.
+abbrev pub refused_fault : MetaFault → Refused → MetaFault
+refused_fault bad (Unread fault) = fault_of_read fault
+refused_fault bad (Bad e) = meta_fault bad e.problem
+
+-- What a call returns for this answer. Reading may end early.
+abbrev pub Answers : {S : Type 0} → Result S Refused → Result S EntryFault → Type 0
+Answers (Ok s) answer = answer ≡ Ok s
+Answers (Err (Bad e)) answer = answer ≡ Err e
+Answers (Err (Unread fault)) answer = ⊤
+
+-- The same for an answer that has the record that was read last.
+abbrev pub AnswersWith : {S : Type 0} → Record → Result S Refused → Result S BadRecord → Type 0
+AnswersWith r (Ok s) answer = answer ≡ Ok s
+AnswersWith r (Err (Bad e)) answer = answer ≡ Err (e, r)
+AnswersWith r (Err (Unread fault)) answer = ⊤

@@ -1,4 +1,4 @@
--- What is ready for the cells of a table's rows.
+-- What is prepared for the cells of a table's rows.
 use Rattle.std.specs.Prelude.{◌≡◌, ◌⊎◌, ◌<◌, ◌^◌, ℕ, true, Bool, List, [], ◌∷◌, ◌++◌, codes, decimal, length, map, slice_index_or, take, IfSome, None, Option, Result, Ok}
 use Rattle.std.specs.List.{All}
 use Rattle.std.specs.Option.{option_to_list}
@@ -21,24 +21,24 @@ use Rattle.oim_fast.specs.declared.frame.fact_start.FactStart.{FactStart}
 use Rattle.oim_fast.specs.declared.frame.value.Value.{Value}
 use Rattle.oim_fast.specs.declared.table.cell_writer.CellWriter.{CellWriter}
 
--- a text ends with a row's number, where that is its identifier
+-- The text ends with the row's number, which is the identifier in this table.
 abbrev pub IsNumbered : TableHeaderValue → List ℕ → ℕ → Type 0
 IsNumbered f text n = (id_place_of f ≡ None) × (text ≡ (lead_text f ++ codes "r_") ++ decimal n)
 
--- a text begins with that of a fact under a header up to the row's identifier
+-- The text begins with that of a fact under this header, up to the row's identifier.
 pub record IsStartOf (f : TableHeaderValue) (s : FactStart) : Type 0 where
   pub text : take s.lead s.start.items ≡ lead_text f
   pub size : s.lead ≡ length (lead_text f)
   pub number : IfSome s.number (IsNumbered f s.start.items)
 
--- it is ready for the rows under a header
+-- The writer is prepared for the rows under this header.
 pub record IsCellWriter (f : TableHeaderValue) (w : CellWriter) : Type 0 where
   pub columns : AreFactColumns f w.maker.cells.list.items w.columns.items
   pub maker : IsReadyMaker f w.maker
   pub frames : All (IsFrame f (map key_of w.maker.references)) w.frames.list.items
   pub lead : IsStartOf f w.start
 
--- it has gone on to a row
+-- The writer has moved to this row.
 pub record IsInRow (x : RowValue) (w : CellWriter) : Type 0 where
   pub columns : AreFactColumns x.header w.maker.cells.list.items w.columns.items
   pub maker : IsMaker x w.maker
@@ -47,27 +47,28 @@ pub record IsInRow (x : RowValue) (w : CellWriter) : Type 0 where
   pub start : w.start.start.items ≡ start_text x
   pub number : x.number < 2 ^ 32
 
--- the column of facts at a place among those of a header
+-- The column of facts at a place among those of a header.
 abbrev pub column_at : TableHeaderValue → ℕ → ℕ
 column_at f i = slice_index_or (fact_columns_in f f.columns) i 0
 
--- a cell's fact was appended, or that it has none was seen. Else nothing was appended
+-- A cell's fact was appended, or the cell has none. Otherwise nothing was appended.
 abbrev pub PutsCell : {E : Type 0} → RowValue → ℕ → List ℕ → List ℕ → Result Bool E → Type 0
 PutsCell x c old new (Ok true) = WritesFact (cell_result (cell_in x c)) old new
 PutsCell x c old new r = new ≡ old
 
--- the same of a frame, and of what a cell under it says
+-- The same for a cell under a frame.
 abbrev pub PutsSaid : {E : Type 0} → RowValue → List ReferenceValue → FrameValue → List ℕ → List ℕ → List ℕ → List ℕ → Result Bool E → Type 0
 PutsSaid x rs t start cell old new (Ok true) =
     ((is_absent (meaning_of cell) ≡ true) × (new ≡ old)) ⊎ ((v : Value) × IsValue x.header.report t.kind (meaning_of cell) v × AddsFact rs t v start old new)
 PutsSaid x rs t start cell old new r = new ≡ old
 
--- these columns give a row these facts
+-- These columns give the row these facts.
 abbrev pub GiveFacts : RowValue → List ℕ → List Fact → Type 0
 GiveFacts x [] fs = fs ≡ []
 GiveFacts x (c ∷ cs) fs = (o : Option Fact) × (more : List Fact) × (cell_result (cell_in x c) ≡ Ok o) × (fs ≡ option_to_list o ++ more) × GiveFacts x cs more
 
--- the facts of the first i columns were appended, each behind a comma, and where each ends was noted
+-- The facts of the first i columns were appended, each with a comma before it, and the end of each
+-- was recorded.
 pub record HasFacts (x : RowValue) (i : ℕ) (old new noted notes : List ℕ) : Type 0 where
   pub facts : List Fact
   pub are : GiveFacts x (take i (fact_columns_in x.header x.header.columns)) facts

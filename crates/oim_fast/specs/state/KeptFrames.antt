@@ -1,4 +1,4 @@
--- The frames of a table that are kept.
+-- The kept frames of a table.
 use Rattle.std.specs.Prelude.{⊤, ◌≡◌, ◌⊎◌, ℕ, true, List, Option, Some, None, Ok, IfSome, IsSomeAnd, codes}
 use Rattle.std.specs.List.{All, slice_get}
 use Rattle.std.specs.Option.{option_and_then}
@@ -15,13 +15,13 @@ use Rattle.oim_row.specs.References.{Key}
 use Rattle.oim_row.specs.Rows.{RowValue, column_in}
 use Rattle.oim_row.specs.state.Rows.{cell_in}
 use Rattle.oim_fast.specs.declared.frame.fact_column.FactColumn.{FactColumn}
-use Rattle.oim_fast.specs.declared.frame.frame.Body.{Body}
-use Rattle.oim_fast.specs.declared.frame.frame.Body.TheVariants as body
+use Rattle.oim_fast.specs.declared.frame.frame.FrameBody.{FrameBody}
+use Rattle.oim_fast.specs.declared.frame.frame.FrameBody.TheVariants as body
 use Rattle.oim_fast.specs.declared.frame.frame.Frame.{Frame}
 use Rattle.oim_row.specs.declared.group_cells.Choice.{Choice}
 use Rattle.oim_row.specs.declared.group_cells.GroupCell.{GroupCell}
 
--- a number for a kind, and another for none
+-- A number for a kind, and another for no kind.
 abbrev pub kind_code : Option Kind → ℕ
 kind_code None = 0
 kind_code (Some (kind.Number number.Integer)) = 1
@@ -35,43 +35,44 @@ kind_code (Some kind.Explicit) = 8
 kind_code (Some kind.Typed) = 9
 kind_code (Some kind.Other) = 10
 
--- a frame that was made for a kind, or for none: its text, the reference that names its concept, or nothing is known
-abbrev pub IsBody : TableHeaderValue → List Key → ℕ → List Choice → ℕ → Body → Type 0
+-- The body of a frame for a kind or for none: its text, or the reference that names its concept, or
+-- nothing that is known.
+abbrev pub IsBody : TableHeaderValue → List Key → ℕ → List Choice → ℕ → FrameBody → Type 0
 IsBody f keys c os k (body.Text t) = IsFrameText f keys c os t × ((k ≡ kind_code (Some t.kind)) ⊎ HasConstantKind f (levels_chosen f c os) t.kind)
 IsBody f keys c os k (body.ByConcept i) = HasReferredKind f keys (levels_chosen f c os) i
 IsBody f keys c os k body.Unknown = ⊤
 
--- the body of a frame that is made for a column and a kind, or none, under what the row at hand chooses
-abbrev pub IsBodyFor : TableHeaderValue → List Key → List GroupCell → FactColumn → Option Kind → Body → Type 0
+-- The body of a frame for a column and a kind, or none, under the choices of the current row.
+abbrev pub IsBodyFor : TableHeaderValue → List Key → List GroupCell → FactColumn → Option Kind → FrameBody → Type 0
 IsBodyFor f keys cells c k b = IsBody f keys c.column (column_choices cells c) (kind_code k) b
 
--- what is kept of a frame is right for each row of the table that chooses so
+-- A kept frame is right for each row of the table that makes its choices.
 abbrev pub IsFrame : TableHeaderValue → List Key → Frame → Type 0
 IsFrame f keys v = IsBody f keys v.column v.choices.items v.kind v.body
 
--- a frame is that of a column and a kind, or of none, under what the row at hand chooses
+-- The frame is for this column and this kind, or none, under the choices of the current row.
 pub record IsFor (cells : List GroupCell) (c : FactColumn) (k : Option Kind) (v : Frame) : Type 0 where
   pub column : v.column ≡ c.column
   pub kind : v.kind ≡ kind_code k
   pub choices : v.choices.items ≡ choices_in cells c.groups.items
 
--- and something is known of what is chosen
+-- The frame is for these, and all choices are known.
 pub record IsKnownFor (cells : List GroupCell) (c : FactColumn) (k : Option Kind) (v : Frame) : Type 0 where
   pub is : IsFor cells c k v
   pub known : All (λ o. is_known_choice o ≡ true) v.choices.items
 
--- a frame is that of a column and of the kind of its concept in a row
+-- The frame is for the column and for the kind of its concept in a row.
 pub record IsOfConcept (x : RowValue) (cells : List GroupCell) (c : FactColumn) (v : Frame) : Type 0 where
   pub kind : Kind
   pub is : IsFor cells c (Some kind) v
   pub concept : concept_read x.header.report (given (cell_in x c.column) (codes "concept")) ≡ Ok kind
 
--- the frame at a place is such
+-- The frame at a place has property P.
 abbrev pub HasFrame : List Frame → (Frame → Type 0) → ℕ → Type 0
 HasFrame frames P place = IsSomeAnd (slice_get frames place) P
 
--- the text of a frame, where it has one
-abbrev pub text_of : Body → Option FrameValue
+-- The text of a frame, if it has one.
+abbrev pub text_of : FrameBody → Option FrameValue
 text_of (body.Text t) = Some t
 text_of (body.ByConcept i) = None
 text_of body.Unknown = None
@@ -79,13 +80,14 @@ text_of body.Unknown = None
 abbrev pub text_in : List Frame → ℕ → Option FrameValue
 text_in frames place = option_and_then (λ (v : Frame). text_of v.body) (slice_get frames place)
 
--- the text of a frame is that of a column's facts in a row: of these levels, and of a kind that is the concept's
+-- The text of a frame is that of a column's facts in a row: it has these levels and the concept's
+-- kind.
 pub record IsTextFor (x : RowValue) (keys : List Key) (c : ℕ) (t : FrameValue) : Type 0 where
   pub choices : List Choice
   pub chosen : Chooses x (column_in x.header c).from choices
   pub text : IsFrameText x.header keys c choices t
   pub concept : concept_read x.header.report (given (cell_in x c) (codes "concept")) ≡ Ok t.kind
 
--- so is that of the frame at a place, where it has one
+-- The same for the frame at a place, if it has a text.
 abbrev pub HasTextFor : RowValue → List Key → ℕ → List Frame → ℕ → Type 0
 HasTextFor x keys c frames place = IfSome (text_in frames place) (IsTextFor x keys c)

@@ -11,68 +11,69 @@ use Rattle.oim_fast.specs.state.FrameTexts.{FrameValue}
 use Rattle.oim_fast.specs.state.Frames.{AreKindDecimals, HasConstantKind, HasReferredKind, are_ready, entry_of, no_dimensions, with_parts}
 use Rattle.oim_row.specs.Groups.{IsGroupCell, IsSaid}
 use Rattle.oim_fast.specs.state.KeptFrames.{kind_code}
-use Rattle.oim_fast.specs.state.Parts.{IsPart}
+use Rattle.oim_fast.specs.state.FrameParts.{IsPart}
 use Rattle.oim_row.specs.References.{IsFresh, IsOfReport, Key, key_of}
 use Rattle.oim_row.specs.Rows.{RowValue}
-use Rattle.oim_fast.specs.declared.frame.frame.Body.{Body}
-use Rattle.oim_fast.specs.declared.frame.frame.Body.TheVariants as body
+use Rattle.oim_fast.specs.declared.frame.frame.FrameBody.{FrameBody}
+use Rattle.oim_fast.specs.declared.frame.frame.FrameBody.TheVariants as body
 use Rattle.oim_fast.specs.declared.frame.frame_maker.Concept.{Concept}
 use Rattle.oim_fast.specs.declared.frame.frame_maker.Concept.TheVariants as concept
 use Rattle.oim_fast.specs.declared.frame.frame_maker.FrameMaker.{FrameMaker}
-use Rattle.oim_fast.specs.declared.frame.part.Part.{Part}
+use Rattle.oim_fast.specs.declared.frame.part.FramePart.{FramePart}
 use Rattle.oim_fast.specs.declared.frame.part.PartValue.TheVariants as part
 
--- levels from the most general to the most specific, which are held the other way round
+-- The levels from the most general to the most specific; they are held in the reverse order.
 abbrev pub from_general : List (Bor Level) → List Level
 from_general ls = reverse (held ls)
 
--- what the references of a maker are to
+-- The keys of a maker's references.
 abbrev pub keys_in : FrameMaker → List Key
 keys_in m = map key_of m.references
 
--- what makes frames is right for each row under a header
+-- A maker of frames is right for each row under a header.
 pub record IsReadyMaker (f : TableHeaderValue) (m : FrameMaker) : Type 0 where
   pub references : All (IsOfReport f.report) m.references
   pub cells : All (IsGroupCell f) m.cells.list.items
   pub parts : All (IsPart f (map key_of m.references)) m.parts.list.items
 
--- and it has gone on to a row: its references have what the row gives, its cells of groups what the row says
+-- A maker has moved to a row: its references have what the row gives, its cells of groups what the
+-- row chooses.
 pub record IsMaker (x : RowValue) (m : FrameMaker) : Type 0 where
   pub fresh : All (IsFresh x) m.references
   pub cells : All (IsGroupCell x.header) m.cells.list.items
   pub said : All (IsSaid x) m.cells.list.items
   pub parts : All (IsPart x.header (map key_of m.references)) m.parts.list.items
 
--- what levels write for the concept, or the kind of this number where it was given
+-- What the levels write for the concept, or the kind of this number if it was given.
 abbrev pub IsConcept : TableHeaderValue → List Key → List Level → ℕ → Concept → Type 0
 IsConcept f keys ls k (concept.Constant c) = (k ≡ kind_code (Some c)) ⊎ HasConstantKind f ls c
 IsConcept f keys ls k (concept.Reference i) = HasReferredKind f keys ls i
 IsConcept f keys ls k concept.Unknown = ⊤
 
--- what a part says of the concept
-abbrev pub SaysConcept : Part → Concept → Type 0
+-- What a part gives for the concept.
+abbrev pub SaysConcept : FramePart → Concept → Type 0
 SaysConcept p (concept.Constant k) = p.kind ≡ Some k
 SaysConcept p (concept.Reference i) = p.value ≡ part.Reference i
 SaysConcept p concept.Unknown = ⊤
 
--- the body of a frame that has this text, or none
-abbrev pub IsBodyOf : Option FrameValue → Body → Type 0
+-- The body of a frame with this text, or with none.
+abbrev pub IsBodyOf : Option FrameValue → FrameBody → Type 0
 IsBodyOf None b = b ≡ body.Unknown
 IsBodyOf (Some t) b = b ≡ body.Text t
 
--- a frame before its dimensions
+-- A frame before its dimensions.
 pub record IsOpening (f : TableHeaderValue) (keys : List Key) (ls : List Level) (k : Kind) (lead : List ℕ) (t : FrameValue) : Type 0 where
   pub start : t ≡ no_dimensions k lead t.settled t.decimals
   pub decimals : AreKindDecimals f keys ls k t.settled t.decimals
 
--- a frame with the parts of entries more
+-- A frame with the parts of more entries.
 pub record AddsEntries (f : TableHeaderValue) (keys : List Key) (es : List (List ℕ × Written)) (old new : FrameValue) : Type 0 where
-  pub parts : List Part
+  pub parts : List FramePart
   pub entries : map entry_of parts ≡ es
   pub are : All (IsPart f keys) parts
   pub ready : are_ready old parts
   pub text : new ≡ with_parts old parts
 
--- the same where they were added
+-- The same if they were added.
 abbrev pub AddsWhere : TableHeaderValue → List Key → List (List ℕ × Written) → FrameValue → FrameValue → Bool → Type 0
 AddsWhere f keys es old new added = added ≡ true → AddsEntries f keys es old new

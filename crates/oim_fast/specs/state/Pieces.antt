@@ -1,4 +1,5 @@
--- The text of a fact in pieces: what each dimension that the levels of a cell write adds to it. (xBRL-JSON 1.0, a fact object)
+-- The text of a fact in parts: what each dimension that the levels of a cell write adds to it
+-- (xBRL-JSON 1.0, a fact object).
 use Rattle.std.specs.Prelude.{◌≡◌, ℕ, Bool, true, ◌||◌, List, [], ◌∷◌, ◌++◌, codes, is_ok, if◌then◌else◌, unwrap_or}
 use Rattle.std.specs.List.{All, flat_map}
 use Rattle.std.specs.Option.{option_map_or}
@@ -22,49 +23,51 @@ use Rattle.oim_resolve.specs.Written.{written}
 use Rattle.oim_rows.specs.RowFacts.{TableHeaderValue}
 use Rattle.oim_row.specs.Answers.{dimension_json}
 
--- what levels write for one name
+-- What the levels write for one name.
 abbrev pub entries_named : List Level → List ℕ → List (List ℕ × Written)
 entries_named ls n = named n (written ls n)
 
--- a dimension's name and colon
+-- A dimension's name and colon.
 abbrev pub name_text : List ℕ → List ℕ
 name_text n = quoted n ++ codes ":"
 
--- a text behind another; no text where the second is empty
+-- A text after `lead`, or no text if the second is empty.
 abbrev pub behind : List ℕ → List ℕ → List ℕ
 behind lead [] = []
 behind lead (b ∷ bs) = lead ++ b ∷ bs
 
--- what a meaning gives a dimension of a fact whose concept is of a kind: name and value with a comma behind them
+-- What a meaning gives a dimension of a fact with a concept of kind k: name and value, with a comma
+-- after them.
 abbrev pub dimension_piece : ReportValue → Kind → List ℕ → Side → Meaning → List ℕ
 dimension_piece r k n s v = if is_dropped k (role_of r n) then [] else behind (name_text n) (dimension_json (entry_given r (role_of r n) s v))
 
--- all that is written gives in a cell
+-- What all written dimensions give in a cell.
 abbrev pub written_pieces : Cell → Kind → List (List ℕ × Written) → List ℕ
 written_pieces c k es = flat_map (λ e. dimension_piece c.report k e.0 (side_of e.1) (value c e.1)) es
 
--- a meaning has no fault in a dimension of a fact whose concept is of a kind
+-- The meaning has no fault in a dimension of a fact with a concept of kind k.
 abbrev pub is_sound_dimension : ReportValue → Kind → List ℕ → Side → Meaning → Bool
 is_sound_dimension r k n s v = is_dropped k (role_of r n) || is_ok (value_read r (role_of r n) s v)
 
--- nor has any that is written in a cell
+-- No written dimension has a fault in the cell.
 abbrev pub AreSound : Cell → Kind → List (List ℕ × Written) → Type 0
 AreSound c k es = All (λ e. is_sound_dimension c.report k e.0 (side_of e.1) (value c e.1) ≡ true) es
 
--- the meaning of the parameter of a name, or nothing
+-- The meaning of the parameter of a name, or Absent.
 abbrev pub parameter_meaning : TableHeaderValue → List ℕ → Meaning
 parameter_meaning f n = option_map_or meaning_of (parameter_of f.report f.table n) m.Absent
 
--- what a reference means where rows say nothing of it: the parameter of its name
+-- What a reference means if it does not depend on the row: the parameter of its name.
 abbrev pub constant_reference : TableHeaderValue → Written → Meaning
 constant_reference f (w.Named n s) = parameter_meaning f n
 constant_reference f _ = m.Absent
 
--- the meaning of what is written where rows say nothing of it: the literal, else what the reference means
+-- The meaning of a written value that does not depend on the row: the literal, else what the
+-- reference means.
 abbrev pub constant_meaning : TableHeaderValue → Written → Meaning
 constant_meaning f x = unwrap_or (literal_of x) (constant_reference f x)
 
--- what decimals state where rows say nothing of them
+-- What decimals state if they do not depend on the row.
 abbrev pub constant_stated : TableHeaderValue → WrittenDecimals → Stated
 constant_stated f (d.Fixed a) = Fixed a
 constant_stated f (d.Named n) = Read (parameter_meaning f n)

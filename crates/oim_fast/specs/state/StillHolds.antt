@@ -4,10 +4,11 @@ use Rattle.std.specs.List.{All}
 use Rattle.oim_rows.specs.RowFacts.{TableHeaderValue}
 use Rattle.oim_row.specs.References.{Key}
 
--- what holds of each item of a list, under each header and for all keys, holds of each of another
+-- What holds of each item of the old list, under each header and for all keys, holds of each of the
+-- new.
 abbrev pub HoldsStill : {A : Type 0} → (TableHeaderValue → List Key → A → Type 0) → List A → List A → Type 0
 HoldsStill P old new = (f : TableHeaderValue) (keys : List Key) → All (P f keys) old → All (P f keys) new
 
--- the same where it holds of one item more
+-- The same if it holds of one more item.
 abbrev pub HoldsWith : {A : Type 0} → (TableHeaderValue → List Key → A → Type 0) → List A → A → List A → Type 0
 HoldsWith P old x new = (f : TableHeaderValue) (keys : List Key) → All (P f keys) old → P f keys x → All (P f keys) new

@@ -1,4 +1,4 @@
-//! What a written value means where rows say nothing of it.
+//! The meaning of a written value that does not depend on the row.
 
 ghost use Rattle.std.specs.Prelude.{◌≡◌};
 ghost use Rattle.oim_cells.specs.Cells.{seen_meaning};
@@ -8,7 +8,7 @@ use oim_cells::{CellMeaning, meaning};
 use oim_report::Written;
 use oim_rows::TableHeader;
 
-/// What the parameter of a name means: nothing where there is none.
+/// Returns the meaning of the parameter `name`, or Absent if it does not exist.
 pub(crate) fn parameter_of<'a>(header: &TableHeader<'a>, name: &str) -> CellMeaning<'a>
     ensures { seen_meaning result ≡ parameter_meaning header.now name.now }
 {
@@ -18,7 +18,8 @@ pub(crate) fn parameter_of<'a>(header: &TableHeader<'a>, name: &str) -> CellMean
     }
 }
 
-/// What a written value means where rows say nothing of it: a literal, or the parameter that a reference names.
+/// Returns the meaning of a written value that does not depend on the row: a literal, or the
+/// parameter that a reference names.
 pub(crate) fn constant_of<'a>(header: &TableHeader<'a>, written: &'a Written) -> CellMeaning<'a>
     ensures { seen_meaning result ≡ constant_meaning header.now written.now }
 {

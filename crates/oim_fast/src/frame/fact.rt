@@ -23,83 +23,84 @@ use oim_text::{
 };
 use std::alloc::AllocError;
 
-/// Writes a byte. Answers where it ends.
+/// Writes a byte, and returns where it ends.
 #[inline(always)]
-fn write_byte(room: &mut [u8], at: usize, byte: u8) -> usize
-    requires { at < length room.old }
-    ensures { Placed room.old room.new at (byte ∷ []) result }
+fn write_byte(memory: &mut [u8], at: usize, byte: u8) -> usize
+    requires { at < length memory.old }
+    ensures { Placed memory.old memory.new at (byte ∷ []) result }
 {
-    room[at] = byte;
+    memory[at] = byte;
     at + 1
 }
 
-/// Writes a number of decimals from 0 to 9, with a comma behind it. Answers where it ends.
+/// Writes a number of decimals from 0 to 9 with a comma after it, and returns where it ends.
 #[inline(always)]
-fn write_digit(room: &mut [u8], from: usize, digit: u8) -> usize
-    requires room { from + 32 ≤ length room.old }
+fn write_digit(memory: &mut [u8], from: usize, digit: u8) -> usize
+    requires memory { from + 32 ≤ length memory.old }
     requires digit { digit < 10 }
-    ensures bytes { Placed room.old room.new from (decimals_text (Some (pos digit))) result }
+    ensures bytes { Placed memory.old memory.new from (decimals_text (Some (pos digit))) result }
     ensures few { result ≤ from + 32 }
 {
-    let at = copy_short(room, from, b"\"decimals\":");
-    let end = write_byte(room, at, b'0' + digit);
-    write_byte(room, end, b',')
+    let at = copy_short(memory, from, b"\"decimals\":");
+    let end = write_byte(memory, at, b'0' + digit);
+    write_byte(memory, end, b',')
 }
 
-/// Writes a number of decimals, with a comma behind it. Answers where it ends.
+/// Writes a number of decimals with a comma after it, and returns where it ends.
 #[inline(never)]
-fn write_places(room: &mut [u8], from: usize, places: i32) -> usize
-    requires { from + 32 ≤ length room.old }
-    ensures bytes { Placed room.old room.new from (decimals_text (Some places)) result }
+fn write_places(memory: &mut [u8], from: usize, places: i32) -> usize
+    requires { from + 32 ≤ length memory.old }
+    ensures bytes { Placed memory.old memory.new from (decimals_text (Some places)) result }
     ensures few { result ≤ from + 32 }
 {
     let mut buffer = Buffer::new();
     let digits = buffer.format(places).as_bytes();
-    let at = copy_short(room, from, b"\"decimals\":");
-    let end = copy_short(room, at, digits);
-    copy_short(room, end, b",")
+    let at = copy_short(memory, from, b"\"decimals\":");
+    let end = copy_short(memory, at, digits);
+    copy_short(memory, end, b",")
 }
 
-/// Writes the decimals that a suffix states, with a comma behind them: nothing where the number is exact. Answers where they end.
+/// Writes the decimals of a suffix with a comma after them, or nothing if the number is exact.
+/// Returns where they end.
 #[inline(always)]
 #[tactic(auto, unfolding(oim_json::specs::JsonText::decimals_text))]
-fn write_accuracy(room: &mut [u8], from: usize, accuracy: Accuracy) -> usize
-    requires { from + 32 ≤ length room.old }
-    ensures bytes { Placed room.old room.new from (decimals_text (places accuracy)) result }
+fn write_accuracy(memory: &mut [u8], from: usize, accuracy: Accuracy) -> usize
+    requires { from + 32 ≤ length memory.old }
+    ensures bytes { Placed memory.old memory.new from (decimals_text (places accuracy)) result }
     ensures few { result ≤ from + 32 }
 {
     match accuracy {
         Accuracy::Places(places) => match u8::try_from(places) {
-            Ok(digit) if digit < 10 => write_digit(room, from, digit),
-            _ => write_places(room, from, places),
+            Ok(digit) if digit < 10 => write_digit(memory, from, digit),
+            _ => write_places(memory, from, places),
         },
         Accuracy::Infinite => from,
     }
 }
 
-/// How many bytes decimals have at most, with a comma behind them.
+/// The most bytes of decimals with a comma after them.
 const DECIMALS: usize = 32;
 
-/// Writes the decimals of a number that are not those that stand in its frame, with a comma behind them. Answers where they end.
-/// None where they are not known, or have a fault.
+/// Writes the decimals of a number that its frame does not have, with a comma after them. Returns
+/// where they end, or None if they are not known or have a fault.
 #[inline(always)]
 fn write_decimals(
     frame: &FrameText,
     references: &References<'_>,
     value: &Value<'_>,
-    room: &mut [u8],
+    memory: &mut [u8],
     from: usize,
 ) -> Option<usize>
     requires number { is_numeric frame.now.kind ≡ true }
     requires references { IsOfReferences (length references.now) frame.now }
-    requires room { from + 64 ≤ length room.old }
-    ensures { MatchOption result (Stays room.old room.new from) (λ end. WritesDecimals references.now frame.now value.now room.old room.new from end) }
+    requires memory { from + 64 ≤ length memory.old }
+    ensures { MatchOption result (Stays memory.old memory.new from) (λ end. WritesDecimals references.now frame.now value.now memory.old memory.new from end) }
 {
     if value.is_nil {
         return Some(from);
     }
     if let Some(accuracy) = value.accuracy {
-        return Some(write_accuracy(room, from, accuracy));
+        return Some(write_accuracy(memory, from, accuracy));
     }
     let FrameDecimals::Reference(reference) = frame.decimals else {
         return None;
@@ -108,10 +109,10 @@ fn write_decimals(
     if !answer.is_sound || answer.json.len() > DECIMALS {
         return None;
     }
-    Some(copy_text(room, from, &answer.json))
+    Some(copy_text(memory, from, &answer.json))
 }
 
-/// Whether what a frame has for its decimals is what stands in a fact.
+/// Returns whether the frame's decimals are those of the fact.
 #[inline(always)]
 fn has_settled(frame: &FrameText, value: &Value<'_>) -> bool
     ensures { result ≡ has_settled frame.now value.now }
@@ -122,134 +123,136 @@ fn has_settled(frame: &FrameText, value: &Value<'_>) -> bool
     !value.is_nil && value.accuracy.is_none() && matches!(&frame.decimals, FrameDecimals::Settled)
 }
 
-/// Writes the text up to the dimensions where it is not that of the frame, and answers where it ends and from where on the
-/// frame's text comes behind it. None where the decimals are not known, or have a fault.
+/// Writes the text before the dimensions if it differs from the frame's. Returns where it ends and
+/// from where on the frame's text follows, or None if the decimals are not known or have a fault.
 #[inline(always)]
 fn write_opening(
     frame: &FrameText,
     references: &References<'_>,
     value: &Value<'_>,
-    room: &mut [u8],
+    memory: &mut [u8],
     from: usize,
 ) -> Option<(usize, usize)>
     requires references { IsOfReferences (length references.now) frame.now }
-    requires room { from + (length frame.now.lead + length frame.now.settled) + 64 ≤ length room.old }
-    ensures { MatchOption result (Stays room.old room.new from) (λ o. WritesOpening references.now frame.now value.now room.old room.new from o.0 o.1) }
+    requires memory { from + (length frame.now.lead + length frame.now.settled) + 64 ≤ length memory.old }
+    ensures { MatchOption result (Stays memory.old memory.new from) (λ o. WritesOpening references.now frame.now value.now memory.old memory.new from o.0 o.1) }
 {
     if has_settled(frame, value) {
         return Some((from, 0));
     }
-    let at = copy_range(room, from, &frame.text, 0, frame.lead);
-    let at = write_decimals(frame, references, value, room, at)?;
+    let at = copy_range(memory, from, &frame.text, 0, frame.lead);
+    let at = write_decimals(frame, references, value, memory, at)?;
     Some((at, frame.opening))
 }
 
-/// What stands between dimensions and value, its first ten bytes.
+/// The text between dimensions and value: the first ten bytes.
 const CLOSING: &[u8] = b"},\"value\":                                ";
 
-/// Takes back the comma behind the last dimension, where there is one behind `body`, and closes the dimensions.
+/// Takes back the comma after the last dimension, if one is after `body`, and closes the
+/// dimensions.
 #[inline(always)]
-fn close_dimensions(room: &mut [u8], body: usize, end: usize) -> usize
+fn close_dimensions(memory: &mut [u8], body: usize, end: usize) -> usize
     requires order { body ≤ end }
-    requires room { end + 42 ≤ length room.old }
-    ensures { Placed room.old room.new (body + ((end - body) - 1)) (codes "},\"value\":") result }
+    requires memory { end + 42 ≤ length memory.old }
+    ensures { Placed memory.old memory.new (body + ((end - body) - 1)) (codes "},\"value\":") result }
 {
     let at = if body < end { end - 1 } else { end };
-    copy(room, at, CLOSING, 10)
+    copy(memory, at, CLOSING, 10)
 }
 
-/// Writes what stands between the quotes of a value. A number needs no escape.
+/// Writes what is between the quotes of a value. A number needs no escape.
 #[inline(always)]
-fn write_text(kind: Kind, value: &Value<'_>, room: &mut [u8], from: usize) -> usize
+fn write_text(kind: Kind, value: &Value<'_>, memory: &mut [u8], from: usize) -> usize
     requires value { value.now.len ≤ length value.now.bytes.now }
     requires plain { is_numeric kind ≡ true → list_all is_unescaped (take value.now.len value.now.bytes.now) ≡ true }
-    requires room { from + 6 * value.now.len + 32 ≤ length room.old }
-    ensures { Placed room.old room.new from (flat_map escaped_byte (take value.now.len value.now.bytes.now)) result }
+    requires memory { from + 6 * value.now.len + 32 ≤ length memory.old }
+    ensures { Placed memory.old memory.new from (flat_map escaped_byte (take value.now.len value.now.bytes.now)) result }
 {
     if let Kind::Number(_) = kind {
-        copy(room, from, value.bytes, value.len)
+        copy(memory, from, value.bytes, value.len)
     } else {
-        copy_escaped(room, from, value.bytes, value.len)
+        copy_escaped(memory, from, value.bytes, value.len)
     }
 }
 
 /// Writes the value and the end of the fact.
 #[inline(always)]
-fn write_value(kind: Kind, value: &Value<'_>, room: &mut [u8], from: usize) -> usize
+fn write_value(kind: Kind, value: &Value<'_>, memory: &mut [u8], from: usize) -> usize
     requires value { value.now.len ≤ length value.now.bytes.now }
     requires plain { is_numeric kind ≡ true → IfSome (value_of value.now) (λ t. list_all is_unescaped t ≡ true) }
-    requires room { from + 6 * value.now.len + 64 ≤ length room.old }
-    ensures bytes { Placed room.old room.new from (value_text (value_of value.now) ++ codes "}") result }
-    ensures behind { result + 32 ≤ length room.new }
+    requires memory { from + 6 * value.now.len + 64 ≤ length memory.old }
+    ensures bytes { Placed memory.old memory.new from (value_text (value_of value.now) ++ codes "}") result }
+    ensures behind { result + 32 ≤ length memory.new }
 {
     if value.is_nil {
-        return copy_short(room, from, b"null}");
+        return copy_short(memory, from, b"null}");
     }
-    let at = copy_short(room, from, b"\"");
-    let at = write_text(kind, value, room, at);
-    let at = write_byte(room, at, b'"');
-    write_byte(room, at, b'}')
+    let at = copy_short(memory, from, b"\"");
+    let at = write_text(kind, value, memory, at);
+    let at = write_byte(memory, at, b'"');
+    write_byte(memory, at, b'}')
 }
 
-/// How many bytes a value has at most that is written with one test of the room.
+/// The longest value that is written after a single test of the room.
 const LONGEST: usize = 1024;
 
-/// How many references, and how many bytes before its value, a fact has at most whose room is counted.
+/// The most references, and the most bytes before the value, of a fact whose room is computed.
 const MOST_RUNS: usize = 1 << 16;
 
 const MOST_BYTES: usize = 1 << 40;
 
-/// How many bytes of room a fact takes at most behind a text of `start` bytes, where a reference gives `most` and the value has
-/// `value`. None where they are too many to be counted.
+/// Returns the most bytes that a fact takes after a start of `start` bytes, if a reference gives at
+/// most `most` bytes and the value has `value`. Returns None if they are too many.
 #[inline(always)]
 #[tactic(auto, using(std::proofs::lemmas::Nat::le_or_l, std::proofs::lemmas::Nat::le_or_r))]
 fn room_for(frame: &FrameText, most: u32, start: usize, value: usize) -> Option<usize>
     requires { value ≤ 1024 }
-    ensures { IfSome result (λ room. start + fact_room frame.now most value ≤ room) }
+    ensures { IfSome result (λ memory. start + fact_room frame.now most value ≤ memory) }
 {
     let count = frame.runs.len();
     let size = frame.text.len();
-    // Both are below the largest number, where no bit beyond it is set in either.
+    // `MOST_BYTES` is a power of two, so this tests both numbers at once.
     if count >= MOST_RUNS || start | size >= MOST_BYTES {
         return None;
     }
     Some(start + size + count * (most as usize) + 6 * value + 128)
 }
 
-/// Writes the fact of a frame from the dot behind the row's identifier on, and answers where it ends. None where it is not by the
-/// fast way.
+/// Writes the fact of a frame from the dot after the row's identifier on. Returns where it ends, or
+/// None if the fast way leaves it.
 #[inline(always)]
 fn write_object(
     frame: &FrameText,
     references: &References<'_>,
     most: usize,
     value: &Value<'_>,
-    room: &mut [u8],
+    memory: &mut [u8],
     from: usize,
 ) -> Option<usize>
     requires value { value.now.len ≤ length value.now.bytes.now }
     requires plain { is_numeric frame.now.kind ≡ true → IfSome (value_of value.now) (λ t. list_all is_unescaped t ≡ true) }
     requires references { IsOfReferences (length references.now) frame.now }
-    requires room { from + fact_room frame.now most value.now.len ≤ length room.old }
-    ensures object { MatchOption result (Stays room.old room.new from) (λ end. WritesObject references.now frame.now value.now room.old room.new from end) }
-    ensures behind { IfSome result (λ end. end + 32 ≤ length room.new) }
+    requires memory { from + fact_room frame.now most value.now.len ≤ length memory.old }
+    ensures object { MatchOption result (Stays memory.old memory.new from) (λ end. WritesObject references.now frame.now value.now memory.old memory.new from end) }
+    ensures behind { IfSome result (λ end. end + 32 ≤ length memory.new) }
 {
-    let (at, rest) = write_opening(frame, references, value, room, from)?;
+    let (at, rest) = write_opening(frame, references, value, memory, from)?;
     let body = at + (frame.body - rest);
     let end = write_runs(
         &frame.text,
         frame.runs.as_slice(),
         references,
         most,
-        room,
+        memory,
         at,
         rest,
     )?;
-    let at = close_dimensions(room, body, end);
-    Some(write_value(frame.kind, value, room, at))
+    let at = close_dimensions(memory, body, end);
+    Some(write_value(frame.kind, value, memory, at))
 }
 
-/// Writes a fact whose text begins with `start`, and answers where it ends. None where it is not by the fast way.
+/// Writes a fact whose text begins with `start`. Returns where it ends, or None if the fast way
+/// leaves it.
 #[inline(always)]
 fn write_fact(
     frame: &FrameText,
@@ -257,22 +260,22 @@ fn write_fact(
     most: usize,
     start: &TextBuffer,
     value: &Value<'_>,
-    room: &mut [u8],
+    memory: &mut [u8],
     from: usize,
 ) -> Option<usize>
     requires value { value.now.len ≤ length value.now.bytes.now }
     requires plain { is_numeric frame.now.kind ≡ true → IfSome (value_of value.now) (λ t. list_all is_unescaped t ≡ true) }
     requires references { IsOfReferences (length references.now) frame.now }
-    requires room { from + length start.now.items + fact_room frame.now most value.now.len ≤ length room.old }
-    ensures fact { TriesFact references.now frame.now value.now start.now.items room.old room.new from result }
-    ensures behind { IfSome result (λ end. end + 32 ≤ length room.new) }
+    requires memory { from + length start.now.items + fact_room frame.now most value.now.len ≤ length memory.old }
+    ensures fact { TriesFact references.now frame.now value.now start.now.items memory.old memory.new from result }
+    ensures behind { IfSome result (λ end. end + 32 ≤ length memory.new) }
 {
-    let at = copy_text(room, from, start);
-    write_object(frame, references, most, value, room, at)
+    let at = copy_text(memory, from, start);
+    write_object(frame, references, most, value, memory, at)
 }
 
-/// Appends a fact whose text begins with `start`, and whose value is not long. False where it is not by the fast way. Fails where
-/// memory is short. Then nothing is appended.
+/// Appends a fact whose text begins with `start` and whose value is short. Returns false, and
+/// appends nothing, if the fast way leaves it.
 #[inline(always)]
 fn put_short(
     frame: &FrameText,
@@ -291,14 +294,14 @@ fn put_short(
     let Some(size) = room_for(frame, most, start.len(), value.len) else {
         return Ok(false);
     };
-    make_room(&mut out.room, out.len, size)?;
+    make_room(&mut out.memory, out.len, size)?;
     let end = write_fact(
         frame,
         references,
         most as usize,
         start,
         value,
-        &mut out.room,
+        &mut out.memory,
         out.len,
     );
     match end {
@@ -310,8 +313,8 @@ fn put_short(
     }
 }
 
-/// Puts a value and the end of its fact in place of those of the empty text, which take two bytes. Fails where memory is short; what
-/// stands before them stays at the front.
+/// Writes a value and the end of its fact over those of the empty text, which are the last two
+/// bytes. If memory runs out, the text before them stays.
 fn put_value(out: &mut TextBuffer, value: &Value<'_>) -> Result<(), AllocError>
     requires value { value.now.len ≤ length value.now.bytes.now }
     requires end { 2 ≤ length out.old.items }
@@ -325,8 +328,8 @@ fn put_value(out: &mut TextBuffer, value: &Value<'_>) -> Result<(), AllocError>
     out.put(b"\"}")
 }
 
-/// Appends a fact whose value is long: that of the empty text first, whose end it takes back. False where it is not by the fast way.
-/// Fails where memory is short. Then nothing is appended.
+/// Appends a fact whose value is long. It appends the fact of the empty text first, and then
+/// replaces the end. Returns false, and appends nothing, if the fast way leaves it.
 #[cold]
 #[inline(never)]
 fn put_long(
@@ -357,7 +360,8 @@ fn put_long(
     }
 }
 
-/// Appends a fact of any length. False where it is not by the fast way. Fails where memory is short. Then nothing is appended.
+/// Appends a fact with a value of any length. Returns false, and appends nothing, if the fast way
+/// leaves it.
 #[inline(always)]
 fn put_any(
     frame: &FrameText,
@@ -378,7 +382,8 @@ fn put_any(
     }
 }
 
-/// The same of a value that is nil or states its accuracy. They are written apart from the others, which are more.
+/// Does the work of `put_any` for a value that is nil or has a suffix. It is a call of its own
+/// because the other values are more frequent and are inlined.
 #[inline(never)]
 fn put_unsettled(
     frame: &FrameText,
@@ -395,8 +400,8 @@ fn put_unsettled(
     put_any(frame, references, start, &value, out)
 }
 
-/// Appends a fact whose text begins with `start`. False where it is not by the fast way. Fails where memory is short. Then nothing
-/// is appended.
+/// Appends a fact whose text begins with `start`. Returns false, and appends nothing, if the fast
+/// way leaves it. If memory runs out, appends nothing.
 #[inline(always)]
 pub(crate) fn put_fact(
     frame: &FrameText,

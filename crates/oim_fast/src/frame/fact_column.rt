@@ -20,11 +20,11 @@ use oim_rows::TableHeader;
 use oim_text::{TextBuffer, put_escaped};
 use std::alloc::{AllocError, Global};
 
-/// How many of the frames that a column had last are guessed.
+/// How many of a column's last frames are tried first.
 pub(crate) const GUESSES: usize = 4;
 
-/// A column of facts: its place in the template and in the header, and the columns of property groups that it takes from, by
-/// their places among those of the table.
+/// A column of facts: its place in the template and in the header, and its columns of property
+/// groups, by their places among those of the table.
 #[derive(Drop)]
 pub(crate) struct FactColumn<'a> {
     pub(crate) column: usize,
@@ -33,13 +33,13 @@ pub(crate) struct FactColumn<'a> {
     pub(crate) groups: Vec<usize>,
     /// The text of a fact from the dot before the column's identifier to the brace of its object.
     pub(crate) lead: TextBuffer,
-    /// The places of the frames that it had last: without a kind, by a number of the group that the row names, and with one. Each is a
-    /// guess, and is tested.
+    /// The places of its last frames: without a kind, by a number of the group that the row names,
+    /// and with a kind. Each is a guess that is tested.
     pub(crate) last: [usize; GUESSES],
     pub(crate) last_of_kind: usize,
 }
 
-/// From the dot behind the row's identifier up to the brace of the object. Fails where memory is short.
+/// Returns the text from the dot after the row's identifier up to the brace of the object.
 #[tactic(auto, using(std::proofs::Common::append_assoc), unfolding(oim_json::specs::JsonText::escaped_byte))]
 fn lead_of(alloc: Global, column: &Column) -> Result<TextBuffer, AllocError>
     ensures { IfOk result (λ t. t.items ≡ flat_map escaped_byte (codes "." ++ column.now.id) ++ codes "\":{") }
@@ -51,7 +51,7 @@ fn lead_of(alloc: Global, column: &Column) -> Result<TextBuffer, AllocError>
     Ok(lead)
 }
 
-/// The places of the columns of property groups that a column takes from. Fails where memory is short.
+/// Returns the places of the columns of property groups that a column takes from.
 fn groups_of<'a>(
     alloc: Global,
     header: &TableHeader<'a>,
@@ -73,8 +73,7 @@ fn groups_of<'a>(
     Ok(groups)
 }
 
-/// What is kept of the column that a place of the header names. None where it names none that holds facts. Fails where memory is
-/// short.
+/// Returns the column of facts that place `i` of the header names, or None if it names none.
 fn fact_column<'a>(
     alloc: Global,
     header: &TableHeader<'a>,
@@ -113,7 +112,7 @@ fn fact_column<'a>(
     }))
 }
 
-/// The columns of facts of a header, in its order. Fails where memory is short.
+/// Returns the columns of facts of a header, in its order.
 pub(crate) fn fact_columns<'a>(
     alloc: Global,
     header: &TableHeader<'a>,
@@ -132,7 +131,7 @@ pub(crate) fn fact_columns<'a>(
     Ok(facts)
 }
 
-/// A number for a kind, and another for none: no two have the same.
+/// Returns a number for a kind or for no kind. No two are equal.
 #[inline(always)]
 pub(crate) fn kind_number(kind: Option<Kind>) -> u64
     ensures { result ≡ kind_code kind }
@@ -153,7 +152,7 @@ pub(crate) fn kind_number(kind: Option<Kind>) -> u64
 }
 
 impl FactColumn<'_> {
-    /// Whether nothing is known of a cell of groups that it takes from, in the row at hand.
+    /// Returns whether a column of groups that it takes from is unknown in the current row.
     #[cold]
     #[inline(never)]
     pub(crate) fn has_unknown(&self, cells: &GroupCells<'_>) -> bool
@@ -168,7 +167,7 @@ impl FactColumn<'_> {
         false
     }
 
-    /// A hash of the column, the groups that the row at hand names, and a kind. No answer depends on it.
+    /// Returns a hash of the column, the groups that the current row names, and a kind.
     pub(crate) fn hash(&self, cells: &GroupCells<'_>, kind: Option<Kind>) -> u64
         requires { All (λ p. p < length cells.now.list.items) self.now.groups.items }
     {

@@ -13,16 +13,17 @@ use oim_rows::TableHeader;
 use oim_text::{TextBuffer, put_escaped, put_escaped_front};
 use std::alloc::{AllocError, Global};
 
-/// The text of a fact up to the identifier of its row, in its first `lead` bytes, and with the identifier.
+/// The text of a fact up to the identifier of its row, which is its first `lead` bytes, and with
+/// that identifier.
 #[derive(Drop)]
 pub(crate) struct FactStart {
     pub(crate) lead: usize,
     pub(crate) start: TextBuffer,
-    /// The number of the row, where it is known that the text ends with its digits.
+    /// The number of the row, if the text is known to end with its digits.
     pub(crate) number: Option<u32>,
 }
 
-/// Appends the identifier of a row, escaped. Fails where memory is short.
+/// Appends the escaped identifier of a row.
 fn put_id(out: &mut TextBuffer, row: &TableRow<'_, '_>) -> Result<(), AllocError>
     ensures id { OnOk result (out.new.items ≡ out.old.items ++ flat_map escaped_byte (row_in row.now).id) }
     ensures stays { IsPrefix out.old.items out.new.items }
@@ -41,7 +42,7 @@ fn put_id(out: &mut TextBuffer, row: &TableRow<'_, '_>) -> Result<(), AllocError
 }
 
 impl FactStart {
-    /// The text of a table, and no row yet. Fails where memory is short.
+    /// Makes the start of a table's facts, before its first row.
     pub(crate) fn new(alloc: Global, header: &TableHeader<'_>) -> Result<FactStart, AllocError>
         ensures { IfOk result (IsStartOf header.now) }
     {
@@ -56,8 +57,8 @@ impl FactStart {
         })
     }
 
-    /// Goes on to a row, if only the last digit of its number is another than that of the row before. Else nothing is changed. Says
-    /// whether it did.
+    /// Moves to a row whose number is one more than that of the last row, if only the last digit
+    /// changes, and returns true. Otherwise changes nothing and returns false.
     #[inline(always)]
     fn step(&mut self, row: &TableRow<'_, '_>) -> bool
         requires { IsStartOf row.now.header self.old }
@@ -81,7 +82,7 @@ impl FactStart {
         true
     }
 
-    /// Goes on to a row. Fails where memory is short.
+    /// Moves to a row.
     #[inline(always)]
     pub(crate) fn read(&mut self, row: &TableRow<'_, '_>) -> Result<(), AllocError>
         requires { IsStartOf row.now.header self.old }

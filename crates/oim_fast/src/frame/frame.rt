@@ -5,46 +5,46 @@ ghost use Rattle.std.specs.Prelude.{◌≡◌, IfSome};
 use crate::frame::frame_text::FrameText;
 use oim_row::Choice;
 
-/// What a frame is.
+/// What a frame holds.
 #[derive(Drop)]
-pub(crate) enum Body {
+pub(crate) enum FrameBody {
     Text(FrameText),
-    /// The concept is what the reference at a place names. There is a frame for each kind beside this one.
+    /// The reference at this place names the concept. Each kind of concept has a further frame.
     ByConcept(usize),
-    /// Nothing is known: its facts are not by the fast way.
+    /// Nothing is known: the fast way leaves its facts.
     Unknown,
 }
 
-/// A column of facts under some choices of groups, where the concept is of a kind, or where that is not asked.
+/// A column of facts under some choices of groups, for one kind of concept or for none.
 #[derive(Drop)]
 pub(crate) struct Frame {
     pub(crate) column: usize,
-    /// The number of the kind, or of none.
+    /// The number of the kind, or of no kind.
     pub(crate) kind: u64,
     pub(crate) choices: Vec<Choice>,
-    pub(crate) body: Body,
+    pub(crate) body: FrameBody,
 }
 
 impl Frame {
-    /// The place of the reference that names its concept, where one does.
+    /// Returns the place of the reference that names its concept, if one does.
     pub(crate) fn concept(&self) -> Option<usize>
-        ensures { IfSome result (λ i. self.now.body ≡ Body.ByConcept i) }
+        ensures { IfSome result (λ i. self.now.body ≡ FrameBody.ByConcept i) }
     {
         match self.body {
-            Body::ByConcept(reference) => Some(reference),
-            Body::Text(_) | Body::Unknown => None,
+            FrameBody::ByConcept(reference) => Some(reference),
+            FrameBody::Text(_) | FrameBody::Unknown => None,
         }
     }
 
-    /// How many bytes of memory it takes, about. No answer depends on it.
+    /// Returns about how many bytes of memory the frame takes.
     pub(crate) fn size(&self) -> usize {
         let text = match &self.body {
-            Body::Text(text) => text
+            FrameBody::Text(text) => text
                 .text
-                .room
+                .memory
                 .len()
                 .saturating_add(text.runs.len().saturating_mul(24)),
-            Body::ByConcept(_) | Body::Unknown => 0,
+            FrameBody::ByConcept(_) | FrameBody::Unknown => 0,
         };
         text.saturating_add(self.choices.len().saturating_mul(16))
             .saturating_add(192)

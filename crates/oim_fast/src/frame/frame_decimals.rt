@@ -3,7 +3,7 @@
 ghost use Rattle.std.specs.Prelude.{◌≡◌, [], IfOk, map};
 ghost use Rattle.std.specs.List.{All};
 ghost use Rattle.oim_resolve.specs.Values.{Read};
-ghost use Rattle.oim_fast.specs.state.Parts.{AreDecimals, IsStated};
+ghost use Rattle.oim_fast.specs.state.FrameParts.{AreDecimals, IsStated};
 ghost use Rattle.oim_fast.specs.state.Pieces.{parameter_meaning};
 ghost use Rattle.oim_row.specs.References.{Grows, IsFresh, key_of};
 
@@ -13,18 +13,18 @@ use oim_row::{Answer, Purpose, References, TableRow, put_decimals, source_of_dec
 use oim_text::TextBuffer;
 use std::alloc::{AllocError, Global};
 
-/// The decimals that levels write.
+/// The decimals that the levels write.
 #[derive(Clone, Copy)]
 pub(crate) enum FrameDecimals {
-    /// They stand in the text, or none are stated.
+    /// They are in the text, or the facts have none.
     Settled,
     /// What the reference at a place gives.
     Reference(usize),
-    /// They are not known: facts that ask for them are not by the fast way.
+    /// They are not known: the fast way leaves the facts that need them.
     Unknown,
 }
 
-/// Puts the decimals of the parameter of a name into the empty `settled`. Fails where memory is short.
+/// Puts the decimals that the parameter `name` gives into the empty `settled`.
 fn put_parameter(
     alloc: Global,
     row: &TableRow<'_, '_>,
@@ -48,8 +48,8 @@ fn put_parameter(
     Ok(FrameDecimals::Settled)
 }
 
-/// What written decimals give: their text is put into the empty `settled` where it is the same in each row. Fails where memory is
-/// short.
+/// Prepares written decimals. Their text goes into the empty `settled` if it is the same in each
+/// row.
 pub(crate) fn decimals_ready<'a>(
     alloc: Global,
     row: &TableRow<'a, '_>,

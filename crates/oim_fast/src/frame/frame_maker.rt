@@ -1,4 +1,4 @@
-//! What makes the frames of a table.
+//! The maker of a table's frames.
 
 ghost use Rattle.std.specs.Prelude.{◌≡◌, ◌<◌, ◌++◌, [], IfOk, IfSome, OnOk, length, map};
 ghost use Rattle.std.specs.List.{All};
@@ -16,26 +16,28 @@ ghost use Rattle.oim_resolve.specs.state.ProgramLevels.{written_entries};
 ghost use Rattle.oim_row.specs.References.{Grows, IsFresh, key_of};
 
 use crate::frame::fact_column::{FactColumn, kind_number};
-use crate::frame::frame::{Body, Frame};
+use crate::frame::frame::{Frame, FrameBody};
 use crate::frame::frame_decimals::{FrameDecimals, decimals_ready};
 use crate::frame::frame_text::FrameText;
-use crate::frame::part::{Part, PartValue};
-use crate::frame::parts::Parts;
+use crate::frame::part::{FramePart, PartValue};
+use crate::frame::parts::FrameParts;
 use oim_report::{Kind, Level};
 use oim_resolve::levels::{names, written, written_decimals};
 use oim_row::{Choice, GroupCells, References, TableRow};
 use oim_text::TextBuffer;
 use std::alloc::{AllocError, Global};
 
-/// What makes the frames of a table: its references, its columns of groups, and the dimensions that levels write, made ready.
+/// The maker of a table's frames: its references, its columns of groups, and the prepared
+/// dimensions.
 #[derive(Drop)]
 pub(crate) struct FrameMaker<'a> {
     pub(crate) references: References<'a>,
     pub(crate) cells: GroupCells<'a>,
-    pub(crate) parts: Parts<'a>,
+    pub(crate) parts: FrameParts<'a>,
 }
 
-/// The kind of the concept that levels write, where it is the same in each row, or the place of its reference.
+/// The kind of the concept that the levels write, if it is the same in each row, or the place of
+/// its reference.
 #[derive(Clone, Copy)]
 pub(crate) enum Concept {
     Constant(Kind),
@@ -44,18 +46,18 @@ pub(crate) enum Concept {
     Unknown,
 }
 
-/// The body of a text, where there is one.
-fn body_of(text: Option<FrameText>) -> Body
+/// Returns the body of a text, if it exists.
+fn body_of(text: Option<FrameText>) -> FrameBody
     ensures { IsBodyOf text result }
 {
     match text {
-        Some(text) => Body::Text(text),
-        None => Body::Unknown,
+        Some(text) => FrameBody::Text(text),
+        None => FrameBody::Unknown,
     }
 }
 
-/// What a part says of the concept.
-fn concept_of(part: &Part<'_>) -> Concept
+/// Returns what a part gives for the concept.
+fn concept_of(part: &FramePart<'_>) -> Concept
     ensures { SaysConcept part.now result }
 {
     if let PartValue::Reference(reference) = part.value {
@@ -67,7 +69,7 @@ fn concept_of(part: &Part<'_>) -> Concept
     }
 }
 
-/// Pushes the levels of the groups that the row at hand names in columns of groups. Fails where memory is short.
+/// Pushes the levels of the groups that the current row names.
 fn push_groups<'a>(
     levels: &mut Vec<&'a Level>,
     groups: &[usize],
@@ -84,8 +86,8 @@ fn push_groups<'a>(
     Ok(())
 }
 
-/// The levels of a column under the groups that the row at hand names, from the most specific to the most general. Fails where
-/// memory is short.
+/// Returns the levels of a column under the groups that the current row names, from the most
+/// specific to the most general.
 fn levels_of<'a>(
     alloc: Global,
     row: &TableRow<'a, '_>,
@@ -109,7 +111,7 @@ fn levels_of<'a>(
     Ok(levels)
 }
 
-/// What the columns of groups say that a column takes from. Fails where memory is short.
+/// Returns what the columns of groups that a column takes from choose.
 fn choices_of(
     alloc: Global,
     column: &FactColumn<'_>,
@@ -127,8 +129,8 @@ fn choices_of(
     Ok(choices)
 }
 
-/// The decimals of facts of a kind: those that levels write, where they are numbers. Their text is put into the empty `settled`
-/// where it is the same in each row. Fails where memory is short.
+/// Returns the decimals that the levels write for facts of a kind. Only numbers have them. Their
+/// text goes into the empty `settled` if it is the same in each row.
 fn decimals_of<'a>(
     alloc: Global,
     row: &TableRow<'a, '_>,
@@ -153,7 +155,7 @@ fn decimals_of<'a>(
 }
 
 impl<'a> FrameMaker<'a> {
-    /// Nothing is ready but the columns of groups. It takes no memory.
+    /// Makes a maker that has only the columns of groups, without taking memory.
     pub(crate) fn new(alloc: Global, cells: GroupCells<'a>) -> FrameMaker<'a>
         ensures ready { (f : TableHeaderValue) → All (IsGroupCell f) cells.entry.list.items → IsReadyMaker f result }
         ensures references { result.references ≡ [] }
@@ -162,11 +164,11 @@ impl<'a> FrameMaker<'a> {
         FrameMaker {
             references: References::new(alloc),
             cells,
-            parts: Parts::new(alloc),
+            parts: FrameParts::new(alloc),
         }
     }
 
-    /// Goes on to a row. Fails where memory is short.
+    /// Moves to a row.
     #[inline(always)]
     pub(crate) fn refresh(
         &mut self,
@@ -184,7 +186,7 @@ impl<'a> FrameMaker<'a> {
         Ok(())
     }
 
-    /// What the levels write for the concept, where its kind is not given. Fails where memory is short.
+    /// Returns what the levels write for the concept, or the kind if it is given.
     fn concept(
         &mut self,
         alloc: Global,
@@ -212,7 +214,7 @@ impl<'a> FrameMaker<'a> {
         Ok(concept_of(part))
     }
 
-    /// The text up to the dimensions. Fails where memory is short.
+    /// Returns the text before the dimensions.
     fn opening(
         &mut self,
         alloc: Global,
@@ -233,7 +235,7 @@ impl<'a> FrameMaker<'a> {
         Ok(text)
     }
 
-    /// Adds the dimension of a name, which levels write. False where nothing is known of it. Fails where memory is short.
+    /// Adds the dimension of a name that the levels write. Returns false if nothing is known of it.
     fn add_dimension(
         &mut self,
         alloc: Global,
@@ -260,8 +262,8 @@ impl<'a> FrameMaker<'a> {
         Ok(added)
     }
 
-    /// Adds the dimensions that levels write, in byte order of name. False where nothing is known of one. Fails where memory is
-    /// short.
+    /// Adds the dimensions that the levels write, in byte order of their names. Returns false if
+    /// nothing is known of one.
     fn add_dimensions(
         &mut self,
         alloc: Global,
@@ -287,8 +289,8 @@ impl<'a> FrameMaker<'a> {
         Ok(true)
     }
 
-    /// The text of facts with these levels, whose concept is of a kind, behind a text that leads it in. None where nothing is known
-    /// of one of the dimensions. Fails where memory is short.
+    /// Returns the text of facts with these levels and a concept of this kind, after `lead`.
+    /// Returns None if nothing is known of one of the dimensions.
     fn text(
         &mut self,
         alloc: Global,
@@ -313,15 +315,15 @@ impl<'a> FrameMaker<'a> {
         Ok(Some(text))
     }
 
-    /// What the frame is of a column in the row at hand. `kind` is that of the concept, where a reference names it. Fails where
-    /// memory is short.
+    /// Returns the body of a column's frame in the current row. `kind` is that of the concept, if a
+    /// reference names it.
     fn body(
         &mut self,
         alloc: Global,
         row: &TableRow<'a, '_>,
         column: &FactColumn<'a>,
         kind: Option<Kind>,
-    ) -> Result<Body, AllocError>
+    ) -> Result<FrameBody, AllocError>
         requires maker { IsMaker row.now self.old }
         requires column { IsFactColumn row.now.header self.old.cells.list.items column.now }
         ensures body { IfOk result (IsBodyFor row.now.header (keys_in self.new) self.old.cells.list.items column.now kind) }
@@ -336,13 +338,13 @@ impl<'a> FrameMaker<'a> {
                 let text = self.text(alloc, row, &column.lead, levels.as_slice(), kind)?;
                 Ok(body_of(text))
             }
-            Concept::Reference(reference) => Ok(Body::ByConcept(reference)),
-            Concept::Unknown => Ok(Body::Unknown),
+            Concept::Reference(reference) => Ok(FrameBody::ByConcept(reference)),
+            Concept::Unknown => Ok(FrameBody::Unknown),
         }
     }
 
-    /// The frame of a column in the row at hand. `kind` is that of the concept, where a reference names it. Fails where memory is
-    /// short.
+    /// Returns the frame of a column in the current row. `kind` is that of the concept, if a
+    /// reference names it.
     pub(crate) fn frame(
         &mut self,
         alloc: Global,

@@ -1,10 +1,10 @@
-//! All of a column's facts that is the same in each row, as one text with places for what references give.
+//! The text of a column's facts that is the same in each row, with places for what references give.
 
 ghost use Rattle.std.specs.Prelude.{◌≡◌, ◌≤◌, ◌+◌, ◌++◌, [], IfOk, length, slice_range, take, true};
 ghost use Rattle.oim_fast.specs.state.FrameTexts.{dimensions_start, is_ready, with_part};
 
 use crate::frame::frame_decimals::FrameDecimals;
-use crate::frame::part::{Part, PartValue};
+use crate::frame::part::{FramePart, PartValue};
 use oim_report::Kind;
 use oim_text::TextBuffer;
 use std::alloc::{AllocError, Global};
@@ -12,7 +12,7 @@ use std::marker::Model;
 
 /// A reference, and where the text before it ends: without and with the name of its dimension.
 #[derive(Clone, Copy)]
-pub(crate) struct Run {
+pub(crate) struct TextRun {
     pub(crate) alone: usize,
     pub(crate) named: usize,
     pub(crate) reference: usize,
@@ -21,19 +21,21 @@ pub(crate) struct Run {
 /// How many bytes a frame's text has room for at first.
 const ROOM: usize = 512;
 
-/// The text of a column's facts from the dot before its identifier up to the end of its dimensions, each with a comma behind it:
-/// the identifier, the settled decimals, the dimensions. A contract sees its parts.
+/// The text of a column's facts from the dot before its identifier up to the end of its dimensions:
+/// the identifier, the settled decimals, and the dimensions with a comma after each.
+///
+/// Contracts see its parts.
 #[derive(Drop)]
 pub(crate) struct FrameText {
     pub(crate) text: TextBuffer,
     pub(crate) kind: Kind,
-    /// Where the decimals stand, or would stand, and where they end.
+    /// Where the decimals begin, even if there are none, and where they end.
     pub(crate) lead: usize,
     pub(crate) opening: usize,
     /// Where the dimensions begin.
     pub(crate) body: usize,
     pub(crate) decimals: FrameDecimals,
-    pub(crate) runs: Vec<Run>,
+    pub(crate) runs: Vec<TextRun>,
 }
 
 impl Model for FrameText {
@@ -55,7 +57,7 @@ impl Model for FrameText {
 }
 
 impl FrameText {
-    /// The text of an identifier and decimals, with no dimensions yet. Fails where memory is short.
+    /// Makes the text of an identifier and decimals, without dimensions.
     pub(crate) fn new(
         alloc: Global,
         kind: Kind,
@@ -82,7 +84,7 @@ impl FrameText {
         })
     }
 
-    /// Moves text and references to memory of their own size. Where there is none they stay.
+    /// Moves text and references to memory of their own size. If memory runs out, they stay.
     pub(crate) fn fit(&mut self, alloc: Global)
         ensures { self.new ≡ self.old }
     {
@@ -95,8 +97,9 @@ impl FrameText {
         }
     }
 
-    /// Adds a dimension, unless a fact of this kind does not have it. False where it is not known. Fails where memory is short.
-    pub(crate) fn add(&mut self, part: &Part<'_>) -> Result<bool, AllocError>
+    /// Adds a dimension, unless facts of this kind do not have it. Returns false if it is not
+    /// known.
+    pub(crate) fn add(&mut self, part: &FramePart<'_>) -> Result<bool, AllocError>
         ensures ready { IfOk result (λ added. added ≡ true → is_ready self.old part.now ≡ true) }
         ensures part { IfOk result (λ added. added ≡ true → self.new ≡ with_part self.old part.now) }
     {
@@ -113,7 +116,7 @@ impl FrameText {
             PartValue::Reference(reference) => {
                 let alone = self.text.len();
                 self.text.put(part.text.as_slice())?;
-                self.runs.push(Run {
+                self.runs.push(TextRun {
                     alone,
                     named: self.text.len(),
                     reference,

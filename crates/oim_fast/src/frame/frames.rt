@@ -13,7 +13,7 @@ ghost use Rattle.oim_fast.specs.state.StillHolds.{HoldsStill, HoldsWith};
 ghost use Rattle.oim_row.specs.state.Rows.{cell_in};
 
 use crate::frame::fact_column::{FactColumn, GUESSES, kind_number};
-use crate::frame::frame::{Body, Frame};
+use crate::frame::frame::{Frame, FrameBody};
 use crate::frame::frame_maker::FrameMaker;
 use crate::frame::frame_text::FrameText;
 use crate::frame::hash_index::{HashIndex, STEPS};
@@ -21,10 +21,10 @@ use oim_report::Kind;
 use oim_row::{Choice, GroupCells, TableRow};
 use std::alloc::{AllocError, Global};
 
-/// How much memory the frames of a table may take, about. Where they would take more, all of them are forgotten.
+/// About how much memory the frames of a table may take. A frame beyond it removes them all.
 const MOST: usize = 64 << 20;
 
-/// The frames of a table that are kept. A place is that of a frame until another frame is kept.
+/// The kept frames of a table. A place is valid until another frame is kept.
 #[derive(Drop)]
 pub(crate) struct Frames {
     pub(crate) list: Vec<Frame>,
@@ -32,7 +32,7 @@ pub(crate) struct Frames {
     size: usize,
 }
 
-/// Whether two choices are the same, and something is known of them.
+/// Returns whether two choices are equal and known.
 #[inline(always)]
 fn is_same_choice(first: Choice, second: Choice) -> bool
     ensures { result ≡ true → (first ≡ second) × (is_known_choice first ≡ true) }
@@ -44,7 +44,7 @@ fn is_same_choice(first: Choice, second: Choice) -> bool
     }
 }
 
-/// Whether choices are those that the row at hand makes in columns of groups, and something is known of each.
+/// Returns whether the current row makes these choices in the columns of groups, all of them known.
 #[inline(always)]
 fn are_chosen(choices: &[Choice], groups: &[usize], cells: &GroupCells<'_>) -> bool
     requires { All (λ p. p < length cells.now.list.items) groups.now }
@@ -62,7 +62,7 @@ fn are_chosen(choices: &[Choice], groups: &[usize], cells: &GroupCells<'_>) -> b
     true
 }
 
-/// Whether a frame is that of a column and a kind under the groups that the row at hand names.
+/// Returns whether a frame is for this column and kind under the groups that the current row names.
 #[inline(always)]
 fn is_for(
     frame: &Frame,
@@ -82,7 +82,8 @@ fn is_for(
     are_chosen(frame.choices.as_slice(), column.groups.as_slice(), cells)
 }
 
-/// Which guess is that of the row at hand, by the group that it names in the first of a column's columns of groups.
+/// Returns which guess fits the current row, by the group that it names in the first of a column's
+/// columns of groups.
 #[inline(always)]
 fn guess_of(groups: &[usize], cells: &GroupCells<'_>) -> usize
     requires { All (λ p. p < length cells.now.list.items) groups.now }
@@ -98,7 +99,7 @@ fn guess_of(groups: &[usize], cells: &GroupCells<'_>) -> usize
 }
 
 impl Frames {
-    /// No frames. It takes no memory.
+    /// Makes an empty list, without taking memory.
     pub(crate) fn new(alloc: Global) -> Frames
         ensures { result.list.items ≡ [] }
     {
@@ -109,7 +110,7 @@ impl Frames {
         }
     }
 
-    /// Whether the frame at a place is that of a column and a kind in the row at hand.
+    /// Returns whether the frame at a place is for this column and kind in the current row.
     #[inline(always)]
     fn is_at(
         &self,
@@ -128,7 +129,8 @@ impl Frames {
         is_for(frame, column, cells, kind)
     }
 
-    /// The place of the frame of a column and a kind in the row at hand, where it is kept and found.
+    /// Returns the place of the frame for this column and kind in the current row, if it is kept
+    /// and the search finds it.
     #[inline(never)]
     fn find(
         &self,
@@ -149,7 +151,8 @@ impl Frames {
         None
     }
 
-    /// Forgets all frames where another one of a size would take too much memory. Counts that one.
+    /// Counts one more frame of this size. If the frames then take too much memory, removes them
+    /// all.
     fn make_room(&mut self, size: usize)
         ensures { HoldsStill IsFrame self.old.list.items self.new.list.items }
     {
@@ -163,7 +166,7 @@ impl Frames {
         self.size = size;
     }
 
-    /// Keeps a frame, and answers its place. Fails where memory is short.
+    /// Keeps a frame, and returns its place.
     fn keep(&mut self, alloc: Global, hash: u64, frame: Frame) -> Result<usize, AllocError>
         ensures place { IfOk result (λ place. slice_get self.new.list.items place ≡ Some frame) }
         ensures frames { HoldsWith IsFrame self.old.list.items frame self.new.list.items }
@@ -175,8 +178,8 @@ impl Frames {
         Ok(place)
     }
 
-    /// The place of the frame of a column and a kind in the row at hand, which is looked for by its hash, or made. Fails where
-    /// memory is short.
+    /// Returns the place of the frame for this column and kind in the current row. Searches it by
+    /// its hash, and makes it if it is not found.
     #[inline(never)]
     fn place<'a>(
         &mut self,
@@ -204,8 +207,8 @@ impl Frames {
         Ok(place)
     }
 
-    /// The place of the frame of a column in the row at hand, its concept apart. None where nothing is known of a group that the row
-    /// names. Fails where memory is short.
+    /// Returns the place of the column's frame in the current row, for no kind. Returns None if a
+    /// group that the row names is unknown.
     #[inline(always)]
     fn first<'a>(
         &mut self,
@@ -237,8 +240,8 @@ impl Frames {
         Ok(Some(place))
     }
 
-    /// The place of the frame of a column in the row at hand, whose concept the reference at a place names. None where its kind is
-    /// not known. Fails where memory is short.
+    /// Returns the place of the column's frame in the current row for the kind of the concept that
+    /// the reference names. Returns None if the kind is not known.
     #[inline(never)]
     fn by_concept<'a>(
         &mut self,
@@ -272,8 +275,8 @@ impl Frames {
         Ok(Some(place))
     }
 
-    /// The place of the frame of a column in the row at hand. None where its facts are not by the fast way. Fails where memory is
-    /// short.
+    /// Returns the place of a column's frame in the current row, or None if the fast way leaves its
+    /// facts.
     #[inline(always)]
     pub(crate) fn frame_for<'a>(
         &mut self,
@@ -305,7 +308,7 @@ impl Frames {
         Ok(found)
     }
 
-    /// The text of the frame at a place, where it has one.
+    /// Returns the text of the frame at a place, if it has one.
     #[inline(always)]
     pub(crate) fn text(&self, place: usize) -> Option<&FrameText>
         ensures { IfSome result (λ t. text_in self.now.list.items place ≡ Some t.now) }
@@ -315,8 +318,8 @@ impl Frames {
         }
         let frame = &self.list[place];
         match &frame.body {
-            Body::Text(text) => Some(text),
-            Body::ByConcept(_) | Body::Unknown => None,
+            FrameBody::Text(text) => Some(text),
+            FrameBody::ByConcept(_) | FrameBody::Unknown => None,
         }
     }
 }

@@ -1,31 +1,33 @@
-//! Where in a list a value may stand, by its hash.
+//! The places in a list at which a value may be, by its hash.
 
 ghost use Rattle.std.specs.Prelude.{◌<◌};
 
 use std::alloc::{AllocError, Global};
 
-/// Places of a list by hash. No answer depends on it: who asks tests whether the right value stands at a place, and does
-/// without where there is none. So nothing need be known of it.
+/// An index from a hash to places of a list.
+///
+/// It is only a hint. Callers test whether the right value is at a place, so no contract speaks of
+/// it.
 #[derive(Drop)]
 pub(crate) struct HashIndex {
-    /// The end of a hash and a place, or `NONE`. As many as a power of two, or none at all.
+    /// The low bits of a hash and a place, or `NONE`. The length is 0 or a power of two.
     entries: Vec<(u32, u32)>,
     count: usize,
 }
 
 const NONE: u32 = u32::MAX;
 
-/// How many entries behind one another a place is looked for in.
+/// How many consecutive entries a search tries.
 pub(crate) const STEPS: usize = 16;
 
-/// A hash, and one more number.
+/// Returns the hash of a hash and one more number.
 #[inline(always)]
 pub(crate) fn hash_with(hash: u64, number: u64) -> u64 {
     let mixed = (hash ^ number).wrapping_mul(0x9e37_79b9_7f4a_7c15);
     mixed ^ (mixed >> 29)
 }
 
-/// The hash of a text.
+/// Returns the hash of a text.
 #[inline]
 pub(crate) fn hash_of(text: &[u8]) -> u64 {
     let mut hash = text.len() as u64;
@@ -35,13 +37,13 @@ pub(crate) fn hash_of(text: &[u8]) -> u64 {
     hash_with(hash, 0)
 }
 
-/// The end of a hash.
+/// Returns the low 32 bits of a hash.
 #[inline(always)]
 fn end_of(hash: u64) -> u32 {
     (hash & 0xffff_ffff) as u32
 }
 
-/// Where in so many entries one stands at a step from a hash.
+/// Returns which of `entries` entries is `step` steps after the first one for a hash.
 #[inline(always)]
 fn entry_at(hash: u64, step: usize, entries: usize) -> usize
     requires { 0 < entries }
@@ -51,7 +53,7 @@ fn entry_at(hash: u64, step: usize, entries: usize) -> usize
 }
 
 impl HashIndex {
-    /// No places. It takes no memory.
+    /// Makes an empty index, without taking memory.
     pub(crate) fn new(alloc: Global) -> HashIndex {
         HashIndex {
             entries: Vec::new(alloc),
@@ -59,7 +61,8 @@ impl HashIndex {
         }
     }
 
-    /// The place that is noted at a step from a hash: any place, or none.
+    /// Returns the place in the entry at a step from a hash: any place, or None if the entry is
+    /// free.
     #[inline(always)]
     pub(crate) fn place_at(&self, hash: u64, step: usize) -> Option<usize> {
         let len = self.entries.len();
@@ -76,7 +79,7 @@ impl HashIndex {
         }
     }
 
-    /// Notes a place. Where no entry is free it takes that of another, which is forgotten.
+    /// Adds a place to a free entry. If none is free, it replaces another place.
     fn note(&mut self, hash: u64, place: u32) {
         let len = self.entries.len();
         if len == 0 {
@@ -92,7 +95,7 @@ impl HashIndex {
         self.entries[entry_at(hash, 0, len)] = (end_of(hash), place);
     }
 
-    /// Doubles the entries. Fails where memory is short.
+    /// Doubles the entries.
     fn widen(&mut self, alloc: Global) -> Result<(), AllocError> {
         let mut wider = HashIndex::new(alloc);
         let len = self.entries.len().saturating_mul(2);
@@ -110,7 +113,7 @@ impl HashIndex {
         Ok(())
     }
 
-    /// Adds a place. Fails where memory is short.
+    /// Adds a place.
     pub(crate) fn add(&mut self, alloc: Global, hash: u64, place: usize) -> Result<(), AllocError> {
         if self.count >= self.entries.len() / 2 {
             self.widen(alloc)?;
@@ -122,7 +125,7 @@ impl HashIndex {
         Ok(())
     }
 
-    /// Forgets all places. The memory is kept.
+    /// Removes all places, and keeps the memory.
     pub(crate) fn clear(&mut self) {
         for i in 0..self.entries.len() {
             self.entries[i] = (0, NONE);

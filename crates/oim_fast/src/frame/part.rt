@@ -1,9 +1,9 @@
-//! A dimension that a level writes, made ready for the rows.
+//! A dimension that a level writes, prepared for the rows.
 
 ghost use Rattle.std.specs.Prelude.{◌≡◌, List, None, IfOk, map};
 ghost use Rattle.std.specs.List.{All};
 ghost use Rattle.oim_resolve.specs.Facts.{role_of};
-ghost use Rattle.oim_fast.specs.state.Parts.{IsPart, PutsAnswer};
+ghost use Rattle.oim_fast.specs.state.FrameParts.{IsPart, PutsAnswer};
 ghost use Rattle.oim_fast.specs.state.Pieces.{name_text};
 ghost use Rattle.oim_row.specs.References.{Grows, IsFresh, Key, key_of};
 ghost use Rattle.oim_row.specs.Sources.{source_written};
@@ -20,27 +20,27 @@ use std::alloc::{AllocError, Global};
 #[derive(Clone, Copy)]
 pub(crate) enum PartValue {
     Nothing,
-    /// The part's text: name and value with a comma behind it.
+    /// The part's text: name and value, with a comma after them.
     Text,
-    /// What the reference at a place gives, behind the part's text: name and colon.
+    /// The part's text, which is name and colon, and then what the reference at a place gives.
     Reference(usize),
-    /// It is not known: facts that have it are not by the fast way.
+    /// It is not known: the fast way leaves the facts that have it.
     Unknown,
 }
 
 /// A dimension that a level writes.
 #[derive(Drop)]
-pub(crate) struct Part<'a> {
+pub(crate) struct FramePart<'a> {
     pub(crate) name: &'a str,
     pub(crate) written: &'a Written,
     pub(crate) role: Role,
     pub(crate) value: PartValue,
     pub(crate) text: TextBuffer,
-    /// The kind of the concept that it names in each row.
+    /// The kind of the concept that it names, if it names the same one in each row.
     pub(crate) kind: Option<Kind>,
 }
 
-/// The name of a dimension in quotes, with its colon. Fails where memory is short.
+/// Returns the name of a dimension in quotes, with its colon.
 #[tactic(auto, using(std::proofs::Common::append_assoc))]
 fn name_of(alloc: Global, name: &str) -> Result<TextBuffer, AllocError>
     ensures { IfOk result (λ t. t.items ≡ name_text name.now) }
@@ -51,7 +51,7 @@ fn name_of(alloc: Global, name: &str) -> Result<TextBuffer, AllocError>
     Ok(text)
 }
 
-/// Puts the JSON text of an answer behind the name of its dimension. Fails where memory is short.
+/// Puts the JSON text of an answer after the name of its dimension.
 fn put_answer(text: &mut TextBuffer, answer: &Answer) -> Result<PartValue, AllocError>
     ensures { IfOk result (λ value. PutsAnswer answer.now text.old.items text.new.items value) }
 {
@@ -65,15 +65,15 @@ fn put_answer(text: &mut TextBuffer, answer: &Answer) -> Result<PartValue, Alloc
     Ok(PartValue::Text)
 }
 
-impl<'a> Part<'a> {
-    /// A dimension that means the same in each row, whose role is known. Fails where memory is short.
+impl<'a> FramePart<'a> {
+    /// Prepares a dimension whose meaning is the same in each row.
     fn constant(
         alloc: Global,
         header: &TableHeader<'a>,
         role: Role,
         name: &'a str,
         written: &'a Written,
-    ) -> Result<Part<'a>, AllocError>
+    ) -> Result<FramePart<'a>, AllocError>
         requires same { source_written header.now written.now ≡ None }
         requires role { role ≡ role_of header.now.report name.now }
         ensures part { (keys : List Key) → IfOk result (λ p. IsPart header.now keys p) }
@@ -89,7 +89,7 @@ impl<'a> Part<'a> {
         )?;
         let mut text = name_of(alloc, name)?;
         let value = put_answer(&mut text, &answer)?;
-        Ok(Part {
+        Ok(FramePart {
             name,
             written,
             role,
@@ -99,14 +99,14 @@ impl<'a> Part<'a> {
         })
     }
 
-    /// A dimension, with its reference, made where there is none yet. Fails where memory is short.
+    /// Prepares a dimension. If it needs a reference that does not exist yet, makes it.
     pub(crate) fn new(
         alloc: Global,
         row: &TableRow<'a, '_>,
         references: &mut References<'a>,
         name: &'a str,
         written: &'a Written,
-    ) -> Result<Part<'a>, AllocError>
+    ) -> Result<FramePart<'a>, AllocError>
         requires { All (IsFresh row.now) references.old }
         ensures part { IfOk result (λ p. IsPart row.now.header (map key_of references.new) p) }
         ensures named { IfOk result (λ p. (p.name.now ≡ name.now) × (p.written.now ≡ written.now)) }
@@ -115,12 +115,12 @@ impl<'a> Part<'a> {
     {
         let role = Role::of(row.report(), name);
         let Some(source) = source_of(row.header(), written) else {
-            return Part::constant(alloc, row.header(), role, name, written);
+            return FramePart::constant(alloc, row.header(), role, name, written);
         };
         let text = name_of(alloc, name)?;
         let purpose = Purpose::Dimension(role, side_of(written));
         let place = references.place_for(alloc, row, purpose, source)?;
-        Ok(Part {
+        Ok(FramePart {
             name,
             written,
             role,

@@ -1,30 +1,30 @@
-//! The dimensions that the levels of a table write, made ready, each once.
+//! The dimensions that the levels of a table write, each prepared once.
 
 ghost use Rattle.std.specs.Prelude.{◌≡◌, [], Some, IfOk, IfSome, map, true};
 ghost use Rattle.std.specs.List.{All, slice_get};
 ghost use Rattle.std.specs.Option.{option_map};
 ghost use Rattle.oim_fast.specs.state.Frames.{entry_of};
-ghost use Rattle.oim_fast.specs.state.Parts.{IsPart};
+ghost use Rattle.oim_fast.specs.state.FrameParts.{IsPart};
 ghost use Rattle.oim_row.specs.References.{Grows, IsFresh, key_of};
 ghost use Rattle.oim_fast.specs.state.StillHolds.{HoldsStill, HoldsWith};
 
 use crate::frame::hash_index::{HashIndex, STEPS, hash_of, hash_with};
-use crate::frame::part::Part;
+use crate::frame::part::FramePart;
 use oim_report::Written;
 use oim_row::{References, TableRow, is_same_side};
 use std::alloc::{AllocError, Global};
 
-/// How many parts are kept at most. Where there would be more, all of them are forgotten.
+/// The most parts that are kept. One more removes them all.
 const MOST: usize = 4096;
 
-/// The dimensions that levels write. A place is that of a part until another part is asked for.
+/// The prepared dimensions. A place is valid until another part is asked for.
 #[derive(Drop)]
-pub(crate) struct Parts<'a> {
-    pub(crate) list: Vec<Part<'a>>,
+pub(crate) struct FrameParts<'a> {
+    pub(crate) list: Vec<FramePart<'a>>,
     by_written: HashIndex,
 }
 
-/// A hash of a name and of what is written for it.
+/// Returns a hash of a name and the value that is written for it.
 fn hash_of_written(name: &str, written: &Written) -> u64 {
     let text = match written {
         Written::Text(text) | Written::Named(text, _) => text.as_str(),
@@ -33,7 +33,7 @@ fn hash_of_written(name: &str, written: &Written) -> u64 {
     hash_with(hash_of(name.as_bytes()), hash_of(text.as_bytes()))
 }
 
-/// Whether two written values are the same.
+/// Returns whether two written values are equal.
 fn is_same_written(first: &Written, second: &Written) -> bool
     ensures { result ≡ true → first.now ≡ second.now }
 {
@@ -49,18 +49,18 @@ fn is_same_written(first: &Written, second: &Written) -> bool
     }
 }
 
-impl<'a> Parts<'a> {
-    /// No parts. It takes no memory.
-    pub(crate) fn new(alloc: Global) -> Parts<'a>
+impl<'a> FrameParts<'a> {
+    /// Makes an empty list, without taking memory.
+    pub(crate) fn new(alloc: Global) -> FrameParts<'a>
         ensures { result.list.items ≡ [] }
     {
-        Parts {
+        FrameParts {
             list: Vec::new(alloc),
             by_written: HashIndex::new(alloc),
         }
     }
 
-    /// Whether the part at a place is of this name and of what is written for it.
+    /// Returns whether the part at a place has this name and this written value.
     fn is_at(&self, place: usize, name: &str, written: &Written) -> bool
         ensures { result ≡ true → option_map entry_of (slice_get self.now.list.items place) ≡ Some (name.now, written.now) }
     {
@@ -74,7 +74,7 @@ impl<'a> Parts<'a> {
         false
     }
 
-    /// The place of a part that is kept, if it is found.
+    /// Returns the place of a kept part, if the search finds it.
     fn find(&self, hash: u64, name: &str, written: &Written) -> Option<usize>
         ensures { IfSome result (λ place. option_map entry_of (slice_get self.now.list.items place) ≡ Some (name.now, written.now)) }
     {
@@ -87,7 +87,7 @@ impl<'a> Parts<'a> {
         None
     }
 
-    /// Forgets all parts where there are as many as may be kept.
+    /// Removes all parts if the list is full.
     fn make_room(&mut self)
         ensures { HoldsStill IsPart self.old.list.items self.new.list.items }
     {
@@ -98,8 +98,8 @@ impl<'a> Parts<'a> {
         self.by_written.clear();
     }
 
-    /// Keeps a part, and answers its place. Fails where memory is short.
-    fn keep(&mut self, alloc: Global, hash: u64, part: Part<'a>) -> Result<usize, AllocError>
+    /// Keeps a part, and returns its place.
+    fn keep(&mut self, alloc: Global, hash: u64, part: FramePart<'a>) -> Result<usize, AllocError>
         ensures place { IfOk result (λ place. slice_get self.new.list.items place ≡ Some part.entry) }
         ensures parts { HoldsWith IsPart self.old.list.items part.entry self.new.list.items }
     {
@@ -110,7 +110,8 @@ impl<'a> Parts<'a> {
         Ok(place)
     }
 
-    /// The place of what is written for a name, which is made ready where it is not kept. Fails where memory is short.
+    /// Returns the place of the part for a name and its written value, and prepares it if it is not
+    /// kept.
     pub(crate) fn place_for(
         &mut self,
         alloc: Global,
@@ -130,7 +131,7 @@ impl<'a> Parts<'a> {
         if let Some(place) = self.find(hash, name, written) {
             return Ok(place);
         }
-        let part = Part::new(alloc, row, references, name, written)?;
+        let part = FramePart::new(alloc, row, references, name, written)?;
         let place = self.keep(alloc, hash, part)?;
         Ok(place)
     }

@@ -1,4 +1,4 @@
-//! What the cell of a fact says.
+//! What the cell of a fact gives.
 
 ghost use Rattle.std.specs.Prelude.{◌≡◌, ◌≤◌, ℕ, List, Ok, Some, IfOk, IfSome, codes, drop, false, length, take, true};
 ghost use Rattle.oim_cells.specs.Cells.{meaning_of};
@@ -17,7 +17,8 @@ use oim_row::TableRow;
 use oim_text::{TextBuffer, numeral_len, suffix_behind};
 use std::alloc::AllocError;
 
-/// The value of a fact: the first `len` of the bytes, and the accuracy that the suffix of a numeral states.
+/// The value of a fact: the first `len` bytes of `bytes`, and the accuracy in the suffix of a
+/// numeral.
 #[derive(Clone, Copy)]
 pub(crate) struct Value<'r> {
     pub(crate) bytes: &'r [u8],
@@ -27,7 +28,7 @@ pub(crate) struct Value<'r> {
 }
 
 impl<'r> Value<'r> {
-    /// The empty text in place of the value's.
+    /// Returns the value with the empty text.
     pub(crate) fn emptied(&self) -> Value<'r>
         ensures { result ≡ record self.now { len = 0 } }
     {
@@ -40,17 +41,17 @@ impl<'r> Value<'r> {
     }
 }
 
-/// What a cell says of its fact.
+/// What a cell gives its fact.
 #[derive(Clone, Copy)]
-pub(crate) enum CellValue<'r> {
+pub(crate) enum FastValue<'r> {
     /// There is no fact.
     NoFact,
     Value(Value<'r>),
-    /// It is not known: the fact is not by the fast way.
+    /// It is not known: the fast way leaves the fact.
     Unknown,
 }
 
-/// The value of a text as it stands.
+/// Returns the value of a text as it is written.
 #[inline(always)]
 fn plain<'r>(bytes: &'r [u8], len: usize, accuracy: Option<Accuracy>) -> Value<'r>
     ensures { result ≡ record { bytes = bytes.entry; len = len; accuracy = accuracy; is_nil = false } }
@@ -63,7 +64,7 @@ fn plain<'r>(bytes: &'r [u8], len: usize, accuracy: Option<Accuracy>) -> Value<'
     }
 }
 
-/// The value of the cell `#nil`.
+/// Returns the value of the cell `#nil`.
 #[inline(always)]
 fn nil_value<'r>() -> Value<'r>
     ensures { (report : ReportValue) (kind : KindValue) → IsValue report kind (meaning_of (codes "#nil")) result }
@@ -76,7 +77,7 @@ fn nil_value<'r>() -> Value<'r>
     }
 }
 
-/// Whether each text is a value of a kind as it stands.
+/// Returns whether each text is a value of the kind as it is written.
 #[inline(always)]
 fn stands_for_itself(kind: Kind) -> bool
     ensures { result ≡ true → (report : ReportValue) (text : List ℕ) → text_given report kind text ≡ Ok (plain_text text) }
@@ -84,8 +85,8 @@ fn stands_for_itself(kind: Kind) -> bool
     matches!(&kind, Kind::Text | Kind::Other)
 }
 
-/// What the suffix states that stands behind the first `end` bytes of the cell at a place, which are the first `len` of the bytes. None
-/// where there is no such suffix. Mostly it has one digit.
+/// Returns the accuracy in the suffix after the first `end` bytes of the cell, or None if it has no
+/// such suffix. The cell is the first `len` bytes of `bytes`. Most suffixes have one digit.
 #[inline(always)]
 fn accuracy_behind(
     row: &TableRow<'_, '_>,
@@ -104,8 +105,8 @@ fn accuracy_behind(
     suffix_behind(row.text_at(Some(place)), end)
 }
 
-/// The value of a number's cell at a place, where nothing stands round the numeral but a suffix. The first `len` of the bytes are the
-/// cell.
+/// Returns the value of a number's cell, if it is a numeral with at most a suffix after it. The
+/// cell is the first `len` bytes of `bytes`.
 #[inline(always)]
 fn number<'r>(
     row: &TableRow<'_, '_>,
@@ -129,44 +130,44 @@ fn number<'r>(
     Some(plain(bytes, end, Some(accuracy)))
 }
 
-/// The value of any cell, copied to `room` where it is a text. Fails where memory is short.
+/// Returns the value of any cell. A text is copied to `memory`.
 #[inline(never)]
 pub(crate) fn rare_value<'r>(
     row: &TableRow<'_, '_>,
     kind: Kind,
     cell: &str,
-    room: &'r mut TextBuffer,
-) -> Result<CellValue<'r>, AllocError>
+    memory: &'r mut TextBuffer,
+) -> Result<FastValue<'r>, AllocError>
     ensures { IfOk result (λ v. IsCellValue row.now.header.report kind (meaning_of cell.now) v) }
 {
     if cell == "#nil" {
-        return Ok(CellValue::Value(nil_value()));
+        return Ok(FastValue::Value(nil_value()));
     }
     let said = meaning(cell);
     if matches!(&said, CellMeaning::Absent) {
-        return Ok(CellValue::NoFact);
+        return Ok(FastValue::NoFact);
     }
     if matches!(&said, CellMeaning::Unknown) {
-        return Ok(CellValue::Unknown);
+        return Ok(FastValue::Unknown);
     }
     let Ok(value) = fact_value(row.report(), kind, said) else {
-        return Ok(CellValue::Unknown);
+        return Ok(FastValue::Unknown);
     };
-    room.clear();
+    memory.clear();
     if let Some(text) = value.text {
-        room.put(text.as_bytes())?;
+        memory.put(text.as_bytes())?;
     }
-    room.pad()?;
-    Ok(CellValue::Value(Value {
-        len: room.len(),
-        bytes: room.room.as_slice(),
+    memory.pad()?;
+    Ok(FastValue::Value(Value {
+        len: memory.len(),
+        bytes: memory.memory.as_slice(),
         accuracy: value.accuracy,
         is_nil: value.text.is_none(),
     }))
 }
 
-/// What the cell at a place says of a fact whose concept has a kind, in most of its forms. None for a rare one. The first `len` of the
-/// bytes are the cell.
+/// Returns the value of a cell in one of its most common forms, or None for a rare form. The cell
+/// is the first `len` bytes of `bytes`.
 #[inline(always)]
 pub(crate) fn quick_value<'r>(
     row: &TableRow<'_, '_>,

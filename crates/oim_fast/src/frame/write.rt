@@ -7,14 +7,14 @@ ghost use Rattle.oim_text.specs.Places.{Placed};
 ghost use Rattle.oim_text.specs.state.Rooms.{Stays};
 ghost use Rattle.oim_fast.specs.state.Writing.{WritesRun, WritesRuns};
 
-use crate::frame::frame_text::Run;
+use crate::frame::frame_text::TextRun;
 use oim_row::References;
 use oim_text::{TextBuffer, copy_padded, copy_some};
 
-/// Copies the bytes of a text from one place up to another. Answers where they end.
+/// Copies `text[from..to]` to `memory` at `at`, and returns where it ends.
 #[inline(always)]
 pub(crate) fn copy_range(
-    room: &mut [u8],
+    memory: &mut [u8],
     at: usize,
     text: &TextBuffer,
     from: usize,
@@ -22,29 +22,29 @@ pub(crate) fn copy_range(
 ) -> usize
     requires some { 0 < length text.now.items }
     requires range { (from ≤ to) × (to ≤ length text.now.items) }
-    requires room { at + (to - from) + 32 ≤ length room.old }
-    ensures { Placed room.old room.new at (slice_range text.now.items from to) result }
+    requires memory { at + (to - from) + 32 ≤ length memory.old }
+    ensures { Placed memory.old memory.new at (slice_range text.now.items from to) result }
 {
-    copy_padded(room, at, &text.room[from..], to - from)
+    copy_padded(memory, at, &text.memory[from..], to - from)
 }
 
-/// Writes what the reference of a run gives, behind the text before it from a place on. None where it has a fault, or gives
-/// more than `most` bytes.
+/// Writes the text from `from` up to a run, and what the run's reference gives. Returns where it
+/// ends, or None if the reference has a fault or gives more than `most` bytes.
 #[inline(always)]
 fn write_run(
     text: &TextBuffer,
-    run: Run,
+    run: TextRun,
     references: &References<'_>,
     most: usize,
-    room: &mut [u8],
+    memory: &mut [u8],
     at: usize,
     from: usize,
 ) -> Option<usize>
     requires some { 0 < length text.now.items }
     requires range { (from ≤ run.alone) × (run.alone ≤ run.named) × (run.named ≤ length text.now.items) }
     requires reference { run.reference < length references.now }
-    requires room { at + (run.named - from) + most + 32 ≤ length room.old }
-    ensures { MatchOption result (Stays room.old room.new at) (λ end. WritesRun references.now text.now.items from most run room.old room.new at end) }
+    requires memory { at + (run.named - from) + most + 32 ≤ length memory.old }
+    ensures { MatchOption result (Stays memory.old memory.new at) (λ end. WritesRun references.now text.now.items from most run memory.old memory.new at end) }
 {
     let answer = references.at(run.reference);
     if !answer.is_sound {
@@ -55,36 +55,36 @@ fn write_run(
         return None;
     }
     if size == 0 {
-        return Some(copy_range(room, at, text, from, run.alone));
+        return Some(copy_range(memory, at, text, from, run.alone));
     }
-    let named = copy_range(room, at, text, from, run.named);
-    Some(copy_some(room, named, &answer.json, size))
+    let named = copy_range(memory, at, text, from, run.named);
+    Some(copy_some(memory, named, &answer.json, size))
 }
 
-/// Writes a text from a place on, with what its references give. None where one of them has a fault, or gives more than `most`
-/// bytes.
+/// Writes the text from `start` on, with what its references give. Returns where it ends, or None
+/// if a reference has a fault or gives more than `most` bytes.
 #[inline(always)]
 pub(crate) fn write_runs(
     text: &TextBuffer,
-    runs: &[Run],
+    runs: &[TextRun],
     references: &References<'_>,
     most: usize,
-    room: &mut [u8],
+    memory: &mut [u8],
     at: usize,
     start: usize,
 ) -> Option<usize>
     requires some { 0 < length text.now.items }
     requires runs { AreRuns (length text.now.items) start runs.now }
     requires references { All (λ r. r.reference < length references.now) runs.now }
-    requires room { at + (length text.now.items - start) + length runs.now * most + 32 ≤ length room.old }
-    ensures { MatchOption result (Stays room.old room.new at) (λ end. WritesRuns references.now text.now.items start most runs.now room.old room.new at end) }
+    requires memory { at + (length text.now.items - start) + length runs.now * most + 32 ≤ length memory.old }
+    ensures { MatchOption result (Stays memory.old memory.new at) (λ end. WritesRuns references.now text.now.items start most runs.now memory.old memory.new at end) }
 {
     let mut end = at;
     let mut from = start;
     for i in 0..runs.len() {
         let run = runs[i];
-        end = write_run(text, run, references, most, room, end, from)?;
+        end = write_run(text, run, references, most, memory, end, from)?;
         from = run.named;
     }
-    Some(copy_range(room, end, text, from, text.len()))
+    Some(copy_range(memory, end, text, from, text.len()))
 }

@@ -15,14 +15,14 @@ use crate::frame::fact_start::FactStart;
 use crate::frame::frame_maker::FrameMaker;
 use crate::frame::frame_text::FrameText;
 use crate::frame::frames::Frames;
-use crate::frame::value::{CellValue, quick_value, rare_value};
+use crate::frame::value::{FastValue, quick_value, rare_value};
 use oim_cells::{CellMeaning, meaning};
 use oim_row::{GroupCells, References, TableRow};
 use oim_rows::TableHeader;
 use oim_text::TextBuffer;
 use std::alloc::{AllocError, Global};
 
-/// All that is ready for the cells of a table's rows.
+/// What is prepared for the cells of a table's rows.
 #[derive(Drop)]
 pub(crate) struct CellWriter<'a> {
     pub(crate) columns: Vec<FactColumn<'a>>,
@@ -33,7 +33,7 @@ pub(crate) struct CellWriter<'a> {
     pub(crate) value: TextBuffer,
 }
 
-/// Notes where a text ends that came behind the first `before` bytes; nothing where none came. Fails where memory is short.
+/// Records the end of a text, if one was written after the first `before` bytes.
 #[inline(always)]
 fn note_end(before: usize, end: usize, ends: &mut Vec<usize>) -> Result<(), AllocError>
     ensures more { OnOk result (before < end → ends.new.items ≡ ends.old.items ++ end ∷ []) }
@@ -46,10 +46,10 @@ fn note_end(before: usize, end: usize, ends: &mut Vec<usize>) -> Result<(), Allo
     Ok(())
 }
 
-/// How many facts a block of texts has at most.
+/// The most facts that a block of texts has.
 const BLOCK: usize = 256;
 
-/// Takes memory for where `count` more texts end, and at first for a whole block of them. Fails where memory is short.
+/// Takes memory for the ends of `count` more texts, at first for a whole block.
 #[inline(always)]
 fn reserve_ends(ends: &mut Vec<usize>, count: usize) -> Result<(), AllocError>
     ensures { ends.new.items ≡ ends.old.items }
@@ -62,7 +62,7 @@ fn reserve_ends(ends: &mut Vec<usize>, count: usize) -> Result<(), AllocError>
     ends.reserve(more)
 }
 
-/// Whether the cell at a place says that it has no fact, so that nothing else of its column counts.
+/// Returns whether the cell at a place has no fact, so that nothing else of its column matters.
 #[cold]
 #[inline(never)]
 fn has_none(row: &TableRow<'_, '_>, place: usize) -> bool
@@ -71,8 +71,8 @@ fn has_none(row: &TableRow<'_, '_>, place: usize) -> bool
     matches!(meaning(row.text_at(Some(place))), CellMeaning::Absent)
 }
 
-/// Appends the fact of a cell of any form in the column of a frame, whose text begins with `start`, where it has one. A value is copied
-/// to `room`. False where that is not by the fast way. Fails where memory is short. Then nothing is appended.
+/// Appends the fact of a cell of any form, if it has one. Its text begins with `start`; a value is
+/// copied to `memory`. Returns false, and appends nothing, if the fast way leaves it.
 #[inline(never)]
 fn put_rare(
     row: &TableRow<'_, '_>,
@@ -80,21 +80,21 @@ fn put_rare(
     references: &References<'_>,
     start: &TextBuffer,
     cell: &str,
-    room: &mut TextBuffer,
+    memory: &mut TextBuffer,
     out: &mut TextBuffer,
 ) -> Result<bool, AllocError>
     requires { IsOfReferences (length references.now) frame.now }
     ensures { PutsSaid row.now references.now frame.now start.now.items cell.now out.old.items out.new.items result }
 {
-    match rare_value(row, frame.kind, cell, room)? {
-        CellValue::Value(value) => put_fact(frame, references, start, &value, out),
-        CellValue::NoFact => Ok(true),
-        CellValue::Unknown => Ok(false),
+    match rare_value(row, frame.kind, cell, memory)? {
+        FastValue::Value(value) => put_fact(frame, references, start, &value, out),
+        FastValue::NoFact => Ok(true),
+        FastValue::Unknown => Ok(false),
     }
 }
 
 impl<'a> CellWriter<'a> {
-    /// What writes the cells of the rows under a header. Fails where memory is short.
+    /// Prepares the cells of the rows under a header.
     pub(crate) fn new(alloc: Global, header: &TableHeader<'a>) -> Result<CellWriter<'a>, AllocError>
         ensures { IfOk result (IsCellWriter header.now) }
     {
@@ -112,7 +112,7 @@ impl<'a> CellWriter<'a> {
         })
     }
 
-    /// Goes on to a row. Fails where memory is short.
+    /// Moves to a row.
     #[inline(always)]
     pub(crate) fn refresh(
         &mut self,
@@ -130,8 +130,8 @@ impl<'a> CellWriter<'a> {
         Ok(())
     }
 
-    /// Appends the fact of the row at hand in the column at a place behind a comma, where it has one. False where that is not by
-    /// the fast way. Fails where memory is short. Then nothing is appended.
+    /// Appends the fact of the current row in the column at a place, with a comma before it, if it
+    /// has one. Returns false, and appends nothing, if the fast way leaves it.
     #[inline(always)]
     fn put_cell(
         &mut self,
@@ -172,8 +172,10 @@ impl<'a> CellWriter<'a> {
         put_rare(row, frame, references, start, cell, &mut self.value, out)
     }
 
-    /// Appends the text of each fact of the row at hand behind a comma, and where each of them ends. False where the row is not by
-    /// the fast way. Fails where memory is short. Then something may be left behind what was there.
+    /// Appends the text of each fact of the current row with a comma before it, and where each
+    /// ends. Returns false if the fast way leaves the row.
+    ///
+    /// After false, or if memory runs out, more text may follow the old one.
     #[inline(always)]
     pub(crate) fn put_cells(
         &mut self,

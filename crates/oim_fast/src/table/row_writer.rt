@@ -12,13 +12,15 @@ use oim_text::TextBuffer;
 use std::alloc::{AllocError, Global};
 use std::marker::Model;
 
-/// Writes the facts of a table's rows: all that is ready for it. A contract sees the table's header.
+/// The writer of the facts of a table's rows.
+///
+/// Contracts see the table's header.
 pub struct RowWriter<'a> {
     header: GhostValue<TableHeader<'a>>,
     cells: CellWriter<'a>,
 }
 
-// By hand, so that who lets one go elsewhere makes one call.
+// Written by hand so that dropping one elsewhere compiles to a single call.
 impl Drop for RowWriter<'_> {
     fn drop(self) {
         let Self {
@@ -40,9 +42,7 @@ impl<'a> Model for RowWriter<'a> {
 }
 
 impl<'a> RowWriter<'a> {
-    /// What writes the rows under a header.
-    ///
-    /// Fails where memory is short.
+    /// Prepares the writer for the rows under a header.
     pub fn new(alloc: Global, header: &TableHeader<'a>) -> Result<RowWriter<'a>, AllocError>
         ensures { IfOk result (λ w. w ≡ header.now) }
     {
@@ -52,12 +52,12 @@ impl<'a> RowWriter<'a> {
         })
     }
 
-    /// Appends the text of each fact of a row behind a comma, as xBRL-JSON 1.0 has it, and where each of them ends, in bytes
-    /// from the front of the text.
+    /// Appends the text of each fact of a row with a comma before it (xBRL-JSON 1.0), and where
+    /// each ends, in bytes from the start of the text.
     ///
-    /// Answers false where the row is not by the fast way: where it has a fault, and for good rows of rare forms, of which no clause
-    /// says more. Fails where memory is short. After false and after a failure something may be left behind what was there, in both
-    /// lists, so who calls cuts it back.
+    /// Returns false if the fast way leaves the row: if the row has a fault, or is good but of a
+    /// rare form. After false, or if memory runs out, more may follow the old items of both lists;
+    /// the caller must cut it off.
     pub fn put_row(
         &mut self,
         alloc: Global,

@@ -2,6 +2,6 @@
 use Rattle.std.specs.Prelude.{◌≡◌}
 use Rattle.oim_merge.specs.Writers.{WriterView}
 
--- the same document at a later time
+-- The same document at a later time.
 abbrev pub Continues : WriterView → WriterView → Type 0
 Continues old new = new ≡ record old { items = new.items; sink = new.sink }

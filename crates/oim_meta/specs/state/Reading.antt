@@ -11,15 +11,15 @@ use Rattle.serde_json.specs.declared.error.Error.{Error}
 use Rattle.oim_entries.specs.declared.fault.MetaFault.TheVariants.{Syntax, Memory}
 use Rattle.oim_meta.specs.Reading.{HasNoJson}
 
--- the first of the late faults
+-- The first of the late faults.
 abbrev pub late_fault : Limits → ParametersValue → TypesValue → Data → Option MetaFault
 late_fault limits given types d = find (has_fault limits given types d) late_faults
 
--- running out of memory gives Memory, every other error of JSON gives Syntax
+-- Running out of memory gives Memory. Every other error of JSON gives Syntax.
 abbrev pub IsFaultOf : Error → MetaFault → Type 0
 IsFaultOf error fault = (IsMemory error → fault ≡ Memory) × (¬ IsMemory error → fault ≡ Syntax)
 
--- memory ran out, or the bytes are not JSON
+-- Memory ran out, or the bytes are not JSON.
 abbrev pub IsNoJson : List ℕ → MetaFault → Type 0
 IsNoJson bytes Syntax = HasNoJson bytes
 IsNoJson bytes Memory = Unit {0}

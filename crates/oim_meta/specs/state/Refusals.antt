@@ -6,7 +6,7 @@ use Rattle.oim_meta.specs.declared.refusal.Refusal.{Refusal}
 use Rattle.oim_meta.specs.declared.refusal.Refusal.TheVariants.{Found, Memory}
 use Rattle.oim_meta.specs.Findings.{finding}
 
--- a fault of the whole, at no key
+-- A fault of the whole metadata, without keys.
 abbrev pub refusal_of : MetaFault → Refusal
 refusal_of fault.Memory = Memory
 refusal_of f = Found (finding f [])

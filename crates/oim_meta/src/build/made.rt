@@ -24,7 +24,7 @@ pub(crate) trait FromMember {
         ensures { IfOk result (λ made. made ≡ of name.now (view value.now)) };
 }
 
-/// What an object's members make, in byte order of name.
+/// Makes a value from each member of an object, in byte order of name.
 pub(crate) fn vec_of<T: FromMember + Drop>(
     alloc: Global,
     members: &Map<String, Value>,
@@ -40,7 +40,7 @@ pub(crate) fn vec_of<T: FromMember + Drop>(
     Ok(made)
 }
 
-/// The text of a value, or the empty text if the value is not a text.
+/// Copies the text of a value. Returns the empty text if the value is not a text.
 pub(crate) fn text_of(alloc: Global, value: &Value) -> Result<Text, AllocError>
     ensures { IfOk result (λ made. made ≡ text_in (view value.now)) }
 {
@@ -56,14 +56,14 @@ impl FromMember for (Text, Text) {
     }
 }
 
-/// The truth value at a key, or false if there is none.
+/// Returns the truth value at a key, or false if there is none.
 pub(crate) fn flag(value: &Value, key: &str) -> bool
     ensures { result ≡ flag_at key.now (view value.now) }
 {
     value.get(key).and_then(Value::as_bool).unwrap_or(false)
 }
 
-/// The text of a value, which is moved, or the empty text if the value is not a text.
+/// Moves the text out of a value. Returns the empty text if the value is not a text.
 fn into_text(alloc: Global, value: Value) -> Text
     ensures { result ≡ text_in (view value) }
 {
@@ -83,7 +83,7 @@ fn texts(alloc: Global, items: Vec<Value>) -> Result<Vec<Text>, AllocError>
     Ok(made)
 }
 
-/// The texts of a list, which are moved, in its order.
+/// Moves the texts out of a list, in its order.
 fn into_texts(alloc: Global, value: Value) -> Result<Items<Text>, AllocError>
     ensures { IfOk result (λ made. made ≡ map_items text_in (unwrap_or (as_array (view value)) no_items)) }
 {
@@ -93,7 +93,7 @@ fn into_texts(alloc: Global, value: Value) -> Result<Items<Text>, AllocError>
     }
 }
 
-/// The texts of the list at a key, which are taken out of it, in its order.
+/// Moves the texts out of the list at a key, in its order.
 pub(crate) fn take_texts(
     alloc: Global,
     value: &mut Value,
@@ -107,7 +107,7 @@ pub(crate) fn take_texts(
     }
 }
 
-/// A copy of a text, if there is one.
+/// Copies a text, if there is one.
 pub(crate) fn copied(alloc: Global, text: Option<&str>) -> Result<Option<Text>, AllocError>
     ensures { IfOk result (λ made. made ≡ option_map (λ s. s.now) text.entry) }
 {

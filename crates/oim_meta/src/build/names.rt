@@ -8,7 +8,7 @@ ghost use Rattle.oim_meta.specs.Value.{place_of};
 use serde_json::{Map, Value};
 use std::alloc::{AllocError, Global};
 
-/// The members of an object, whose names are found by halves.
+/// The members of an object, with their names for a binary search.
 #[derive(Drop)]
 pub(crate) struct Names<'a> {
     pub(crate) members: &'a Map<String, Value>,
@@ -17,7 +17,7 @@ pub(crate) struct Names<'a> {
 }
 
 impl<'a> Names<'a> {
-    /// The members of an object with their names. Fails if memory runs out.
+    /// Makes the names of an object's members.
     pub(crate) fn of(
         alloc: Global,
         members: &'a Map<String, Value>,
@@ -31,7 +31,7 @@ impl<'a> Names<'a> {
         Ok(Names { members, names })
     }
 
-    /// The place of a name, or the number of the members if it is not there.
+    /// Returns the place of a name, or the count of members if no member has it.
     pub(crate) fn place(&self, name: &str) -> usize
         ensures { result ≡ place_of name.now (members_view (self.now).members.now.entries) }
     {

@@ -13,7 +13,7 @@ use oim_names::{Items, Namespaces, Text};
 use serde_json::{Map, Value};
 use std::alloc::{AllocError, Global};
 
-/// The prefixes of an object of URIs.
+/// Makes the prefixes of an object of URIs.
 #[tactic(auto, using(crate::proofs::Bound::namespaces_are))]
 fn namespaces(alloc: Global, members: &Map<String, Value>) -> Result<Namespaces, AllocError>
     requires { has_bad_prefix (members_view members.now.entries) ≡ false }
@@ -35,7 +35,7 @@ fn namespaces_in(alloc: Global, info: &Value) -> Result<Namespaces, AllocError>
     }
 }
 
-/// The prefixes that the document information gives.
+/// Makes the prefixes of the document information.
 pub(crate) fn prefixes(alloc: Global, report: &Value) -> Result<Namespaces, AllocError>
     requires { if_there has_bad_namespaces (get (codes "documentInfo") (view report.now)) ≡ false }
     ensures { IfOk result (λ names. names ≡ prefixes_of (view report.now)) }

@@ -11,7 +11,7 @@ use crate::lookup::object_at;
 use serde_json::{Map, Value};
 use std::alloc::{AllocError, Global};
 
-/// The place of a name among the members, or their number if it is not there.
+/// Returns the place of a name among the members, or their count if no member has it.
 fn place(members: &Map<String, Value>, name: &str) -> usize
     ensures { result ≡ place_of name.now (members_view members.now.entries) }
 {
@@ -25,7 +25,8 @@ fn place(members: &Map<String, Value>, name: &str) -> usize
     place
 }
 
-/// The place of a name among the members of the object at a key. It walks: where many names are looked for, take `Names`.
+/// Returns the place of a name among the members of the object at a key, by a walk. Use `Names` to
+/// look up many names.
 pub(crate) fn place_at(value: &Value, key: &str, name: &str) -> usize
     ensures { result ≡ place_of name.now (section key.now (view value.now)) }
 {
@@ -35,7 +36,7 @@ pub(crate) fn place_at(value: &Value, key: &str, name: &str) -> usize
     }
 }
 
-/// Appends a place, unless it is there.
+/// Appends a place, unless the list has it.
 fn push_new(made: &mut Vec<usize>, place: usize) -> Result<(), AllocError>
     ensures { OnOk result (made.new.items ≡ add_new made.old.items place) }
 {
@@ -45,7 +46,7 @@ fn push_new(made: &mut Vec<usize>, place: usize) -> Result<(), AllocError>
     Ok(())
 }
 
-/// Appends the place of a name, unless it is there.
+/// Appends the place of a name, unless the list has it.
 fn push_place(made: &mut Vec<usize>, columns: &Names, name: &Value) -> Result<(), AllocError>
     ensures { OnOk result (made.new.items
         ≡ add_place (members_view (columns.now).members.now.entries) made.old.items (as_str (view name.now))) }
@@ -56,7 +57,7 @@ fn push_place(made: &mut Vec<usize>, columns: &Names, name: &Value) -> Result<()
     }
 }
 
-/// The places of names among columns, each once, in the order of first mention.
+/// Returns the places of names among columns, each once, in the order of first mention.
 pub(crate) fn places(
     alloc: Global,
     columns: &Names,

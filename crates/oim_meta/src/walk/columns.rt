@@ -1,4 +1,4 @@
-//! Columns of a template: what they say, and what is wrong with them.
+//! Columns of a template: making them, and finding their faults.
 
 ghost use Rattle.std.specs.Prelude.{◌≡◌, ◌++◌, IfOk, OnOk};
 ghost use Rattle.serde_json.specs.View.{view};
@@ -9,7 +9,7 @@ ghost use Rattle.oim_meta.specs.Walk.{in_column_itself, in_column_level, in_grou
 ghost use Rattle.oim_meta.specs.state.Walks.{in_column_of, known_to, members_of};
 
 use crate::findings::Findings;
-use crate::place::Part;
+use crate::json_path::MetadataPart;
 use crate::shapes::is_no_flag_at;
 use crate::walk::Walk;
 use crate::walk::kinds::{is_mixed, kind_of};
@@ -21,12 +21,12 @@ use oim_report::{Column, ColumnKind, Level};
 use serde_json::Value;
 use std::alloc::AllocError;
 
-/// Adds what is wrong with a column itself.
+/// Adds the faults of a column itself.
 #[tactic(auto, unfolding(crate::specs::Walk::in_column_itself))]
 fn find<'v>(template: &'v str, name: &'v str, column: &Value, findings: &mut Findings<'v>)
     ensures { findings.new ≡ findings.old ++ in_column_itself template.now name.now (view column.now) }
 {
-    let here = Part::Column(template, name);
+    let here = MetadataPart::Column(template, name);
     findings.add_if(
         !is_identifier(name),
         MetaFault::BadIdentifier,
@@ -42,11 +42,11 @@ fn find<'v>(template: &'v str, name: &'v str, column: &Value, findings: &mut Fin
 }
 
 impl<'a> Walk<'a> {
-    /// What a column writes itself; only that of a fact column is read.
+    /// Makes a column's own level. Only a fact column's level is used.
     #[tactic(auto, unfolding(crate::specs::Walk::in_column_level, crate::specs::Value::level_of))]
     fn column_level<'v>(
         &self,
-        here: Part<'v>,
+        here: MetadataPart<'v>,
         kind: ColumnKind,
         value: &'v Value,
         findings: &mut Findings<'v>,
@@ -72,7 +72,8 @@ impl<'a> Walk<'a> {
         }
     }
 
-    /// The property groups of a column: none but those of a property group column. What is wrong with them is added for any.
+    /// Makes the property groups of a column: empty unless it is a property group column. Adds
+    /// their faults for any column.
     fn column_groups<'v>(
         &self,
         column: (&'v str, &'v str),
@@ -108,7 +109,7 @@ impl<'a> Walk<'a> {
         find(place.0, place.1, value, findings);
         columns.find_sources(place, value, findings);
         let kind = kind_of(value);
-        let here = Part::Column(place.0, place.1);
+        let here = MetadataPart::Column(place.0, place.1);
         let level = self.column_level(here, kind, value, findings)?;
         let groups = self.column_groups(place, kind, value, findings)?;
         Ok(Column {
@@ -120,7 +121,7 @@ impl<'a> Walk<'a> {
         })
     }
 
-    /// The columns of a template.
+    /// Makes the columns of a template.
     pub(crate) fn columns<'v>(
         &self,
         template: &'v str,

@@ -1,4 +1,4 @@
-//! Dimensions: what they write, and what is wrong with them.
+//! Dimensions: making their values, and finding their faults.
 
 ghost use Rattle.std.specs.Prelude.{◌≡◌, ◌++◌, IfOk, OnOk, codes};
 ghost use Rattle.serde_json.specs.View.{view, members_view};
@@ -13,8 +13,8 @@ ghost use Rattle.oim_meta.specs.state.Walks.{in_each, known_to};
 ghost use Rattle.oim_cells.specs.Cells.{meaning_of};
 
 use crate::findings::Findings;
+use crate::json_path::MetadataPart;
 use crate::lookup::object_at;
-use crate::place::Part;
 use crate::shapes::is_no_object_at;
 use crate::walk::Walk;
 use crate::written::{strip_back, strip_front, written};
@@ -101,7 +101,7 @@ impl<'a> Walk<'a> {
 
     fn dimension<'v>(
         &self,
-        here: Part<'v>,
+        here: MetadataPart<'v>,
         key: &'v str,
         value: &Value,
         findings: &mut Findings<'v>,
@@ -121,7 +121,7 @@ impl<'a> Walk<'a> {
 
     fn dimensions_in<'v>(
         &self,
-        here: Part<'v>,
+        here: MetadataPart<'v>,
         members: &'v Map<String, Value>,
         findings: &mut Findings<'v>,
     ) -> Result<Vec<(Text, Written)>, AllocError>
@@ -136,11 +136,11 @@ impl<'a> Walk<'a> {
         Ok(made)
     }
 
-    /// The dimensions of a part.
+    /// Makes the dimensions of a part.
     #[tactic(auto, unfolding(crate::specs::Walk::in_dimensions))]
     pub(crate) fn dimensions<'v>(
         &self,
-        here: Part<'v>,
+        here: MetadataPart<'v>,
         part: &'v Value,
         findings: &mut Findings<'v>,
     ) -> Result<Items<(Text, Written)>, AllocError>

@@ -1,4 +1,4 @@
-//! Property groups of a column: what they write, and what is wrong with them.
+//! Property groups of a column: making them, and finding their faults.
 
 ghost use Rattle.std.specs.Prelude.{◌≡◌, ◌++◌, IfOk, OnOk, codes};
 ghost use Rattle.serde_json.specs.View.{view, members_view};
@@ -8,8 +8,8 @@ ghost use Rattle.oim_meta.specs.Walk.{in_group, in_groups};
 ghost use Rattle.oim_meta.specs.state.Walks.{in_each, known_to};
 
 use crate::findings::Findings;
+use crate::json_path::MetadataPart;
 use crate::lookup::object_at;
-use crate::place::Part;
 use crate::shapes::is_no_object_at;
 use crate::walk::Walk;
 use oim_entries::MetaFault;
@@ -31,7 +31,7 @@ impl<'a> Walk<'a> {
         ensures found { OnOk result (findings.new
             ≡ findings.old ++ in_group (known_to self.now) column.entry.0.now column.entry.1.now name.now (view value.now)) }
     {
-        let here = Part::Group(column.0, column.1, name);
+        let here = MetadataPart::Group(column.0, column.1, name);
         let is_bad = name == "" || !value.is_object();
         findings.add_if(is_bad, MetaFault::BadTemplate, here.itself());
         let level = self.level(here, value, findings)?;
@@ -55,7 +55,7 @@ impl<'a> Walk<'a> {
         Ok(made)
     }
 
-    /// The property groups of a column of a template.
+    /// Makes the property groups of a column of a template.
     #[tactic(auto, unfolding(crate::specs::Walk::in_groups))]
     pub(crate) fn groups<'v>(
         &self,
@@ -67,7 +67,7 @@ impl<'a> Walk<'a> {
         ensures found { OnOk result (findings.new
             ≡ findings.old ++ in_groups (known_to self.now) column.entry.0.now column.entry.1.now (view value.now)) }
     {
-        let here = Part::Column(column.0, column.1);
+        let here = MetadataPart::Column(column.0, column.1);
         findings.add_if(
             is_no_object_at(value, "propertyGroups"),
             MetaFault::BadTemplate,

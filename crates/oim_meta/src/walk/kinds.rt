@@ -9,7 +9,7 @@ use crate::build::made::flag;
 use oim_report::ColumnKind;
 use serde_json::Value;
 
-/// What the cells of a column are.
+/// Returns the kind of a column's cells.
 pub(crate) fn kind_of(column: &Value) -> ColumnKind
     ensures { result ≡ kind_in (view column.now) }
 {
@@ -33,7 +33,7 @@ fn is_comment(column: &Value) -> bool
     }
 }
 
-/// Whether a column is of two or three of the kinds fact, property group and comment.
+/// Returns whether a column is of two or three of the kinds fact, property group and comment.
 pub(crate) fn is_mixed(column: &Value) -> bool
     ensures { result ≡ mixed [] (view column.now) }
 {

@@ -1,4 +1,4 @@
-//! Levels: what they write, and what is wrong with them.
+//! Levels: making them, and finding their faults.
 
 ghost use Rattle.std.specs.Prelude.{◌≡◌, ◌++◌, IfOk, OnOk, option_map, codes};
 ghost use Rattle.serde_json.specs.Find.{get};
@@ -13,7 +13,7 @@ ghost use Rattle.oim_meta.specs.state.Walks.{known_to};
 
 use crate::decimals::{whole, written_decimals};
 use crate::findings::Findings;
-use crate::place::Part;
+use crate::json_path::MetadataPart;
 use crate::walk::Walk;
 use crate::written::strip_front;
 use oim_entries::MetaFault;
@@ -44,7 +44,7 @@ fn is_decimals(value: &Value) -> bool
     }
 }
 
-/// Whether decimals of a level are not well-formed.
+/// Returns whether the decimals of a level are not well-formed.
 pub(crate) fn bad_decimals(level: &Value) -> bool
     ensures { result ≡ has_bad_decimals_there (view level.now) }
 {
@@ -54,7 +54,7 @@ pub(crate) fn bad_decimals(level: &Value) -> bool
     }
 }
 
-/// The decimals of a level.
+/// Makes the decimals of a level.
 pub(crate) fn decimals(alloc: Global, level: &Value) -> Result<Option<WrittenDecimals>, AllocError>
     ensures { IfOk result (λ made. made ≡ option_map decimals_of (get (codes "decimals") (view level.now))) }
 {
@@ -64,7 +64,7 @@ pub(crate) fn decimals(alloc: Global, level: &Value) -> Result<Option<WrittenDec
     }
 }
 
-/// A level that writes nothing.
+/// Makes a level without properties.
 pub(crate) fn no_level(alloc: Global) -> Level
     ensures { result ≡ empty_level }
 {
@@ -75,11 +75,11 @@ pub(crate) fn no_level(alloc: Global) -> Level
 }
 
 impl<'a> Walk<'a> {
-    /// What one level writes.
+    /// Makes a level.
     #[tactic(auto, unfolding(crate::specs::Walk::in_level, crate::specs::Value::level_of))]
     pub(crate) fn level<'v>(
         &self,
-        here: Part<'v>,
+        here: MetadataPart<'v>,
         value: &'v Value,
         findings: &mut Findings<'v>,
     ) -> Result<Level, AllocError>

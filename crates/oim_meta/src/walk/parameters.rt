@@ -1,4 +1,4 @@
-//! Parameters of a report or a table: their names and texts, and what is wrong with them.
+//! Parameters of a report or a table: making them, and finding their faults.
 
 ghost use Rattle.std.specs.Prelude.{◌≡◌, ◌++◌, IfOk, OnOk, codes};
 ghost use Rattle.serde_json.specs.View.{view, members_view};
@@ -12,8 +12,8 @@ ghost use Rattle.oim_meta.specs.state.Walks.{in_each};
 
 use crate::build::made::text_of;
 use crate::findings::Findings;
+use crate::json_path::MetadataPart;
 use crate::lookup::object_at;
-use crate::place::Part;
 use crate::shapes::is_no_object_at;
 use crate::walk::Walk;
 use oim_entries::MetaFault;
@@ -30,7 +30,7 @@ fn is_no_plain_path(url: &Value) -> bool
     }
 }
 
-/// Whether the name of the parameters file is not a plain path.
+/// Returns whether the name of the parameters file is not a plain path.
 #[tactic(auto, unfolding(crate::specs::BadParameters::has_bad_parameter_url))]
 pub(crate) fn bad_parameter_url(report: &Value) -> bool
     ensures { result ≡ has_bad_parameter_url (view report.now) }
@@ -41,7 +41,7 @@ pub(crate) fn bad_parameter_url(report: &Value) -> bool
     }
 }
 
-/// Whether a name is not an identifier, or its value is not a text.
+/// Returns whether a name is not an identifier, or its value is not a text.
 fn bad_parameter(name: &str, value: &Value) -> bool
     ensures { result ≡ is_bad_parameter name.now (view value.now) }
 {
@@ -51,7 +51,7 @@ fn bad_parameter(name: &str, value: &Value) -> bool
 impl<'a> Walk<'a> {
     fn parameter<'v>(
         &self,
-        here: Part<'v>,
+        here: MetadataPart<'v>,
         name: &'v str,
         value: &Value,
         findings: &mut Findings<'v>,
@@ -70,7 +70,7 @@ impl<'a> Walk<'a> {
 
     fn parameters_in<'v>(
         &self,
-        here: Part<'v>,
+        here: MetadataPart<'v>,
         members: &'v Map<String, Value>,
         findings: &mut Findings<'v>,
     ) -> Result<Vec<(Text, Text)>, AllocError>
@@ -85,11 +85,11 @@ impl<'a> Walk<'a> {
         Ok(made)
     }
 
-    /// The parameters of a report or a table.
+    /// Makes the parameters of a report or a table.
     #[tactic(auto, unfolding(crate::specs::WalkTables::in_parameters))]
     pub(crate) fn parameters<'v>(
         &self,
-        here: Part<'v>,
+        here: MetadataPart<'v>,
         part: &'v Value,
         findings: &mut Findings<'v>,
     ) -> Result<Items<(Text, Text)>, AllocError>
@@ -115,7 +115,7 @@ impl<'a> Walk<'a> {
         findings.add_if(
             self.given.has_name(name),
             MetaFault::BadParameter,
-            Part::Report.member("parameters", name),
+            MetadataPart::Report.member("parameters", name),
         );
     }
 
@@ -136,7 +136,7 @@ impl<'a> Walk<'a> {
         }
     }
 
-    /// The parameters of the report.
+    /// Makes the parameters of the report.
     #[tactic(auto, unfolding(crate::specs::WalkTables::in_own_parameters))]
     pub(crate) fn own_parameters<'v>(
         &self,
@@ -146,12 +146,12 @@ impl<'a> Walk<'a> {
         ensures value { IfOk result (λ made. made ≡ map_members named_text (section (codes "parameters") (view report.now))) }
         ensures found { OnOk result (findings.new ≡ findings.old ++ in_own_parameters self.now.given.now (view report.now)) }
     {
-        let made = self.parameters(Part::Report, report, findings)?;
+        let made = self.parameters(MetadataPart::Report, report, findings)?;
         self.find_given(report, findings);
         findings.add_if(
             bad_parameter_url(report),
             MetaFault::BadParameter,
-            Part::Report.at("parameterURL"),
+            MetadataPart::Report.at("parameterURL"),
         );
         Ok(made)
     }

@@ -12,8 +12,8 @@ ghost use Rattle.oim_meta.specs.state.Walks.{members_of};
 use crate::build::names::Names;
 use crate::build::places::places;
 use crate::findings::Findings;
+use crate::json_path::MetadataPart;
 use crate::lookup::list_at;
-use crate::place::Part;
 use crate::shapes::is_no_texts;
 use crate::walk::kinds::kind_of;
 use oim_entries::MetaFault;
@@ -42,7 +42,7 @@ pub(crate) struct Columns<'v> {
 }
 
 impl<'v> Columns<'v> {
-    /// The column with this name.
+    /// Returns the column with this name.
     fn named(&self, name: &str) -> Option<&Value>
         ensures { option_map (λ v. view v.now) result ≡ column_named (view self.now.value.now) name.now }
     {
@@ -94,7 +94,7 @@ impl<'v> Columns<'v> {
         }
     }
 
-    /// Adds what is wrong with the columns that a column takes properties from.
+    /// Adds the faults of the columns that a column takes properties from.
     #[tactic(auto, unfolding(crate::specs::Walk::in_sources))]
     pub(crate) fn find_sources(
         &self,
@@ -105,7 +105,7 @@ impl<'v> Columns<'v> {
         ensures { findings.new
             ≡ findings.old ++ in_sources place.entry.0.now (view self.now.value.now) place.entry.1.now (view column.now) }
     {
-        let here = Part::Column(place.0, place.1);
+        let here = MetadataPart::Column(place.0, place.1);
         findings.add_if(
             bad_sources(column),
             MetaFault::BadTemplate,
@@ -128,7 +128,7 @@ impl<'v> Columns<'v> {
         }
     }
 
-    /// The places of the columns that a column takes property groups from.
+    /// Returns the places of the columns that a column takes property groups from.
     pub(crate) fn sources(
         &self,
         alloc: Global,

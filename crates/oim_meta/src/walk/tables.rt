@@ -1,4 +1,4 @@
-//! Tables: what they say, and what is wrong with them.
+//! Tables: making them, and finding their faults.
 
 ghost use Rattle.std.specs.Prelude.{◌≡◌, ◌++◌, IfOk, OnOk, codes};
 ghost use Rattle.serde_json.specs.Data.{no_members};
@@ -15,8 +15,8 @@ use crate::build::made::flag;
 use crate::build::names::Names;
 use crate::counts::count_at;
 use crate::findings::Findings;
+use crate::json_path::MetadataPart;
 use crate::lookup::{object_at, text_at};
-use crate::place::Part;
 use crate::shapes::{is_no_flag_at, is_no_object_at, is_no_text_at};
 use crate::walk::Walk;
 use oim_entries::MetaFault;
@@ -42,7 +42,7 @@ struct Templates<'v> {
 }
 
 impl<'v> Templates<'v> {
-    /// Whether the template of a table is not there.
+    /// Returns whether the template of a table does not exist.
     fn lacks(&self, name: &str, table: &Value) -> bool
         ensures { result ≡ lacks_template_of (value_of self.now) name.now (view table.now) }
     {
@@ -54,7 +54,7 @@ impl<'v> Templates<'v> {
     }
 }
 
-/// Adds the fault of a table whose template is not there.
+/// Adds the fault of a table whose template does not exist.
 fn find_template<'v>(
     templates: &Templates<'_>,
     name: &'v str,
@@ -66,16 +66,16 @@ fn find_template<'v>(
     findings.add_if(
         templates.lacks(name, table),
         MetaFault::UnknownTemplate,
-        Part::Table(name).at("template"),
+        MetadataPart::Table(name).at("template"),
     );
 }
 
-/// Adds what is wrong with a table itself.
+/// Adds the faults of a table itself.
 #[tactic(auto, unfolding(crate::specs::WalkTables::in_table_itself))]
 fn find<'v>(name: &'v str, table: &Value, findings: &mut Findings<'v>)
     ensures { findings.new ≡ findings.old ++ in_table_itself name.now (view table.now) }
 {
-    let here = Part::Table(name);
+    let here = MetadataPart::Table(name);
     findings.add_if(
         !is_identifier(name),
         MetaFault::BadIdentifier,
@@ -94,7 +94,7 @@ fn find<'v>(name: &'v str, table: &Value, findings: &mut Findings<'v>)
     );
 }
 
-/// The templates of a report, or nothing if there is no object of templates.
+/// Returns the templates of a report, or `nothing` if it has no object of templates.
 fn templates_of<'a>(report: &'a Value, nothing: &'a Map<String, Value>) -> &'a Map<String, Value>
     requires { members_view nothing.now.entries ≡ no_members }
     ensures { members_view result.now.entries ≡ section (codes "tableTemplates") (view report.now) }
@@ -120,7 +120,7 @@ impl<'a> Walk<'a> {
     {
         find(name, value, findings);
         find_template(templates, name, value, findings);
-        let parameters = self.parameters(Part::Table(name), value, findings)?;
+        let parameters = self.parameters(MetadataPart::Table(name), value, findings)?;
         let template = text_at(value, "template").unwrap_or(name);
         Ok(Table {
             id: Text::from_str(self.alloc, name)?,
@@ -149,7 +149,7 @@ impl<'a> Walk<'a> {
         Ok(made)
     }
 
-    /// The tables of a metadata, by templates.
+    /// Makes the tables of a metadata, with the templates that they name.
     fn tables_by<'v>(
         &self,
         templates: &Templates<'_>,
@@ -167,7 +167,7 @@ impl<'a> Walk<'a> {
         }
     }
 
-    /// The tables of a metadata.
+    /// Makes the tables of a metadata.
     #[tactic(auto, unfolding(crate::specs::WalkTables::in_tables))]
     pub(crate) fn tables<'v>(
         &self,
@@ -180,10 +180,14 @@ impl<'a> Walk<'a> {
         findings.add_if(
             is_no_object_at(report, "tables"),
             MetaFault::BadTemplate,
-            Part::Report.at("tables"),
+            MetadataPart::Report.at("tables"),
         );
         let is_too_many = count_at(report, "tables") > self.limits.tables;
-        findings.add_if(is_too_many, MetaFault::TooLarge, Part::Report.at("tables"));
+        findings.add_if(
+            is_too_many,
+            MetaFault::TooLarge,
+            MetadataPart::Report.at("tables"),
+        );
         let nothing = Map::new(self.alloc);
         let names = Names::of(self.alloc, templates_of(report, &nothing))?;
         let templates = Templates {

@@ -1,4 +1,4 @@
-//! Table templates: what they say, and what is wrong with them.
+//! Table templates: making them, and finding their faults.
 
 ghost use Rattle.std.specs.Prelude.{◌≡◌, ◌++◌, IfOk, OnOk, codes};
 ghost use Rattle.serde_json.specs.View.{view, members_view};
@@ -12,8 +12,8 @@ use crate::build::names::Names;
 use crate::build::places::place_at;
 use crate::counts::count_at;
 use crate::findings::Findings;
+use crate::json_path::MetadataPart;
 use crate::lookup::{object_at, text_at};
-use crate::place::Part;
 use crate::shapes::{is_no_object_at, is_no_text_at};
 use crate::walk::Walk;
 use crate::walk::sources::Columns;
@@ -53,12 +53,12 @@ fn row_id_column(template: &Value) -> Option<usize>
     }
 }
 
-/// Adds what is wrong with a template itself.
+/// Adds the faults of a template itself.
 #[tactic(auto, unfolding(crate::specs::Walk::in_template_itself))]
 fn find<'v>(name: &'v str, template: &Value, findings: &mut Findings<'v>)
     ensures { findings.new ≡ findings.old ++ in_template_itself name.now (view template.now) }
 {
-    let here = Part::Template(name);
+    let here = MetadataPart::Template(name);
     findings.add_if(
         !is_identifier(name),
         MetaFault::BadIdentifier,
@@ -82,7 +82,7 @@ fn find<'v>(name: &'v str, template: &Value, findings: &mut Findings<'v>)
 }
 
 impl<'a> Walk<'a> {
-    /// The columns of a template.
+    /// Makes the columns of a template.
     #[tactic(auto, unfolding(crate::specs::Walk::in_columns))]
     fn template_columns<'v>(
         &self,
@@ -95,7 +95,7 @@ impl<'a> Walk<'a> {
             ≡ findings.old ++ in_columns (known_to self.now) template.now (view value.now)) }
     {
         let is_too_many = count_at(value, "columns") > self.limits.columns;
-        let place = Part::Template(template).at("columns");
+        let place = MetadataPart::Template(template).at("columns");
         findings.add_if(is_too_many, MetaFault::TooLarge, place);
         match object_at(value, "columns") {
             Some(members) => {
@@ -120,7 +120,7 @@ impl<'a> Walk<'a> {
             ≡ findings.old ++ in_template (known_to self.now) name.now (view value.now)) }
     {
         find(name, value, findings);
-        let level = self.level(Part::Template(name), value, findings)?;
+        let level = self.level(MetadataPart::Template(name), value, findings)?;
         let columns = self.template_columns(name, value, findings)?;
         Ok(Template {
             id: Text::from_str(self.alloc, name)?,
@@ -146,7 +146,7 @@ impl<'a> Walk<'a> {
         Ok(made)
     }
 
-    /// The templates of a metadata.
+    /// Makes the templates of a metadata.
     #[tactic(auto, unfolding(crate::specs::Walk::in_templates))]
     pub(crate) fn templates<'v>(
         &self,
@@ -160,7 +160,7 @@ impl<'a> Walk<'a> {
         findings.add_if(
             is_no_object_at(report, "tableTemplates"),
             MetaFault::BadTemplate,
-            Part::Report.at("tableTemplates"),
+            MetadataPart::Report.at("tableTemplates"),
         );
         match object_at(report, "tableTemplates") {
             Some(templates) => Ok(Items::from_vec(self.templates_in(templates, findings)?)),

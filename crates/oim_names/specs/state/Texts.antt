@@ -1,4 +1,4 @@
--- The bytes of a text, in a string of its own or shared.
+-- The bytes of a text, in its own string or shared.
 use Rattle.std.specs.Prelude.{ℕ, List}
 use Rattle.std.specs.String.{string_bytes}
 use Rattle.std.specs.Arc.{arc_str_bytes}

@@ -3,7 +3,7 @@ use Rattle.std.specs.Prelude.{ℕ, Bool, true, false, List}
 use Rattle.oim_places.specs.Shown.{shown_char}
 use Rattle.oim_places.specs.Pointers.{pointer_char}
 
--- a character of a key, or as it is shown
+-- A character of a key, or as it is shown.
 abbrev pub char_of : Bool → ℕ → List ℕ
 char_of true c = pointer_char c
 char_of false c = shown_char c

@@ -1,10 +1,10 @@
--- A reader of the `csv` crate that takes each record as it is.
+-- A reader of the `csv` crate that takes each record unchanged.
 use Rattle.std.specs.Prelude.{◌≡◌, true, ◌⊎◌}
 use Rattle.csv.specs.Reading.{Ready, default_config, has_failed, is_flexible, reader_config, reader_trim}
 use Rattle.csv.specs.declared.reader.Reader.{Reader}
 use Rattle.csv.specs.declared.reader.Trim.TheVariants as trim
 
--- a reader of bytes with the usual settings, which takes each record as it is
+-- A reader of bytes with the default settings, which takes each record unchanged.
 pub record IsPlain {R : Type 0} (r : Reader R) : Type 0 where
   pub config : reader_config r ≡ default_config
   pub trim : reader_trim r ≡ trim.None

@@ -1,4 +1,4 @@
--- Why a record could not be read, by the error of the CSV reader: memory ran out, or else the reader below it failed.
+-- The fault of a CSV reader's error: memory ran out, or else the reader below it failed.
 use Rattle.csv.specs.declared.error.ErrorKind.{ErrorKind}
 use Rattle.csv.specs.declared.error.ErrorKind.TheVariants as kind
 use Rattle.oim_records.specs.declared.read_fault.ReadFault.{ReadFault}

@@ -4,6 +4,6 @@ use Rattle.oim_report.specs.Named.{Grouped, value_under}
 use Rattle.oim_report.specs.declared.kind.Kind.{Kind}
 use Rattle.oim_report.specs.Types.{TypesValue, kind_in}
 
--- kinds by local part, by URI: a look-up gives what the records say
+-- Kinds by local part, by URI: a lookup gives the kind that the records give.
 abbrev pub GivesKinds : Grouped Kind → TypesValue → Type 0
 GivesKinds groups types = (uri local : List ℕ) → value_under groups uri local ≡ kind_in types uri local

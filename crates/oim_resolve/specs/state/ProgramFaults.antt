@@ -4,12 +4,12 @@ use Rattle.std.specs.Option.{option_map_or}
 use Rattle.oim_resolve.specs.declared.fact.CellFault.{CellFault}
 use Rattle.oim_resolve.specs.Faults.{lesser}
 
--- of two faults that may be there, the lesser
+-- The lesser of two optional faults.
 abbrev pub least_of : Option CellFault → Option CellFault → Option CellFault
 least_of None g = g
 least_of (Some f) g = Some (option_map_or (lesser f) g f)
 
--- two readings together: what both give, or the lesser of their faults
+-- Two readings combined: what both give, or the lesser of their faults.
 abbrev pub both : {A B C : Type 0} → (A → B → C) → Result A CellFault → Result B CellFault → Result C CellFault
 both join (Ok a) (Ok b) = Ok (join a b)
 both join (Ok a) (Err g) = Err g

@@ -7,7 +7,7 @@ ghost use Rattle.oim_resolve.specs.state.ProgramValues.{seen_stated};
 use crate::fact::CellFault;
 use oim_cells::{Accuracy, CellMeaning, decimals};
 
-/// What written decimals give.
+/// The decimals that the properties of a cell give: an accuracy, or a text to read.
 #[derive(Clone, Copy)]
 pub(crate) enum Stated<'a> {
     Fixed(Accuracy),
@@ -15,7 +15,7 @@ pub(crate) enum Stated<'a> {
 }
 
 impl Stated<'_> {
-    /// The accuracy that is stated, if one is, or the least fault of its text.
+    /// Returns the stated accuracy, if any, or the least fault of its text.
     pub(crate) fn read(self) -> Result<Option<Accuracy>, CellFault>
         ensures { result ≡ stated_read (seen_stated self.entry) }
     {

@@ -1,4 +1,4 @@
-//! What the levels of a cell write, its dimensions and its decimals, and the fact that they give.
+//! The dimensions and decimals that apply to a cell, and the fact that they give.
 
 ghost use Rattle.std.specs.Prelude.{◌≡◌, ◌<◌, ◌⊎◌, [], length, map, IfErr, IfOk, IsOk};
 ghost use Rattle.std.specs.Option.{option_map};
@@ -13,9 +13,9 @@ ghost use Rattle.oim_resolve.specs.state.ProgramPlan.{seen_keyed, seen_planned};
 ghost use Rattle.oim_resolve.specs.state.Rows.{row_map};
 ghost use Rattle.oim_resolve.specs.Written.{levels, named_groups, written_decimals};
 
+use crate::cell::cell_at::CellAt;
 use crate::cell::decimals::Stated;
-use crate::cell::entries::Entries;
-use crate::cell::place::Place;
+use crate::cell::entries::DimensionEntries;
 use crate::cell::planned_cell::PlannedCell;
 use crate::cell::value::{CellValue, suffix_of, text_of};
 use crate::dimension::{Entry, read_value};
@@ -28,20 +28,20 @@ use oim_names::{Items, Text};
 use oim_report::{Kind, Level, WrittenDecimals};
 use std::alloc::{AllocError, Global};
 
-/// A cell, with what its levels write.
+/// A cell with the properties that apply to it.
 #[derive(Drop)]
 pub(crate) struct CellDimensions<'a> {
-    place: Place<'a>,
+    place: CellAt<'a>,
     /// The groups that the row names, in the order of `propertiesFrom`.
     groups: Vec<&'a Level>,
-    entries: Entries<'a>,
+    entries: DimensionEntries<'a>,
     ghost all: { AreMet place groups.items entries },
 }
 
 /// The dimensions of a fact, each with its name.
 type Dimensions = Items<(Text, Option<Text>)>;
 
-/// The fact of this identifier, from what its dimensions, its decimals and its cell give.
+/// Makes the fact with identifier `id` from its dimensions, its decimals and its value.
 fn fact_with(id: Text, given: ((Dimensions, Option<i32>), Option<Text>)) -> Fact
     requires { IsAscending (map (λ d. d.0) given.0.0) }
     ensures { result ≡ record { id = id; value = given.1; decimals = given.0.1; dimensions = given.0.0 } }
@@ -50,7 +50,7 @@ fn fact_with(id: Text, given: ((Dimensions, Option<i32>), Option<Text>)) -> Fact
     Fact::new(id, value, decimals, dimensions)
 }
 
-/// References to the dimensions of a column.
+/// Returns references to the dimensions of a column.
 fn lent<'a>(
     alloc: Global,
     planned: &'a [PlannedDimension<'a>],
@@ -64,7 +64,7 @@ fn lent<'a>(
     Ok(entries)
 }
 
-/// The groups that the row names, and the dimensions of the column with those of the groups.
+/// Returns the groups that the row names, and the column's dimensions merged with theirs.
 #[tactic(auto, unfolding(crate::specs::state::Rows::row_map))]
 fn with_groups<'a>(
     alloc: Global,
@@ -99,18 +99,18 @@ impl<'a> CellDimensions<'a> {
             return Ok(CellDimensions {
                 place,
                 groups: Vec::new(alloc),
-                entries: Entries::Column(&columns[place.column]),
+                entries: DimensionEntries::Column(&columns[place.column]),
             });
         }
         let (groups, planned) = with_groups(alloc, cell)?;
         Ok(CellDimensions {
             place,
             groups,
-            entries: Entries::Grouped(planned),
+            entries: DimensionEntries::Grouped(planned),
         })
     }
 
-    /// What a dimension gives a fact, or the least fault of its value.
+    /// Returns what a dimension gives a fact, or the least fault of its value.
     fn read_dimension(
         &self,
         alloc: Global,
@@ -136,7 +136,7 @@ impl<'a> CellDimensions<'a> {
         }
     }
 
-    /// What all dimensions give a fact, or their least fault.
+    /// Returns what all dimensions give a fact, or their least fault.
     fn read(&self, alloc: Global, kind: Kind) -> Result<Result<Dimensions, CellFault>, AllocError>
         ensures { IfOk result (λ r. r ≡ dimensions_of (cell_at self.now.place) kind (map seen_planned (entries_in self.now.entries))) }
     {
@@ -173,14 +173,14 @@ impl<'a> CellDimensions<'a> {
         )
     }
 
-    /// What the row gives for decimals.
+    /// Returns the decimals that the properties give in this row.
     fn stated(&self) -> Stated<'a>
         ensures { seen_stated result ≡ stated (cell_at self.now.place) }
     {
         self.place.stated(self.written_decimals())
     }
 
-    /// The fact, or the least fault of dimensions, decimals and value.
+    /// Returns the fact, or the least fault of dimensions, decimals and value.
     fn fact(&self, alloc: Global, value: CellValue<'_>) -> Result<Fact, CellFault>
         requires kind { value.kind ≡ concept_kind (cell_at self.now.place) }
         requires meaning { seen_meaning value.meaning ≡ fact_meaning (cell_at self.now.place) }
@@ -198,8 +198,8 @@ impl<'a> CellDimensions<'a> {
         Ok(fact_with(id, given))
     }
 
-    /// The fact of a cell that says something and whose concept has this kind, or the least fault of
-    /// its dimensions, decimals and value.
+    /// Returns the fact of a cell that is not absent and whose concept has the kind `value.kind`,
+    /// or the least fault of its dimensions, decimals and value.
     pub(crate) fn fact_of(
         alloc: Global,
         cell: PlannedCell<'a>,

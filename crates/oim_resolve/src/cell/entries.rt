@@ -1,26 +1,26 @@
-//! What the levels of a cell write, with or without the row's groups.
+//! The dimensions that apply to a cell, with or without the row's groups.
 
 ghost use Rattle.std.specs.Prelude.{◌≡◌, ◌<◌, length, get_or};
 ghost use Rattle.oim_resolve.specs.state.ProgramDimensions.{entries_in};
 
 use crate::plan::{PlannedColumn, PlannedDimension};
 
-/// What the levels of a cell write, in byte order of name.
+/// The dimensions that apply to a cell, in byte order of name.
 #[derive(Drop)]
-pub(crate) enum Entries<'a> {
-    /// The column takes nothing from groups.
+pub(crate) enum DimensionEntries<'a> {
+    /// Those of the column. It takes nothing from groups.
     Column(&'a PlannedColumn<'a>),
-    /// With the groups that the row names.
+    /// Those of the column and of the groups that the row names.
     Grouped(Vec<&'a PlannedDimension<'a>>),
 }
 
-impl<'a> Entries<'a> {
+impl<'a> DimensionEntries<'a> {
     pub(crate) fn len(&self) -> usize
         ensures { result ≡ length (entries_in self.now) }
     {
         match self {
-            Entries::Column(column) => column.planned.len(),
-            Entries::Grouped(planned) => planned.len(),
+            DimensionEntries::Column(column) => column.planned.len(),
+            DimensionEntries::Grouped(planned) => planned.len(),
         }
     }
 
@@ -29,8 +29,8 @@ impl<'a> Entries<'a> {
         ensures { result.now ≡ get_or (entries_in self.now) i result.now }
     {
         match self {
-            Entries::Column(column) => &column.planned[i],
-            Entries::Grouped(planned) => planned[i],
+            DimensionEntries::Column(column) => &column.planned[i],
+            DimensionEntries::Grouped(planned) => planned[i],
         }
     }
 }

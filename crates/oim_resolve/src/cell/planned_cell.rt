@@ -1,4 +1,4 @@
-//! A cell, with the columns of its table made ready: the three steps to its fact.
+//! The three steps from a cell to its fact, with the planned columns of its table.
 
 ghost use Rattle.std.specs.Prelude.{◌≡◌, ◌<◌, ◌⊎◌, length, codes, IfSome};
 ghost use Rattle.std.specs.List.{list_any};
@@ -15,8 +15,8 @@ ghost use Rattle.oim_resolve.specs.state.ProgramPlan.{ArePlanned, over, seen_fla
 ghost use Rattle.oim_resolve.specs.state.Rows.{planned_named, row_map};
 ghost use Rattle.oim_resolve.specs.Written.{group_of_cell};
 
+use crate::cell::cell_at::CellAt;
 use crate::cell::dimensions::CellDimensions;
-use crate::cell::place::Place;
 use crate::cell::value::CellValue;
 use crate::dimension::read_concept;
 use crate::fact::{CellFault, Fact};
@@ -25,17 +25,17 @@ use oim_cells::CellMeaning;
 use oim_report::Kind;
 use std::alloc::Global;
 
-/// A cell, with the columns of its table made ready.
+/// A cell with the planned columns of its table.
 #[derive(Clone, Copy)]
 pub(crate) struct PlannedCell<'a> {
-    pub(crate) place: Place<'a>,
+    pub(crate) place: CellAt<'a>,
     pub(crate) columns: &'a [PlannedColumn<'a>],
     ghost planned: { ArePlanned place.report.now place.table columns.now },
     ghost all: { length columns.now ≡ length (columns_of place.report.now place.table) },
 }
 
-/// Of two dimensions of one name the first, if the column itself or an earlier group writes it, else
-/// the second.
+/// Returns the dimension that wins between two of one name: `first` if the column itself or an
+/// earlier group writes it, else `second`.
 fn over<'a>(
     first: Option<&'a PlannedDimension<'a>>,
     second: Option<&'a PlannedDimension<'a>>,
@@ -62,7 +62,7 @@ fn is_absent(meaning: CellMeaning<'_>) -> bool
 }
 
 impl<'a> PlannedCell<'a> {
-    /// The group that the row's cell at a place names.
+    /// Returns the group that the row's cell at index `i` names.
     pub(crate) fn named_group(&self, i: usize) -> Option<&'a PlannedGroup<'a>>
         requires { i < length (columns_of self.now.place.report.now self.now.place.table) }
         ensures group { option_map (λ g. (seen_group g.now).1) result ≡ planned_named (cell_at self.now.place) i }
@@ -76,7 +76,7 @@ impl<'a> PlannedCell<'a> {
         }
     }
 
-    /// Whether the row's cell at a place says something, and names no group of its column.
+    /// Returns whether the row's cell at index `i` is not absent and names no group of its column.
     fn names_no_group(&self, i: usize) -> bool
         requires { i < length (columns_of self.now.place.report.now self.now.place.table) }
         ensures { result ≡ names_no_group (cell_at self.now.place) i }
@@ -88,7 +88,7 @@ impl<'a> PlannedCell<'a> {
         }
     }
 
-    /// Whether a group cell begins like a special value and is not one.
+    /// Returns whether a group cell begins like a special value and is not one.
     fn has_unknown_group(&self) -> bool
         ensures { result ≡ list_any (λ i. is_unknown (meaning_at (cell_at self.now.place) i)) (column (cell_at self.now.place)).from }
     {
@@ -104,7 +104,7 @@ impl<'a> PlannedCell<'a> {
         false
     }
 
-    /// Whether a group cell says something, and names no group of its column.
+    /// Returns whether a group cell is not absent and names no group of its column.
     fn has_bad_group(&self) -> bool
         ensures { result ≡ list_any (names_no_group (cell_at self.now.place)) (column (cell_at self.now.place)).from }
     {
@@ -120,7 +120,7 @@ impl<'a> PlannedCell<'a> {
         false
     }
 
-    /// The least fault of the cell and its groups. It takes no memory.
+    /// Returns the least fault of the cell and its groups. It takes no memory.
     fn cell_and_group_fault(&self, meaning: CellMeaning<'a>) -> Option<CellFault>
         requires { seen_meaning meaning ≡ fact_meaning (cell_at self.now.place) }
         ensures { result ≡ least (cell_and_group_faults (cell_at self.now.place)) }
@@ -134,7 +134,7 @@ impl<'a> PlannedCell<'a> {
         }
     }
 
-    /// The concept, with that of the group that the row's cell at a place names.
+    /// Merges the concept of the group that the row's cell at index `i` names into `concept`.
     fn with_group(
         &self,
         concept: Option<&'a PlannedDimension<'a>>,
@@ -150,7 +150,7 @@ impl<'a> PlannedCell<'a> {
         }
     }
 
-    /// The concept, where a level writes it. It takes no memory.
+    /// Returns the concept, if a level writes it. It takes no memory.
     #[tactic(auto, unfolding(crate::specs::state::Rows::row_map))]
     fn concept(&self) -> Option<&'a PlannedDimension<'a>>
         ensures { option_map seen_flagged result ≡ value_at (codes "concept") (row_map (cell_at self.now.place)) }
@@ -167,7 +167,7 @@ impl<'a> PlannedCell<'a> {
         concept
     }
 
-    /// The kind of a concept, or the least fault of its value.
+    /// Returns the kind of a concept, or the least fault of its value.
     fn read_dimension(&self, concept: Option<&PlannedDimension<'a>>) -> Result<Kind, CellFault>
         ensures { result ≡ dimension_concept (cell_at self.now.place) (option_map (λ p. seen_planned p.now) concept.entry) }
     {
@@ -180,14 +180,14 @@ impl<'a> PlannedCell<'a> {
         }
     }
 
-    /// The kind of the cell's concept, or the least fault of its value. It takes no memory.
+    /// Returns the kind of the cell's concept, or the least fault of its value. It takes no memory.
     fn read_concept(&self) -> Result<Kind, CellFault>
         ensures { result ≡ concept_read (cell_at self.now.place).report (given (cell_at self.now.place) (codes "concept")) }
     {
         self.read_dimension(self.concept())
     }
 
-    /// The fact of the cell, if it has one.
+    /// Returns the fact of the cell, if it has one.
     pub(crate) fn resolve(&self, alloc: Global) -> Result<Option<Fact>, CellFault>
         ensures early { IfSome (early_result (cell_at self.now.place)) (λ answer. result ≡ answer) }
         ensures result { (result ≡ Err CellFault.Memory) ⊎ (result ≡ cell_result (cell_at self.now.place)) }

@@ -33,7 +33,7 @@ fn places(accuracy: Option<Accuracy>) -> Option<i32>
     }
 }
 
-/// The accuracy that the suffix of a numeral states.
+/// Returns the accuracy that the suffix of a numeral states.
 pub(crate) fn suffix_of(reading: Result<FactValue<'_>, CellFault>) -> Option<Accuracy>
     ensures { result ≡ accuracy_in (seen_reading reading.entry) }
 {
@@ -43,7 +43,7 @@ pub(crate) fn suffix_of(reading: Result<FactValue<'_>, CellFault>) -> Option<Acc
     }
 }
 
-/// The text of a fact's value, where None is nil, or what is wrong with its cell.
+/// Returns the text of a fact's value, with `None` for nil, or the fault of its cell.
 pub(crate) fn text_of(
     alloc: Global,
     reading: Result<FactValue<'_>, CellFault>,
@@ -64,8 +64,10 @@ pub(crate) fn text_of(
 }
 
 impl CellValue<'_> {
-    /// The decimals of the fact: those that its cell states, else those that its properties state, or
-    /// what is wrong with these. They are not read where the cell has a suffix.
+    /// Returns the decimals of the fact: those of its cell's suffix, else those that its properties
+    /// state, or the fault of these.
+    ///
+    /// The properties' decimals are not read if the cell has a suffix.
     pub(crate) fn decimals(
         &self,
         suffix: Option<Accuracy>,

@@ -12,7 +12,7 @@ use oim_cells::CellMeaning;
 use oim_names::qname;
 use oim_report::{Kind, Report};
 
-/// The kind of a declared QName.
+/// Returns the kind of the name that `text`, a declared QName, refers to.
 pub(crate) fn kind_of_name(report: &Report, text: &str) -> Option<Kind>
     ensures { result ≡ option_and_then (λ q. kind_of report.now q.0 q.1) (qname_of report.now.namespaces text.now) }
 {
@@ -22,7 +22,7 @@ pub(crate) fn kind_of_name(report: &Report, text: &str) -> Option<Kind>
     }
 }
 
-/// The concept type of a declared QName.
+/// Returns the kind of the concept that `text`, a declared QName, refers to.
 fn concept_type_of(report: &Report, text: &str) -> Option<Kind>
     ensures { result ≡ concept_type_of report.now text.now }
 {
@@ -43,12 +43,12 @@ pub(crate) fn is_numeric(kind: Kind) -> bool
     matches!(&kind, Kind::Number(_))
 }
 
-/// The kind of the concept that a value names, or the value's least fault. (xBRL-CSV 1.0, the concept
-/// of a fact)
+/// Returns the kind of the concept that a value names, or the value's least fault. (xBRL-CSV 1.0,
+/// the concept of a fact)
 ///
-/// - `UnknownSpecial`: it begins with a single `#` and is not a special value;
-/// - `NoConcept`: nothing is given;
-/// - `BadReference`: it is nil or empty;
+/// - `UnknownSpecial`: it begins with a single `#` and is not a special value.
+/// - `NoConcept`: no value is given.
+/// - `BadReference`: it is nil or empty.
 /// - `UnknownName`: it does not name a concept of the types table.
 pub fn read_concept(report: &Report, value: CellMeaning<'_>) -> Result<Kind, CellFault>
     ensures { result ≡ concept_read report.now (seen_meaning value.entry) }

@@ -15,10 +15,10 @@ use oim_period::{Period, read};
 use oim_report::{Report, Side};
 use std::alloc::{AllocError, Global};
 
-/// What a dimension gives a fact: nothing, or nil (`Some(None)`), or a text.
+/// What a dimension gives a fact: nothing, nil (`Some(None)`), or a text.
 pub type Entry = Option<Option<Text>>;
 
-/// The side of a period: None where a side is asked of an instant.
+/// Returns the side of a period, or `None` if a side of an instant is asked for.
 fn sided(side: Side, period: Period) -> Option<Period>
     ensures { option_map reading_of result ≡ sided side (reading_of period) }
 {
@@ -47,7 +47,7 @@ fn read_period(
     }
 }
 
-/// A text as it stands, where it has the form that its dimension asks for.
+/// Returns `text` unchanged if it has the form that its dimension requires, else BadValue.
 fn taken(alloc: Global, has_form: bool, text: &str) -> Result<Result<Entry, CellFault>, AllocError>
     ensures value { IfOk result (λ r. r ≡ if has_form then Ok (Some (Some text.now)) else Err CellFault.BadValue) }
     ensures early { IfErr result (λ _. has_form ≡ true) }
@@ -87,15 +87,18 @@ fn read_text(
     }
 }
 
-/// What a dimension that is not dropped gives a fact, or the least fault of its value. An absent value and a pure
-/// unit give nothing, a period the written form of its side, a language its text in lower case, and any other its text.
-/// The outer error comes only if memory runs out, and then the value has no fault, unless it is a language.
-/// (xBRL-CSV 1.0, dimensions; Open Information Model 1.0)
+/// Reads the value of a dimension that is not dropped.
 ///
-/// - `UnknownSpecial`: it begins with a single `#` and is not a special value;
-/// - `BadReference`: it is nil or empty, and the dimension is not typed;
-/// - `BadValue`: an entity, a unit, a language or an explicit member is not well-formed;
-/// - `BadPeriod`: a period is not well-formed;
+/// Returns what it gives a fact, or the least fault of the value. An absent value and a pure unit
+/// give nothing. A period gives the written form of its side, a language its text in lower case,
+/// and any other value its text. (xBRL-CSV 1.0, dimensions; Open Information Model 1.0)
+///
+/// The outer error means that memory ran out. The value then has no fault, unless it is a language.
+///
+/// - `UnknownSpecial`: it begins with a single `#` and is not a special value.
+/// - `BadReference`: it is nil or empty, and the dimension is not typed.
+/// - `BadValue`: an entity, a unit, a language or an explicit member is not well-formed.
+/// - `BadPeriod`: a period is not well-formed.
 /// - `NotDuration`: the start or the end of an instant is asked for.
 pub fn read_value(
     alloc: Global,

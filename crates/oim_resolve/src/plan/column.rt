@@ -1,4 +1,4 @@
-//! A column, made ready for the rows.
+//! A column, prepared for all rows.
 
 ghost use Rattle.std.specs.Prelude.{◌≡◌, ◌<◌, map, length, IfOk};
 ghost use Rattle.oim_report.specs.InOrder.{LevelRises};
@@ -12,15 +12,15 @@ use oim_names::find;
 use oim_report::{Level, Report};
 use std::alloc::{AllocError, Global};
 
-/// A column: what it, its template and the report write, merged in byte order of name, and its
-/// property groups.
+/// The dimensions of a column, its template and the report, merged in byte order of name, and the
+/// column's property groups.
 #[derive(Drop)]
 pub(crate) struct PlannedColumn<'a> {
     pub(crate) planned: Vec<PlannedDimension<'a>>,
     pub(crate) groups: Vec<PlannedGroup<'a>>,
 }
 
-/// What a column, its template and the report write, merged in byte order of names.
+/// Merges the dimensions of a column, its template and the report, in byte order of name.
 #[tactic(auto, unfolding(crate::specs::state::ProgramPlan::planned_levels))]
 fn plan_levels<'a>(
     alloc: Global,
@@ -48,7 +48,7 @@ fn plan_levels<'a>(
     Ok(planned)
 }
 
-/// The merged dimensions of a column.
+/// Returns the merged dimensions of a column.
 #[tactic(auto, using(crate::proofs::LevelOrder::report_rises, crate::proofs::LevelOrder::template_rises))]
 fn plan_dimensions(
     alloc: Global,
@@ -71,7 +71,7 @@ fn plan_dimensions(
     )
 }
 
-/// A column, made ready for the rows.
+/// Prepares a column for all rows.
 pub(crate) fn plan_column(
     alloc: Global,
     report: &Report,

@@ -1,4 +1,4 @@
-//! A dimension that a level writes, made ready for the rows.
+//! A dimension that a level writes, prepared for all rows.
 
 ghost use Rattle.std.specs.Prelude.{◌≡◌, ◌<◌, map, length, IfOk};
 ghost use Rattle.std.specs.Option.{option_map};
@@ -13,13 +13,14 @@ use oim_names::Text;
 use oim_report::{Report, Side, Written};
 use std::alloc::{AllocError, Global};
 
-/// A dimension that a level writes, with what is the same for all rows. It is a literal, a reference,
-/// or, with neither, the number of the row.
+/// A dimension that a level writes, with what is the same for all rows.
+///
+/// It is a literal or a reference. If both are `None`, it is the number of the row.
 #[derive(Drop)]
 pub(crate) struct PlannedDimension<'a> {
     /// Its bytes are shared by all facts that have it.
     pub(crate) name: Text,
-    /// Whether the column itself writes it, or a group.
+    /// Whether the column itself or a group writes it.
     pub(crate) is_own: bool,
     pub(crate) side: Side,
     pub(crate) role: Role,
@@ -27,7 +28,7 @@ pub(crate) struct PlannedDimension<'a> {
     pub(crate) reference: Option<Reference<'a>>,
 }
 
-/// A dimension, made ready for the rows.
+/// Prepares a dimension for all rows.
 #[tactic(auto, unfolding(crate::specs::state::ProgramPlan::entry_in))]
 pub(crate) fn plan_dimension<'a>(
     alloc: Global,
@@ -57,7 +58,7 @@ pub(crate) fn plan_dimension<'a>(
     })
 }
 
-/// The dimension of a name.
+/// Returns the dimension with this name.
 pub(crate) fn find_dimension<'a>(
     planned: &'a [PlannedDimension<'a>],
     name: &str,

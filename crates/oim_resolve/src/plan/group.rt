@@ -1,4 +1,4 @@
-//! A property group, made ready for the rows.
+//! A property group, prepared for all rows.
 
 ghost use Rattle.std.specs.Prelude.{◌≡◌, ◌<◌, map, length, IfOk};
 ghost use Rattle.std.specs.Option.{option_map};
@@ -9,7 +9,7 @@ use crate::plan::dimension::{PlannedDimension, plan_dimension};
 use oim_report::{Column, Level, Report};
 use std::alloc::{AllocError, Global};
 
-/// A property group.
+/// A property group, prepared for all rows.
 #[derive(Drop)]
 pub(crate) struct PlannedGroup<'a> {
     pub(crate) name: &'a str,
@@ -17,7 +17,7 @@ pub(crate) struct PlannedGroup<'a> {
     pub(crate) planned: Vec<PlannedDimension<'a>>,
 }
 
-/// What a group writes.
+/// Prepares the dimensions of a group.
 #[tactic(auto, unfolding(crate::specs::state::ProgramPlan::planned_level))]
 fn plan_level<'a>(
     alloc: Global,
@@ -35,7 +35,7 @@ fn plan_level<'a>(
     Ok(planned)
 }
 
-/// The groups of a column.
+/// Prepares the groups of a column.
 pub(crate) fn plan_groups<'a>(
     alloc: Global,
     report: &'a Report,
@@ -57,7 +57,7 @@ pub(crate) fn plan_groups<'a>(
     Ok(groups)
 }
 
-/// The group of a name.
+/// Returns the group with this name.
 pub(crate) fn find_group<'a>(
     groups: &'a [PlannedGroup<'a>],
     name: &str,

@@ -12,8 +12,10 @@ use oim_names::find_in_order;
 use oim_report::{Level, Written, WrittenDecimals};
 use std::alloc::{AllocError, Global};
 
-/// What is written for a dimension, by the first level that writes it: the levels stand from the most
-/// specific to the most general, the dimensions of each in byte order of name. (xBRL-CSV 1.0, dimensions and property groups)
+/// Returns what the first level that writes a dimension writes for it.
+///
+/// The levels go from the most specific to the most general. The dimensions of each are in byte
+/// order of name. (xBRL-CSV 1.0, dimensions and property groups)
 #[tactic(auto, using(crate::proofs::Overrides::written_reversed))]
 pub fn written<'a>(levels: &[&'a Level], name: &str) -> Option<&'a Written>
     requires { All (λ l. LevelRises l.now) levels.now }
@@ -27,7 +29,7 @@ pub fn written<'a>(levels: &[&'a Level], name: &str) -> Option<&'a Written>
     None
 }
 
-/// What is written for decimals, by the first level that writes them, as in `written`.
+/// Returns the decimals of the first level that writes them, as `written` does.
 #[tactic(auto, using(crate::proofs::Overrides::decimals_reversed))]
 pub fn written_decimals<'a>(levels: &[&'a Level]) -> Option<&'a WrittenDecimals>
     ensures { option_map (λ w. w.now) result ≡ written_decimals (reverse (held levels.now)) }
@@ -40,7 +42,7 @@ pub fn written_decimals<'a>(levels: &[&'a Level]) -> Option<&'a WrittenDecimals>
     None
 }
 
-/// What is written for decimals: by the column, else by a group, else by template or report.
+/// Returns the decimals of the column, else of a group, else of the template or the report.
 pub(crate) fn decimals_in<'a>(
     report: &'a Level,
     template: &'a Level,
@@ -59,7 +61,7 @@ pub(crate) fn decimals_in<'a>(
     written_decimals(&[template, report])
 }
 
-/// Whether a name goes behind all of some names in byte order.
+/// Returns true only if `name` follows all of `names` in byte order.
 fn is_last<'a>(names: &[&'a str], name: &'a str) -> bool
     requires { IsAscending (held names.now) }
     ensures { result ≡ true → held (names.now ++ name.entry ∷ []) ≡ put_name (held names.now) name.now }
@@ -70,7 +72,9 @@ fn is_last<'a>(names: &[&'a str], name: &'a str) -> bool
     }
 }
 
-/// Puts a name in its place in byte order, unless it stands there. Names often come in that order, so the last place is tried first.
+/// Inserts a name at its place in byte order, unless it is there already.
+///
+/// Names often arrive in that order, so the last place is tried first.
 fn put_name<'a>(names: &mut Vec<&'a str>, name: &'a str) -> Result<(), AllocError>
     requires { IsAscending (held names.old.items) }
     ensures { OnOk result (held names.new.items ≡ put_name (held names.old.items) name.now) }
@@ -87,7 +91,7 @@ fn put_name<'a>(names: &mut Vec<&'a str>, name: &'a str) -> Result<(), AllocErro
     }
 }
 
-/// Puts the names that a level writes.
+/// Inserts the names that a level writes.
 #[tactic(auto, using(crate::proofs::Ascending::ascending_puts))]
 fn put_names<'a>(names: &mut Vec<&'a str>, level: &'a Level) -> Result<(), AllocError>
     requires { IsAscending (held names.old.items) }
@@ -100,7 +104,7 @@ fn put_names<'a>(names: &mut Vec<&'a str>, level: &'a Level) -> Result<(), Alloc
     Ok(())
 }
 
-/// The names that the levels write, in byte order, each once. It fails only if memory runs out.
+/// Returns the names that the levels write, in byte order, each once.
 #[tactic(auto, using(crate::proofs::Ascending::ascending_names))]
 pub fn names<'a>(alloc: Global, levels: &[&'a Level]) -> Result<Vec<&'a str>, AllocError>
     ensures { IfOk result (λ v. held v.items ≡ names (reverse (held levels.now))) }

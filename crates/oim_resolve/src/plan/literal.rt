@@ -1,4 +1,4 @@
-//! A literal, read beforehand.
+//! A literal that is read once for all rows.
 
 ghost use Rattle.std.specs.Prelude.{◌≡◌, IfErr, IfOk, IsOk};
 ghost use Rattle.std.specs.Option.{option_map};
@@ -13,16 +13,16 @@ use oim_cells::CellMeaning;
 use oim_report::{Kind, Report, Side, Written};
 use std::alloc::{AllocError, Global};
 
-/// A literal, read beforehand.
+/// A literal that is read once for all rows.
 #[derive(Drop)]
 pub(crate) struct Literal {
-    /// What it gives a fact, or what is wrong with it, where its dimension is not dropped.
+    /// What it gives a fact, or its fault, if its dimension is not dropped.
     pub(crate) value: Result<Entry, CellFault>,
-    /// The kind of the concept that it names, or what is wrong with it as a concept.
+    /// The kind of the concept that it names, or its fault as a concept.
     pub(crate) concept: Result<Kind, CellFault>,
 }
 
-/// The meaning of a literal.
+/// Returns the meaning of a literal, or `None` for a reference or the row number.
 pub(crate) fn literal_of(written: &Written) -> Option<CellMeaning<'_>>
     ensures { option_map seen_meaning result ≡ literal_of written.now }
 {
@@ -35,7 +35,7 @@ pub(crate) fn literal_of(written: &Written) -> Option<CellMeaning<'_>>
     }
 }
 
-/// The same, its text shared by all facts that have it.
+/// Returns the same value, with its text shared by all facts that have it.
 fn shared(value: Result<Entry, CellFault>) -> Result<Result<Entry, CellFault>, AllocError>
     ensures { IfOk result (λ e. e ≡ value) }
 {
@@ -48,7 +48,7 @@ fn shared(value: Result<Entry, CellFault>) -> Result<Result<Entry, CellFault>, A
 }
 
 impl Literal {
-    /// What a literal gives each row.
+    /// Reads a literal.
     pub(crate) fn new(
         alloc: Global,
         report: &Report,
@@ -64,7 +64,7 @@ impl Literal {
         })
     }
 
-    /// What it gives a fact, or what is wrong with it.
+    /// Returns what it gives a fact, or its fault.
     pub(crate) fn read(&self) -> Result<Result<Entry, CellFault>, AllocError>
         ensures value { IfOk result (λ r. r ≡ (self.now).value) }
         ensures early { IfErr result (λ _. IsOk (self.now).value) }

@@ -1,4 +1,4 @@
-//! Entries of groups, put over those of a column.
+//! Dimensions of groups, merged into those of a column.
 
 ghost use Rattle.std.specs.Prelude.{◌≡◌, map, OnOk};
 ghost use Rattle.oim_resolve.specs.state.ProgramPlan.{put_entry, put_entries, seen_keyed};
@@ -8,8 +8,9 @@ use crate::plan::dimension::PlannedDimension;
 use std::alloc::AllocError;
 use std::cmp::Ordering;
 
-/// Puts an entry in its place in byte order. Of two entries of one name the first stays, if the column
-/// itself or a group writes it.
+/// Inserts a dimension at its place in byte order of name.
+///
+/// An entry of the same name is replaced, unless the column itself or a group wrote it.
 fn put_entry<'a>(
     entries: &mut Vec<&'a PlannedDimension<'a>>,
     entry: &'a PlannedDimension<'a>,
@@ -36,7 +37,7 @@ fn put_entry<'a>(
     Ok(())
 }
 
-/// Puts the entries of a group.
+/// Inserts the dimensions of a group.
 pub(crate) fn put_entries<'a>(
     entries: &mut Vec<&'a PlannedDimension<'a>>,
     group: &'a [PlannedDimension<'a>],

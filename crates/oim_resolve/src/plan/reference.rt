@@ -1,4 +1,4 @@
-//! What a reference names.
+//! The column and parameter that a reference names.
 
 ghost use Rattle.std.specs.Prelude.{◌≡◌, ◌<◌, length};
 ghost use Rattle.std.specs.Option.{option_map};
@@ -6,14 +6,14 @@ ghost use Rattle.oim_resolve.specs.state.ProgramPlan.{seen_reference, target_of}
 
 use oim_report::{Report, Written};
 
-/// What a reference names: the place of a column, and a parameter.
+/// What a reference names: the index of a column, a parameter, or both.
 #[derive(Clone, Copy)]
 pub(crate) struct Reference<'a> {
     pub(crate) place: Option<usize>,
     pub(crate) parameter: Option<&'a str>,
 }
 
-/// What a reference names.
+/// Returns the column and the parameter that a reference names.
 pub(crate) fn reference_of<'a>(
     report: &'a Report,
     table: usize,

@@ -8,22 +8,23 @@ use Rattle.oim_row.specs.Answers.{IsAnswer}
 use Rattle.oim_row.specs.declared.cached_answer.CachedAnswer.{CachedAnswer}
 use Rattle.oim_row.specs.declared.purpose.Purpose.{Purpose}
 
--- an answer is that of the text that is kept with it, where one is
+-- The answer is that of the text that is cached with it, if one is.
 abbrev pub IsCached : ReportValue → Purpose → CachedAnswer → Type 0
 IsCached r p k = k.is_kept ≡ true → IsAnswer r p (meaning_of (string_bytes k.text)) k.answer
 
--- what is kept for a reference: each text with its answer, and at a place the answer to the text at hand
+-- What is kept for a reference: each text with its answer, and at an index the answer to the
+-- current text.
 pub record IsKept (r : ReportValue) (p : Purpose) (text : List ℕ) (current : ℕ) (answers : List CachedAnswer) : Type 0 where
   pub within : current < length answers
   pub cached : All (IsCached r p) answers
   pub at_hand : IfSome (slice_get answers current) (λ k. IsAnswer r p (meaning_of text) k.answer)
 
--- an answer that is kept for the empty text
+-- The answer that is cached for the empty text.
 pub record IsEmptyText (k : CachedAnswer) : Type 0 where
   pub cached : (r : ReportValue) (p : Purpose) → IsCached r p k
   pub answer : (r : ReportValue) (p : Purpose) → IsAnswer r p (meaning_of []) k.answer
 
--- places of the empty text were added
+-- Places with the empty text were added.
 pub record AddsPlaces (old new : List CachedAnswer) : Type 0 where
   pub more : List CachedAnswer
   pub is : new ≡ old ++ more

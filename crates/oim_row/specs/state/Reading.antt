@@ -1,4 +1,4 @@
--- What is read for a purpose, and what an answer says of a text in a typed dimension.
+-- What is read for a purpose, and what an answer asserts about a text in a typed dimension.
 use Rattle.std.specs.Prelude.{◌≡◌, ℕ, Bool, true, false, List, ◌++◌, None}
 use Rattle.oim_cells.specs.Cells as m
 use Rattle.oim_report.specs.ReportValue.{ReportValue}
@@ -10,15 +10,15 @@ use Rattle.oim_row.specs.declared.purpose.Purpose.{Purpose}
 use Rattle.oim_row.specs.declared.purpose.Purpose.TheVariants.{Dimension, Decimals}
 use Rattle.oim_row.specs.Answers.{IsAnswer}
 
--- what it says of a text in a typed dimension
+-- What the answer asserts about a text in a typed dimension.
 abbrev pub IsTypedAnswer : List ℕ → Answer → Type 0
 IsTypedAnswer text a = (r : ReportValue) (s : Side) → IsAnswer r (Dimension role.Typed s) (m.Text text) a
 
--- a text was appended where something is so
+-- A text was appended if the Bool is true.
 abbrev pub AppendsWhere : List ℕ → List ℕ → List ℕ → Bool → Type 0
 AppendsWhere old more new b = b ≡ true → new ≡ old ++ more
 
--- the answer says nothing
+-- The answer asserts nothing.
 pub record IsSilent (a : Answer) : Type 0 where
   pub sound : a.is_sound ≡ false
   pub concept : a.kind ≡ None
@@ -32,7 +32,7 @@ is_typed_role role.Unit = false
 is_typed_role role.Language = false
 is_typed_role role.Explicit = false
 
--- a text is read for a typed dimension
+-- A text is read for a typed dimension.
 abbrev pub is_typed_purpose : Purpose → Bool
 is_typed_purpose (Dimension o s) = is_typed_role o
 is_typed_purpose Decimals = false

@@ -6,7 +6,7 @@ use Rattle.oim_report.specs.declared.data.Column.{Column}
 use Rattle.oim_resolve.specs.ProgramPlan.{PlanOf}
 use Rattle.oim_rows.specs.RowFacts.{TableHeaderValue, source_of_column}
 
--- the plan and the columns are those of the table, and each column's place in the header is known
+-- The plan and the columns are those of the table, and each column's index in the header is known.
 pub record IsOfTable (header : TableHeaderValue) (plan : PlanOf) (columns : List Column) (sources : List (Option ℕ)) : Type 0 where
   pub in_range : header.table < length header.report.tables
   pub one_report : plan.report ≡ header.report

@@ -1,4 +1,4 @@
--- The hash of an identifier, which the program keeps beside it.
+-- The hash of an identifier, which the program keeps with it.
 use Rattle.std.specs.Prelude.{ℕ, List}
 use Rattle.std.specs.Hash.FoldHasher.{initial, write}
 

@@ -1,4 +1,5 @@
--- The identifiers of a report's tables, and the names of refused tables, taken out of a list of names one after another.
+-- The identifiers of a report's tables, and the names of refused tables, taken out of a list of
+-- names one after another.
 use Rattle.std.specs.Prelude.{ℕ, List, [], ◌∷◌, Result, Ok, Err, slice_set, map, slice_index_or}
 use Rattle.oim_convert.specs.declared.fault.ConvertFault.{ConvertFault}
 use Rattle.oim_convert.specs.declared.fault.ConvertFault.TheVariants as fault
@@ -10,19 +11,19 @@ use Rattle.oim_run.specs.declared.outcome.Outcome.{Outcome}
 use Rattle.oim_run.specs.declared.outcome.Outcome.TheVariants as outcome
 use Rattle.oim_report.specs.ReportValue.{ReportValue}
 
--- the identifiers of a report's tables, and the one at a place
+-- The identifiers of a report's tables, and the one at a place.
 abbrev pub table_ids : ReportValue → List (List ℕ)
 table_ids report = map (λ t. t.id) report.tables
 
 abbrev pub name_in : List (List ℕ) → ℕ → List ℕ
 name_in names i = slice_index_or names i []
 
--- each fault with the name at its table's place, which is taken out of the names
+-- Each fault with the name at its table's place, which is taken out of the names.
 abbrev pub with_names : List (List ℕ) → List TableFault → List (List ℕ × TableFault)
 with_names names [] = []
 with_names names (e ∷ faults) = (name_in names e.table, e) ∷ with_names (slice_set names e.table []) faults
 
--- the outcome of a conversion with this answer, where the tables have these names
+-- The outcome of a conversion with this answer, for tables with these names.
 abbrev pub outcome_at : List (List ℕ) → List TableFault → MergeEnd → Outcome
 outcome_at names faults end.Complete = outcome.Done
 outcome_at names faults end.Refused = outcome.Tables (with_names names faults)
@@ -32,7 +33,7 @@ abbrev pub outcome_by : List (List ℕ) → Result Run ConvertFault → Outcome
 outcome_by names (Ok run) = outcome_at names run.faults.items run.end
 outcome_by names (Err f) = outcome.Run f
 
--- the same of a conversion on one thread
+-- The same for a conversion on one thread.
 abbrev pub outcome_alone : List (List ℕ) → Result (Unit {0}) ConvertFault → Outcome
 outcome_alone names (Ok u) = outcome.Done
 outcome_alone names (Err (fault.Tables faults)) = outcome.Tables (with_names names faults.items)

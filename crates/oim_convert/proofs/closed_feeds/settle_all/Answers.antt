@@ -12,7 +12,7 @@ use Rattle.oim_convert.proofs.closed_feeds.settle_all.Given as given
 use Rattle.oim_convert.proofs.closed_feeds.settle_all.Goals as goal
 use Rattle.oim_convert.proofs.closed_feeds.settle_all.Goals.{After-settled-in-loop-drain-1}
 
--- the token in the place is that of the table
+-- The token in the place is that of the table.
 token_is : (g : given.Over) (c : After-settled-in-loop-drain-1 g)
     → IsSentOf g.R.Read.remaining c.args.terms.now.report.now c.args.terms.now.limits.rows c.args.terms.now.served c.args.terms.now.claims.now.items (length c.loop-drain.settled.items) c.in_ok-closed.closed
 token_is g c =
@@ -24,7 +24,7 @@ token_is g c =
     lt (sym c.take.ensures.value ∙ c.in_ok-closed.was)) in
     subst (λ (n : ℕ). IsSentOf g.R.Read.remaining c.args.terms.now.report.now c.args.terms.now.limits.rows c.args.terms.now.served c.args.terms.now.claims.now.items n c.in_ok-closed.closed) at here
 
--- the drain is that of the table
+-- The drain is that of the table.
 drain_is : (g : given.Over) (c : After-settled-in-loop-drain-1 g)
     → IsEnded c.args.terms.now.claims.now.items (length c.loop-drain.settled.items) c.in-Some.drain
     × Each (IsEnded c.args.terms.now.claims.now.items) (suc (length c.loop-drain.settled.items)) (into_iter_items c.next.new.self)
@@ -73,7 +73,7 @@ if_none : {A : Type 0} (o : Option A) (P : Type 0) → P → IfNone o P
 if_none (Some x) P p = tt
 if_none None P p = p
 
--- the place at which the loop ends has no token
+-- The place at which the loop ends has no token.
 pub returns-in_err-closed-clause-lost : goal.returns-in_err-closed-clause-lost
 returns-in_err-closed-clause-lost g c =
     let r = c.loop-drain.invariant in

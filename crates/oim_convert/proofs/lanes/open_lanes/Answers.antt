@@ -14,7 +14,7 @@ pub loop-reader-preserved : goal.loop-reader-preserved
 loop-reader-preserved g c =
     let r = c.loop-reader.invariant in
     let tasks = c.loop-reader.tasks.items in let drains = c.loop-reader.drains.items in
-    let task : TableTask g.row.R.Denot = record { table = c.len-table.result; reader = c.in-Some.reader; feed = c.in_ok-feed.feed; helpers = c.in_ok-shared.shared } in
+    let task : TableTask g.row.R.Denot = record { table = c.len-table.result; reader = c.in-Some.reader; feed = c.in_ok-feed.feed; at_work = c.in_ok-shared.shared } in
     let drain : DrainView = c.in_ok-feed.drain in
     let pushed : c.push.new.self.items ≡ tasks ++ task ∷ [] = c.in_ok-push.ensures.items in
     let drained : c.push-in-loop-reader.new.self.items ≡ drains ++ drain ∷ [] = c.in_ok-push-2.ensures.items in

@@ -1,7 +1,7 @@
 use Rattle.std.proofs.Common.{[], ap, refl, subst, sym, ◌∙◌}
 use Rattle.std.proofs.lemmas.Option.{IfSome_then}
 use Rattle.oim_convert.specs.Histories.{facts_in}
-use Rattle.oim_pieces.specs.Flights.{PiecesLeft}
+use Rattle.oim_pieces.specs.PiecesLeft.{PiecesLeft}
 use Rattle.oim_ring.specs.Ends.{FeedView}
 use Rattle.oim_convert.proofs.SentFacts.{IsReading, block_given, end_given, fault_given, reading_begins}
 use Rattle.oim_rows.specs.Streams.{facts_of_rows}

@@ -3,7 +3,7 @@ use Rattle.std.specs.Mem.Slots.{slots_filled, slots_len}
 use Rattle.std.specs.Mem.Slots.Ownership.{Filled}
 use Rattle.oim_crew.proofs.claims.release.Given as goal
 
--- the slots from i on have their values, and those below are empty
+-- The slots from i on have their values, and those below are empty.
 abbrev pub invariant-loop-i : goal.invariant-loop-i
 invariant-loop-i g l = Filled (slots_filled l.closed.slots) l.i (slots_len l.closed.slots) × ((k : ℕ) → k < l.i → get_or (slots_filled l.closed.slots) k false ≡ false)
 

@@ -2,7 +2,7 @@ use Rattle.std.proofs.Common.{length, take, ◌-◌, ◌≡◌, ◌≤◌}
 use Rattle.std.specs.Io.KnownBytes.{Appends}
 use Rattle.oim_json.proofs.sink.write_all_of.Given as goal
 
--- the mark is as it was, and the bytes so far were written
+-- The mark is unchanged, and the bytes so far were written.
 abbrev pub invariant-loop-at : goal.invariant-loop-at
 invariant-loop-at g l =
     (l.at ≤ length l.bytes)

@@ -5,7 +5,7 @@ use Rattle.oim_json.specs.state.Writing.{has_any}
 use Rattle.oim_json.specs.declared.layout.Layout.TheVariants.{Lines}
 use Rattle.oim_json.proofs.writing.write_lines.Given as goal
 
--- the members before this place were put
+-- The members before this index were put.
 abbrev pub invariant-loop-i : goal.invariant-loop-i
 invariant-loop-i g l = record {
   has : l.has_any ≡ has_any l.any (take l.i l.block);

@@ -3,7 +3,7 @@ use Rattle.oim_meta.proofs.OwnTexts.{seen_is_repeated}
 use Rattle.oim_meta.proofs.Rising.{names_rise}
 use Rattle.oim_meta.proofs.order.repeats_text.Goals as goal
 
--- the names of an object rise
+-- The names of an object are in strict byte order.
 pub returns : goal.returns
 returns c =
     let es = c.args.members.now.entries in

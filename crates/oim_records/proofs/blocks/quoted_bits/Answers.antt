@@ -1,5 +1,5 @@
 use Rattle.std.proofs.Common.{inl, inr, ◌∙◌, sym, ap}
-use Rattle.oim_records.specs.state.Runs.{is_quoted}
+use Rattle.oim_records.specs.state.Places.{is_quoted}
 use Rattle.oim_records.proofs.WordBits.{set-all, set-none}
 use Rattle.oim_records.proofs.blocks.quoted_bits.Goals as goal
 

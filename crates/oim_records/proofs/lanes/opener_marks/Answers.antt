@@ -8,7 +8,7 @@ use Rattle.oim_records.specs.state.Bytes.{ends_field, is_comma, is_quote}
 use Rattle.oim_records.proofs.BlockBits.{either-marked}
 use Rattle.oim_records.proofs.lanes.opener_marks.Goals as goal
 
--- a comma or the end of a line ends a field
+-- A comma or a line's end ends a field.
 ended : (c : ℕ) → (is_comma c || ends_line c) ≡ ends_field c
 ended c = by (c == 44) (c == 10) (c == 13)
   where

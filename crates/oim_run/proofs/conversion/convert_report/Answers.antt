@@ -1,38 +1,22 @@
-use Rattle.oim_convert.specs.Runs.{early_fault}
-use Rattle.std.proofs.Common.{length, rules, subst, vec_capacity, ◌≡◌}
-use Rattle.oim_run.specs.state.Courses.{reader_fault}
-use Rattle.oim_run.proofs.OneThread.{alone_ends, alone_leaves}
+use Rattle.std.proofs.Common.{length, rules, vec_capacity}
+use Rattle.oim_run.proofs.OneThread.{as_alone, as_alone_leaves}
 use Rattle.oim_run.proofs.Threads.{roomy}
 use Rattle.oim_run.proofs.Endings.{as_many, converted, converted_leaves}
 use Rattle.oim_run.proofs.conversion.convert_report.Goals as goal
 
 pub returns-then-is_alone-clause-ends : goal.returns-then-is_alone-clause-ends
-returns-then-is_alone-clause-ends g c = λ files are.
-    let report = c.args.report.now in
-    let readers = length c.args.readers.items in
-    let many : readers ≡ length files = as_many g.R.Read.remaining c.args.readers.items files are in
-    alone_ends c.args.course.workers c.args.course.layout report c.args.course.limits.rows files
+returns-then-is_alone-clause-ends g c =
+    as_alone g.R.Read.remaining c.args.course c.args.report.now c.args.readers.items
     (g.W.Sink.seen c.args.sink.now)
-    (g.W.Sink.seen c.convert_serial-answer.new.sink)
-    c.in-Ok.names.items c.in-Ok.ensures readers (length report.tables)
-    (early_fault c.args.course.workers c.args.course.ring (length files) (length report.tables))
-    c.convert_serial-answer.result c.ending_alone.result
-    (subst (λ n. early_fault c.args.course.workers c.args.course.ring n (length report.tables) ≡ reader_fault readers (length report.tables)) many
-    (c.is_alone.ensures.alone c.if-is_alone.true readers (length report.tables)))
-    c.ending_alone.ensures c.convert_serial-answer.ensures.readers (c.convert_serial-answer.ensures.converts files are)
+    (g.W.Sink.seen c.convert_alone.new.sink)
+    c.convert_alone.result (c.is_alone.ensures.one c.if-is_alone.true) (c.is_alone.ensures.alone c.if-is_alone.true) c.convert_alone.ensures.ends
 
 pub returns-then-is_alone-clause-leaves : goal.returns-then-is_alone-clause-leaves
 returns-then-is_alone-clause-leaves g c =
-    let report = c.args.report.now in
-    let readers = length c.args.readers.items in
-    alone_leaves c.args.course.workers c.args.course.layout report
+    as_alone_leaves c.args.course (length c.args.readers.items) (length c.args.report.now.tables)
     (g.W.Sink.seen c.args.sink.now)
-    (g.W.Sink.seen c.convert_serial-answer.new.sink)
-    c.in-Ok.names.items readers (length report.tables)
-    (early_fault c.args.course.workers c.args.course.ring readers (length report.tables))
-    c.convert_serial-answer.result c.ending_alone.result
-    (c.is_alone.ensures.alone c.if-is_alone.true readers (length report.tables))
-    c.ending_alone.ensures c.convert_serial-answer.ensures.readers c.convert_serial-answer.ensures.leaves
+    (g.W.Sink.seen c.convert_alone.new.sink)
+    c.convert_alone.result (c.is_alone.ensures.one c.if-is_alone.true) (c.is_alone.ensures.alone c.if-is_alone.true) c.convert_alone.ensures.leaves
 
 pub returns-clause-ends : goal.returns-clause-ends
 returns-clause-ends g c = λ files are.

@@ -10,7 +10,7 @@ invariant-loop-done l = record {
   read : l.done ≤ l.len;
   within : l.at ≤ l.from + 6 * l.done;
   marks : l.marks ≡ marks_behind l.text l.done;
-  bytes : Placed l.fn.room l.room l.from (flat_map escaped_byte (take l.done l.text) ++ take 32 (drop l.done l.text)) (l.at + 32);
+  bytes : Placed l.fn.memory l.memory l.from (flat_map escaped_byte (take l.done l.text) ++ take 32 (drop l.done l.text)) (l.at + 32);
 }
 
 abbrev pub decreases-loop-done : goal.decreases-loop-done

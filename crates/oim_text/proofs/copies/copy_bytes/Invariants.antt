@@ -7,5 +7,5 @@ use Rattle.oim_text.proofs.copies.copy_bytes.Given as goal
 abbrev pub invariant-loop-i : goal.invariant-loop-i
 invariant-loop-i l = record {
   within : l.at ≤ l.from + 6 * l.i;
-  bytes : Placed l.fn.room l.room l.from (flat_map escaped_byte (take l.i l.text)) l.at;
+  bytes : Placed l.fn.memory l.memory l.from (flat_map escaped_byte (take l.i l.text)) l.at;
 }

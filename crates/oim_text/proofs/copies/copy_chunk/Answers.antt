@@ -7,7 +7,7 @@ returns c =
     let front = take 32 c.args.text.now in
     let long : length front ≡ 32 = length-take-le 32 c.args.text.now c.requires.text in
     record {
-      bytes = take_more_put_chunk c.args.at c.args.room.now front _ (omega arith) c.requires.room;
+      bytes = take_more_put_chunk c.args.at c.args.memory.now front _ (omega arith) c.requires.memory;
       moved = omega arith;
-      len = length-put_chunk c.args.at c.args.room.now front;
+      len = length-put_chunk c.args.at c.args.memory.now front;
     }

@@ -8,7 +8,7 @@ abbrev pub invariant-loop-done : goal.invariant-loop-done
 invariant-loop-done l = record {
   read : l.done ≤ l.len;
   within : l.at ≤ l.from + 6 * l.done;
-  bytes : Placed l.fn.room l.room l.from (flat_map escaped_byte (take l.done l.text)) l.at;
+  bytes : Placed l.fn.memory l.memory l.from (flat_map escaped_byte (take l.done l.text)) l.at;
 }
 
 abbrev pub decreases-loop-done : goal.decreases-loop-done

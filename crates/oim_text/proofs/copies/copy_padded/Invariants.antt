@@ -5,7 +5,7 @@ use Rattle.oim_text.proofs.copies.copy_padded.Given as goal
 abbrev pub invariant-loop-done : goal.invariant-loop-done
 invariant-loop-done l = record {
   within : l.done ≤ l.len;
-  bytes : Placed l.fn.room l.room l.at (take l.done l.text) (l.at + l.done);
+  bytes : Placed l.fn.memory l.memory l.at (take l.done l.text) (l.at + l.done);
 }
 
 abbrev pub decreases-loop-done : goal.decreases-loop-done

@@ -6,7 +6,7 @@ use Rattle.oim_text.proofs.copies.copy_quoted.Goals as goal
 
 pub copy_short-requires : goal.copy_short-requires
 copy_short-requires c =
-    omega (arith, c.requires.room, c.copy_short-at.ensures.moved, c.copy_short-at.ensures.len, c.copy_escaped-at.ensures.moved, c.copy_escaped-at.ensures.len, escaped_length (take c.args.len c.args.text.now), length-take-le c.args.len c.args.text.now c.requires.text)
+    omega (arith, c.requires.memory, c.copy_short-at.ensures.moved, c.copy_short-at.ensures.len, c.copy_escaped-at.ensures.moved, c.copy_escaped-at.ensures.len, escaped_length (take c.args.len c.args.text.now), length-take-le c.args.len c.args.text.now c.requires.text)
 
 pub returns-clause-bytes : goal.returns-clause-bytes
 unfolding quoted

@@ -6,9 +6,9 @@ use Rattle.oim_text.proofs.copies.put_part.Goals as goal
 pub invariant_of-out-2 : goal.invariant_of-out-2
 invariant_of-out-2 c =
     let text = take c.args.len c.args.text.now in
-    let room = c.copy_escaped-end.new.room in
-    let long = length-append room (drop (length room) c.make_room.new.room.items) in
-    let part = length-take c.make_room.new.room.len (room ++ drop (length room) c.make_room.new.room.items) in
+    let memory = c.copy_escaped-end.new.memory in
+    let long = length-append memory (drop (length memory) c.make_room.new.memory.items) in
+    let part = length-take c.make_room.new.memory.len (memory ++ drop (length memory) c.make_room.new.memory.items) in
     let few = escaped_length text in
     let cut = length-take-le c.args.len c.args.text.now c.requires.text in
     record {

@@ -5,7 +5,7 @@ use Rattle.oim_ring.specs.declared.item.Item.TheVariants as items
 use Rattle.oim_ring.proofs.TakenWhole.{ended}
 use Rattle.public_calls.proofs.rings.settles.Goals as goal
 
--- what was taken last is the ending
+-- The item taken last is the ending.
 pub settle-requires-clause-ended : goal.settle-requires-clause-ended
 settle-requires-clause-ended c =
     let e = c.in-Some-Ending in

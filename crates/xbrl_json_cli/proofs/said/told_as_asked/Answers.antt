@@ -4,7 +4,7 @@ use Rattle.oim_run.specs.declared.outcome.Outcome.{Outcome}
 use Rattle.oim_run.specs.Outputs.{Said, Says}
 use Rattle.xbrl_json_cli.proofs.said.told_as_asked.Goals as goal
 
--- where nothing is said, memory may have run out for the lines
+-- nothing was told, because memory may have run out for the lines
 says_nothing : (terminal : Option Bool) (o : Outcome) (said : Option Said) → Says terminal o said said
 says_nothing terminal o None = tt
 says_nothing terminal o (Some earlier) = inl refl

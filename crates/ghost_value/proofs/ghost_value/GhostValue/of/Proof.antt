@@ -1,4 +1,4 @@
--- `of` makes a value without bytes, whose `value` is what the note tells. Assumes `Logic`.
+-- `of` makes a value without bytes, and its `value` is what the note denotes. Assumes `Logic`.
 use Rattle.std.proofs.Common.{[], ◌∷◌, refl}
 use Rattle.std.proofs.raw_atomic.Walks.{proved}
 use mir.Syntax.{a_type, dcons, dnil, named}

@@ -2,7 +2,7 @@ use Rattle.std.proofs.Common.{◌≡◌, ℕ, ◌+◌, ◌<◌, All, sum_by, cou
 use Rattle.oim_crew.specs.Numbers.{times}
 use Rattle.oim_crew.proofs.claims.Claims.close.Given as goal
 
--- what the seats gathered so far have drawn and found, with what the others have, is what all seats have
+-- The seats gathered so far, together with the others, have drawn and found what all seats have.
 abbrev pub invariant-loop-seat : goal.invariant-loop-seat
 invariant-loop-seat g l = record {
   mine : All (λ seat. seat.claims ≡ l.fn.self) l.seats.items;

@@ -8,7 +8,7 @@ pub write_byte-at-requires : goal.write_byte-at-requires
 write_byte-at-requires c =
     let v = c.args.value.now in
     let text = take v.len v.bytes.now in
-    omega (arith, c.requires.room, c.copy_short-at.ensures.moved, c.copy_short-at.ensures.len, c.write_text-at.ensures.moved, c.write_text-at.ensures.len, escaped_length text, length-take-le v.len v.bytes.now c.requires.value)
+    omega (arith, c.requires.memory, c.copy_short-at.ensures.moved, c.copy_short-at.ensures.len, c.write_text-at.ensures.moved, c.write_text-at.ensures.len, escaped_length text, length-take-le v.len v.bytes.now c.requires.value)
 
 pub write_byte-requires : goal.write_byte-requires
 write_byte-requires c =
@@ -16,7 +16,7 @@ write_byte-requires c =
     let text = take v.len v.bytes.now in
     omega (
       arith,
-      c.requires.room,
+      c.requires.memory,
       c.copy_short-at.ensures.moved,
       c.copy_short-at.ensures.len,
       c.write_text-at.ensures.moved,
@@ -36,7 +36,7 @@ returns-clause-behind c =
     let text = take v.len v.bytes.now in
     omega (
       arith,
-      c.requires.room,
+      c.requires.memory,
       c.copy_short-at.ensures.moved,
       c.copy_short-at.ensures.len,
       c.write_text-at.ensures.moved,

@@ -21,7 +21,7 @@ returns-then-size-eq0 c =
     let done = c.copy_range.ensures in
     record {
       sound = given.sound;
-      bytes = subst (λ (q : List ℕ). Placed c.args.room.now c.copy_range.new.room c.args.at q c.copy_range.result) (sym same) done;
+      bytes = subst (λ (q : List ℕ). Placed c.args.memory.now c.copy_range.new.memory c.args.at q c.copy_range.result) (sym same) done;
       few = omega (arith, done.moved, length-take (run.alone - c.args.from) (drop c.args.from text));
     }
 
@@ -40,6 +40,6 @@ returns c =
     ∙ ap (λ q. front ++ q) (sym (behind_some name a.json.items some) ∙ ap (behind name) given.json) in
     record {
       sound = given.sound;
-      bytes = subst (λ (q : List ℕ). Placed c.args.room.now c.copy_some.new.room c.args.at q c.copy_some.result) same both;
+      bytes = subst (λ (q : List ℕ). Placed c.args.memory.now c.copy_some.new.memory c.args.at q c.copy_some.result) same both;
       few = omega (arith, c.copy_range-named.ensures.moved, c.copy_some.ensures.moved, c.len-size.ensures, length-take (run.named - c.args.from) (drop c.args.from text));
     }

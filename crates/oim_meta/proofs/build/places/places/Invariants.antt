@@ -5,7 +5,7 @@ use Rattle.oim_meta.specs.Members.{map_items}
 use Rattle.oim_meta.specs.Value.{add_place, places_of}
 use Rattle.oim_meta.proofs.build.places.places.Given as goal
 
--- what is made so far, continued over the rest, is the whole
+-- The places so far, continued over the rest, are the whole.
 abbrev pub invariant-loop-name : goal.invariant-loop-name
 invariant-loop-name l =
     let columns = members_view l.columns.members.now.entries in

@@ -6,7 +6,7 @@ use Rattle.oim_meta.specs.Walk.{in_members}
 use Rattle.oim_meta.specs.state.Walks.{in_column_of, members_of}
 use Rattle.oim_meta.proofs.walk.Walk.columns.Given as goal
 
--- what is made and found so far, and what the rest gives, are the whole
+-- The parts and findings so far and those of the rest are the whole.
 abbrev pub invariant-loop-name : goal.invariant-loop-name
 invariant-loop-name l =
     let all = members_of l.columns.names in

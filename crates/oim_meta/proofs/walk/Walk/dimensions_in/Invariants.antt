@@ -7,7 +7,7 @@ use Rattle.oim_meta.specs.Walk.{in_dimension, in_members}
 use Rattle.oim_meta.specs.state.Walks.{known_to}
 use Rattle.oim_meta.proofs.walk.Walk.dimensions_in.Given as goal
 
--- what is made and found so far, and what the rest gives, are the whole
+-- The parts and findings so far and those of the rest are the whole.
 abbrev pub invariant-loop-key : goal.invariant-loop-key
 invariant-loop-key l =
     let wrong = in_dimension (known_to l.self) (part_path l.here) in

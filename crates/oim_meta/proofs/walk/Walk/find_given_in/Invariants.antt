@@ -4,7 +4,7 @@ use Rattle.oim_meta.specs.Walk.{in_members}
 use Rattle.oim_meta.specs.WalkTables.{in_given}
 use Rattle.oim_meta.proofs.walk.Walk.find_given_in.Given as goal
 
--- what is found so far, and what the rest gives, are the whole
+-- The findings so far and those of the rest are the whole.
 abbrev pub invariant-loop-name : goal.invariant-loop-name
 invariant-loop-name l =
     let wrong = in_given l.self.given.now in

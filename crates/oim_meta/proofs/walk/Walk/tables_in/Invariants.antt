@@ -7,7 +7,7 @@ use Rattle.oim_meta.specs.WalkTables.{in_table}
 use Rattle.oim_meta.specs.state.Walks.{members_of, value_of}
 use Rattle.oim_meta.proofs.walk.Walk.tables_in.Given as goal
 
--- what is made and found so far, and what the rest gives, are the whole
+-- The parts and findings so far and those of the rest are the whole.
 abbrev pub invariant-loop-name : goal.invariant-loop-name
 invariant-loop-name l =
     let of = table_of (members_of l.templates.names) in

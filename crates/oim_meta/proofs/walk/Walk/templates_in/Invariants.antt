@@ -6,7 +6,7 @@ use Rattle.oim_meta.specs.Walk.{in_template, in_members}
 use Rattle.oim_meta.specs.state.Walks.{known_to}
 use Rattle.oim_meta.proofs.walk.Walk.templates_in.Given as goal
 
--- what is made and found so far, and what the rest gives, are the whole
+-- The parts and findings so far and those of the rest are the whole.
 abbrev pub invariant-loop-name : goal.invariant-loop-name
 invariant-loop-name l =
     let wrong = in_template (known_to l.self) in

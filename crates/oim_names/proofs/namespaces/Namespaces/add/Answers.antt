@@ -6,7 +6,7 @@ use Rattle.oim_names.proofs.Bound.{place_le, placed, kept, bound_extends}
 use Rattle.oim_names.proofs.namespaces.Namespaces.add.Goals as goal
 use Rattle.oim_names.proofs.namespaces.Namespaces.add.Goals.{in-Ok-insert, in-Err}
 
--- where no URI is lent, none is bound
+-- If no URI is lent, none is bound.
 none_lent : (o : Option (Bor (List ℕ))) (w : Option (List ℕ)) → option_map (λ u. u.now) o ≡ w → is_some o ≡ false → is_some w ≡ false
 none_lent None w e f = rw (← e) refl
 none_lent (Some x) w e f = absurd (cc)
@@ -17,7 +17,7 @@ insert-requires c =
     let i : c.place_of-place.result ≡ prefix_len q c.self.inside.bindings = c.place_of-place.ensures ∙ ap (prefix_len q) c.as_slice-2.ensures in
     rw i (place_le c.self.inside.bindings q)
 
--- neither the prefix nor the URI was there
+-- Neither the prefix nor the URI was bound.
 no_prefix : (c : goal.Joined-insert-2) → is_some (uri_of c.self.inside.bindings c.args.prefix.now) ≡ false
 no_prefix c =
     let e : option_map (λ u. u.now) c.uri.result ≡ uri_of c.self.inside.bindings c.args.prefix.now = c.uri.ensures ∙ ap (λ b. uri_of b c.args.prefix.now) (sym c.self.view_is) in
@@ -26,7 +26,7 @@ no_prefix c =
 no_uri : (c : goal.Joined-insert-2) → has_uri c.self.inside.bindings c.args.uri.now ≡ false
 no_uri c = ap (λ b. has_uri b c.args.uri.now) (sym c.as_slice.ensures) ∙ sym c.any_uri.ensures ∙ c.if-any_uri.false
 
--- the bindings after the call of `insert`
+-- The bindings after the call of `insert`.
 after : (c : goal.Joined-insert-2) → c.insert.new.self ≡ cond (is_ok c.insert.result) (bound c.self.inside.bindings c.args.prefix.now c.args.uri.now) c.self.inside.bindings
 after c =
     let es : Bindings = c.self.inside.bindings in

@@ -3,7 +3,7 @@ use Rattle.oim_records.specs.PieceTaking.{bytes_left}
 use Rattle.oim_records.specs.Reads.{KeepsLeft, left_behind}
 use Rattle.oim_pieces.specs.state.Cutting.{CutterLeft, left_over}
 use Rattle.oim_pieces.proofs.CutLaws.{cut_ended}
-use Rattle.oim_pieces.proofs.FlightLaws.{rows_few}
+use Rattle.oim_pieces.proofs.UnderWayLaws.{rows_few}
 use Rattle.oim_pieces.proofs.cutter.Cutter.cut.Goals as goal
 
 pub overflow_add-self : goal.overflow_add-self

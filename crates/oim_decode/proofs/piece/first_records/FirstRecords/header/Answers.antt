@@ -5,7 +5,7 @@ use Rattle.oim_records.specs.Reads.{StartsFile}
 use Rattle.oim_decode.proofs.HeadLaws.{head_faults, head_fines, head_forms, marked_records}
 use Rattle.oim_decode.proofs.piece.first_records.FirstRecords.header.Goals as goal
 
--- the records that are left in the reader at its start
+-- The records that are left in the reader at its start.
 pub returns-clause-value : goal.returns-clause-value
 returns-clause-value c =
     let starts = subst (λ t. StartsFile (Some t) c.in-Ok.records.left) c.as_slice.ensures.value c.in-Ok.ensures in

@@ -18,7 +18,7 @@ returns-in-Some-clause-row c =
     (ends_own a.header c.args.number a.ids a.records.left c.read.new.self.left c.read.new.self.fields c.fields-fields.result c.args.answer.now c.end-in-Some.new.self c.in-Some.fault
     took c.fields-fields.ensures c.self.invariant.1 (sym c.fault_of.ensures ∙ c.in-Some.is) c.end-in-Some.ensures)
 
--- a row without a fault of its own is text
+-- A row without a fault of its own is text.
 pub unreachable-requires : goal.unreachable-requires
 unreachable-requires c =
     let a = c.self.inside in

@@ -13,7 +13,7 @@ returns-in-Some-clause-next g c =
     (adds_early (a.given + 1) a.header a.ids c.read-found.new.self.fields c.in-Some.answer c.read-found.result c.args.facts.now a.records.left c.read-found.new.self.left
     (option_map (stream_from a.header (a.given + 1) a.ids) c.read-found.new.self.left) took (sym c.in-Some.is ∙ c.early_answer.ensures))
 
--- a row without a fault of its own is text
+-- A row without a fault of its own is text.
 pub unreachable-requires : goal.unreachable-requires
 unreachable-requires g c =
     let a = c.self.inside in

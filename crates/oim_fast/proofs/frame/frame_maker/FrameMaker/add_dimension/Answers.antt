@@ -1,6 +1,6 @@
 use Rattle.std.proofs.Common.{map, sym}
 use Rattle.oim_fast.specs.state.Frames.{entry_of}
-use Rattle.oim_fast.specs.state.Parts.{IsPart}
+use Rattle.oim_fast.specs.state.FrameParts.{IsPart}
 use Rattle.oim_row.specs.References.{key_of}
 use Rattle.oim_row.proofs.Growth.{grows_none}
 use Rattle.oim_fast.proofs.MakerLaws.{maker_with}

@@ -2,7 +2,7 @@ use Rattle.std.proofs.Common.{map, reverse, sym, ap, inl}
 use Rattle.oim_resolve.specs.ProgramCell.{held}
 use Rattle.oim_fast.specs.state.Frames.{entry_of}
 use Rattle.oim_fast.specs.state.KeptFrames.{kind_code}
-use Rattle.oim_fast.specs.state.Parts.{IsPart}
+use Rattle.oim_fast.specs.state.FrameParts.{IsPart}
 use Rattle.oim_row.specs.References.{key_of}
 use Rattle.oim_row.proofs.Growth.{grows_none}
 use Rattle.oim_fast.proofs.MakerLaws.{maker_with}

@@ -1,4 +1,4 @@
-use Rattle.oim_fast.specs.state.Parts.{IsPart}
+use Rattle.oim_fast.specs.state.FrameParts.{IsPart}
 use Rattle.oim_row.specs.References.{IsOfReport, key_of}
 use Rattle.std.proofs.Common.{map}
 use Rattle.oim_fast.proofs.MakerLaws.{all_of_none}

@@ -1,7 +1,7 @@
 use Rattle.std.proofs.Common.{◌≡◌, ◌++◌, ◌∷◌, [], false, List, ℕ, refl, sym, ap, ◌∙◌, subst}
 use Rattle.oim_resolve.specs.Facts.{is_dropped}
 use Rattle.oim_fast.specs.state.FrameTexts.{FrameValue, IsLaidOut, with_value}
-use Rattle.oim_fast.specs.declared.frame.frame_text.Run.{Run}
+use Rattle.oim_fast.specs.declared.frame.frame_text.TextRun.{TextRun}
 use Rattle.oim_fast.specs.declared.frame.part.PartValue.TheVariants as part
 use Rattle.oim_fast.proofs.FrameTextLaws.{laid_out_more, laid_out_run, run_at_end, seen, value_more, value_run, with_it}
 use Rattle.oim_fast.proofs.frame.frame_text.FrameText.add.Goals as goal
@@ -21,11 +21,11 @@ invariant_of-self-in-Reference c =
     let a = c.self.inside in
     let name = c.as_slice-in-Reference.result.now in
     let i = c.in-Reference.reference in
-    let run : Run = record { alone = c.len-alone.result; named = c.len.result; reference = i } in
+    let run : TextRun = record { alone = c.len-alone.result; named = c.len.result; reference = i } in
     let is : run ≡ run_at_end a.text.items name i = rw (c.len-alone.ensures, c.len.ensures, c.in_ok-put-in-Reference.ensures.items) refl in
     let laid = laid_out_run a.text.items a.lead a.opening a.body a.runs.items c.self.invariant name i in
     subst (λ (t : List ℕ). IsLaidOut t a.lead a.opening a.body c.push.new.self.items) (sym c.in_ok-put-in-Reference.ensures.items)
-    (subst (λ (rs : List Run). IsLaidOut (a.text.items ++ name) a.lead a.opening a.body rs) (sym (c.in_ok-push-in-Reference.ensures.items ∙ ap (λ r. a.runs.items ++ r ∷ []) is)) laid)
+    (subst (λ (rs : List TextRun). IsLaidOut (a.text.items ++ name) a.lead a.opening a.body rs) (sym (c.in_ok-push-in-Reference.ensures.items ∙ ap (λ r. a.runs.items ++ r ∷ []) is)) laid)
 
 pub returns-in_ok-put-in-Text-clause-part : goal.returns-in_ok-put-in-Text-clause-part
 returns-in_ok-put-in-Text-clause-part c = λ so.
@@ -43,7 +43,7 @@ returns-in_ok-push-in-Reference-clause-part c = λ so.
     let p = c.args.part.now in
     let name = c.as_slice-in-Reference.result.now in
     let i = c.in-Reference.reference in
-    let run : Run = record { alone = c.len-alone.result; named = c.len.result; reference = i } in
+    let run : TextRun = record { alone = c.len-alone.result; named = c.len.result; reference = i } in
     let is : run ≡ run_at_end a.text.items name i = rw (c.len-alone.ensures, c.len.ensures, c.in_ok-put-in-Reference.ensures.items) refl in
     let kept : is_dropped c.args.self.now.kind p.role ≡ false = sym (c.is_dropped.ensures ∙ ap (λ (t : FrameValue). is_dropped t.kind p.role) c.self.view_is) ∙ c.if-is_dropped.false in
     with_it c.args.self.now _ p (part.Reference i) kept c.in-Reference.is

@@ -1,6 +1,0 @@
-use Rattle.oim_fast.specs.state.Parts.{IsPart}
-use Rattle.oim_fast.proofs.MakerLaws.{all_of_none}
-use Rattle.oim_fast.proofs.frame.parts.Parts.make_room.Goals as goal
-
-pub returns : goal.returns
-returns c = λ f keys all. all_of_none (IsPart f keys) c.clear.new.self.items c.clear.ensures.items

@@ -1,0 +1,136 @@
+-- The pieces under way, and the stream that is left with them.
+use Rattle.std.proofs.Common.{◌≡◌, ◌++◌, ◌+◌, ◌≤◌, ℕ, suc, List, [], ◌∷◌, length, Bool, true, false, if◌then◌else◌, Option, Some, None, IfSome, refl, sym, ap, subst, ◌∙◌, append-nil, append_assoc, arith}
+use Rattle.std.proofs.lemmas.Grind.{flat_map-append}
+use Rattle.csv.specs.Machine.{ends_at_end, is_end, step}
+use Rattle.csv.specs.Reading.{default_config}
+use Rattle.csv.specs.declared.parser.State.{State}
+use Rattle.csv.specs.declared.parser.State.TheVariants as state
+use Rattle.oim_records.specs.Cuts.{ended, state_after}
+use Rattle.oim_records.specs.Grids.{Field, Record, records_left}
+use Rattle.oim_records.specs.Reads.{KeepsLeft}
+use Rattle.oim_records.proofs.RecordLaws.{left-count}
+use Rattle.oim_rows.specs.RowFacts.{TableHeaderValue}
+use Rattle.oim_rows.specs.Streams.{Stream, ending, stream_from}
+use Rattle.oim_rows.specs.declared.fault.TableFault.{TableFault}
+use Rattle.oim_decode.specs.Apart.{Apart}
+use Rattle.oim_decode.specs.Blocks.{ReadsRows}
+use Rattle.oim_decode.specs.PieceAnswers.{IsJoined, IsPieceDecoded, fault_or_next}
+use Rattle.oim_decode.proofs.JoinLaws.{piece_is_read}
+use Rattle.oim_pieces.specs.state.Cutting.{CutterLeft, IsOver, TakesRows}
+use Rattle.oim_pieces.specs.state.PiecesUnderWay.{AreChained, UnderWayLeft, PieceRowsLeft, IsEndOfTable, IsFront, IsPieceAnswer, KeepsStream, ReadsJoined, fault_or_left, first_row_of, rows_in, rows_left, stream_in}
+
+-- COUNTS
+
+-- A text has at most one more record than bytes.
+ends-few : (s : State) (xs : List ℕ) → ended s xs ≤ length xs
+unfolding ended
+ends-few s [] = omega arith
+ends-few s (c ∷ xs) = by (is_end (step default_config s c).1) (ends-few (step default_config s c).0 xs)
+  where
+    by : (b : Bool) → ended (step default_config s c).0 xs ≤ length xs → (if b then 1 else 0) + ended (step default_config s c).0 xs ≤ suc (length xs)
+    by true few = omega (arith, few)
+    by false few = omega (arith, few)
+
+pub rows_few : (xs : List ℕ) → length (records_left state.StartRecord xs) ≤ 1 + length xs
+rows_few xs = by (ends_at_end (state_after state.StartRecord xs)) (left-count state.StartRecord xs)
+  where
+    by : (b : Bool) → length (records_left state.StartRecord xs) ≡ ended state.StartRecord xs + (if b then 1 else 0) → length (records_left state.StartRecord xs) ≤ 1 + length xs
+    by true is = let few = ends-few state.StartRecord xs in omega (arith, few, is)
+    by false is = let few = ends-few state.StartRecord xs in omega (arith, few, is)
+
+-- ONE MORE PIECE
+
+first-more : (fs : List PieceRowsLeft) (f : PieceRowsLeft) (next next' : ℕ) → f.first ≡ next → first_row_of (fs ++ f ∷ []) next' ≡ first_row_of fs next
+first-more [] f next next' at = at
+first-more (x ∷ fs) f next next' at = refl
+
+pub chained_more : (g : TableHeaderValue) (fs : List PieceRowsLeft) (f : PieceRowsLeft) (next next' : ℕ) → AreChained g fs next → f.header ≡ g → f.first ≡ next
+    → f.first + length f.rows ≡ next' → AreChained g (fs ++ f ∷ []) next'
+chained_more g [] f next next' chain reads at more = (reads, more, tt)
+chained_more g (x ∷ fs) f next next' chain reads at more = (chain.0, chain.1 ∙ sym (first-more fs f next next' at), chained_more g fs f next next' chain.2 reads at more)
+
+rows-more : (fs : List PieceRowsLeft) (f : PieceRowsLeft) → rows_in (fs ++ f ∷ []) ≡ rows_in fs ++ f.rows
+rows-more fs f = flat_map-append (λ (x : PieceRowsLeft). x.rows) fs (f ∷ []) ∙ ap (λ t. rows_in fs ++ t) (append-nil f.rows)
+
+module _ (g : TableHeaderValue) (ids : List Field) (fs : List PieceRowsLeft) where
+  pub stream_more : (f : PieceRowsLeft) (next next' : ℕ) (left left' : Option (List Record)) → f.first ≡ next → TakesRows left f.rows left'
+      → KeepsStream (rows_left g ids fs next left) (rows_left g ids (fs ++ f ∷ []) next' left')
+  stream_more f next next' None left' at takes = tt
+  stream_more f next next' (Some records) None at takes = absurd takes
+  stream_more f next next' (Some records) (Some rest) at takes =
+      let all : rows_in (fs ++ f ∷ []) ++ rest ≡ rows_in fs ++ records =
+      ap (λ t. t ++ rest) (rows-more fs f) ∙ append_assoc (rows_in fs) f.rows rest ∙ ap (λ t. rows_in fs ++ t) (sym takes) in
+      ap (λ n. some (stream_from g n ids (rows_in (fs ++ f ∷ []) ++ rest))) (first-more fs f next next' at) ∙ ap (λ t. some (stream_from g (first_row_of fs next) ids t)) all
+    where
+      some : Stream → Option Stream
+      some s = Some s
+
+  pub stream_kept : (next : ℕ) (left left' : Option (List Record)) → KeepsLeft left left' → KeepsStream (rows_left g ids fs next left) (rows_left g ids fs next left')
+  stream_kept next None left' same = tt
+  stream_kept next (Some xs) None same = absurd same
+  stream_kept next (Some xs) (Some ys) same = ap (λ t. some (stream_from g (first_row_of fs next) ids (rows_in fs ++ t))) same
+    where
+      some : Stream → Option Stream
+      some s = Some s
+
+pub stream_same : (o : Option Stream) → KeepsStream o o
+stream_same None = tt
+stream_same (Some s) = refl
+
+pub stream_then : (a b c : Option Stream) → KeepsStream a b → KeepsStream b c → KeepsStream a c
+stream_then None b c ab bc = tt
+stream_then (Some s) b c ab bc = subst (λ o. KeepsStream o c) ab bc
+
+-- THE FIRST PIECE
+
+next-behind : (g : TableHeaderValue) (ids ids' : List Field) (n m : ℕ) (o : Option TableFault) (rest : List Record) → n ≡ m → (o ≡ None → ids ≡ ids')
+    → Some (fault_or_next o (stream_from g n ids rest)) ≡ fault_or_left o (Some (stream_from g m ids' rest))
+next-behind g ids ids' n m None rest at same = ap (λ k. some (stream_from g k ids rest)) at ∙ ap (λ l. some (stream_from g m l rest)) (same refl)
+  where
+    some : Stream → Option Stream
+    some s = Some s
+next-behind g ids ids' n m (Some e) rest at same = refl
+
+pub front_read : (g : TableHeaderValue) (ids ids' : List Field) (f : PieceRowsLeft) (fs : List PieceRowsLeft) (next : ℕ) (left : Option (List Record)) (s : Stream)
+    → AreChained g (f ∷ fs) next → IsFront f ids s ids'
+    → IfSome (rows_left g ids (f ∷ fs) next left) (λ whole. ReadsJoined g.table whole s (rows_left g ids' fs next left))
+front_read g ids ids' f fs next None s chain front = tt
+front_read g ids ids' f fs next (Some rest) s chain front =
+    let a = front.answer in
+    let decoded : IsPieceDecoded g f.first f.rows a = subst (λ (x : TableHeaderValue). IsPieceDecoded x f.first f.rows a) chain.0 front.decoded in
+    let joined : IsJoined g f.first ids a s = subst (λ (x : TableHeaderValue). IsJoined x f.first ids a s) chain.0 front.joined in
+    let read = piece_is_read g f.first ids f.rows (rows_in fs ++ rest) a s decoded joined in
+    let left = next-behind g (ids ++ a.ids) ids' (f.first + length f.rows) (first_row_of fs next) s.fault (rows_in fs ++ rest) chain.1 (λ none. sym (front.behind none)) in
+    subst (λ (t : List Record). ReadsJoined g.table (stream_from g f.first ids t) s (Some (stream_from g (first_row_of fs next) ids' (rows_in fs ++ rest))))
+    (sym (append_assoc f.rows (rows_in fs) rest))
+    (subst (λ o. ReadsRows g.table (stream_from g f.first ids (f.rows ++ (rows_in fs ++ rest))) s.rows o) left read)
+
+-- If no row is left, the stream is at its end.
+pub none_left : (g : TableHeaderValue) (n : ℕ) (ids : List Field) → stream_from g n ids [] ≡ ending None
+unfolding stream_from
+none_left g n ids = refl
+
+-- If no piece is under way and nothing more is cut, the table ends.
+pub end_found : (table : ℕ) (g : TableHeaderValue) (ids : List Field) (next : ℕ) (left : Option (List Record)) (o : Option TableFault) → IsOver table left o
+    → IsEndOfTable table (rows_left g ids [] next left) o
+end_found table g ids next None None over = tt
+end_found table g ids next (Some records) None over = ap (stream_from g next ids) over ∙ none_left g next ids
+end_found table g ids next left (Some e) over = over
+
+-- An answer for equal rows of an equal header is an answer for the piece.
+pub answer_same : (g g' : TableHeaderValue) (first first' : ℕ) (rows rows' : List Record) (a : Apart) → IsPieceAnswer g' first' rows' a → g' ≡ g → first' ≡ first → rows' ≡ rows → IsPieceAnswer g first rows a
+answer_same g g' first first' rows rows' a is header at same =
+    subst (λ r. IsPieceAnswer g first r a) same (subst (λ n. IsPieceAnswer g n rows' a) at (subst (λ (x : TableHeaderValue). IsPieceAnswer x first' rows' a) header is))
+
+-- The first piece under way is joined, and the others stay under way.
+pub joined_front : (old : UnderWayLeft) (g g' : TableHeaderValue) (ids ids' : List Field) (f : PieceRowsLeft) (all fs : List PieceRowsLeft) (cutter : CutterLeft) (s : Stream)
+    → record { header = g; ids = ids; pieces = all; cutter = cutter } ≡ old → all ≡ f ∷ fs → g.table ≡ cutter.table → AreChained g all cutter.next → IsFront f ids s ids'
+    → g' ≡ g → IfSome (stream_in old) (λ whole. ReadsJoined old.cutter.table whole s (stream_in (record { header = g'; ids = ids'; pieces = fs; cutter = cutter })))
+joined_front old g g' ids ids' f all fs cutter s view is table chain front same =
+    let next = cutter.next in
+    let left = cutter.left in
+    let read = front_read g ids ids' f fs next left s (subst (λ l. AreChained g l next) is chain) front in
+    let placed = subst (λ t. IfSome (rows_left g ids (f ∷ fs) next left) (λ whole. ReadsJoined t whole s (rows_left g ids' fs next left))) table read in
+    let whole = subst (λ l. IfSome (rows_left g ids l next left) (λ whole. ReadsJoined cutter.table whole s (rows_left g ids' fs next left))) (sym is) placed in
+    let new = subst (λ (h : TableHeaderValue). IfSome (rows_left g ids all next left) (λ whole. ReadsJoined cutter.table whole s (rows_left h ids' fs next left))) (sym same) whole in
+    subst (λ (v : UnderWayLeft). IfSome (stream_in v) (λ whole. ReadsJoined v.cutter.table whole s (rows_left g' ids' fs next left))) view new

@@ -1,9 +1,0 @@
-use Rattle.oim_pieces.proofs.FlightLaws.{joined_front}
-use Rattle.oim_pieces.proofs.flight.Flight.join_front.Goals as goal
-
-pub returns-clause-some : goal.returns-clause-some
-returns-clause-some g c =
-    let items = c.in_ok-piece.ensures.items in
-    joined_front c.args.self.now c.self.inside.crew c.join_piece.new.crew c.self.inside.join c.join_piece.new.join c.in_ok-piece.piece c.self.inside.flying.items
-    c.pop_front.new.self.items c.self.inside.cutter c.join_piece.result c.self.view_is items c.self.invariant.0 c.self.invariant.2 c.join_piece.ensures.joined
-    c.join_piece.ensures.same

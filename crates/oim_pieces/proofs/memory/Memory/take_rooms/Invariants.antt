@@ -1,5 +1,0 @@
-use Rattle.std.proofs.Common.{◌≡◌}
-use Rattle.oim_pieces.proofs.memory.Memory.take_rooms.Given as goal
-
-abbrev pub invariant-loop : goal.invariant-loop
-invariant-loop l = l.decoder ≡ l.fn.decoder

@@ -1,0 +1,323 @@
+//! The pieces of a table that are under way: cut, and not joined yet.
+
+ghost use Rattle.std.specs.Prelude.{◌≡◌, ◌⊎◌, ◌-◌, ◌<◌, ◌≤◌, [], ◌∷◌, drop, IfNone, IfOk, IfErr, IfSome, None, OnSome, Some, length, true};
+ghost use Rattle.oim_decode.specs.Heads.{table_header_in};
+ghost use Rattle.oim_records.specs.PieceTaking.{bytes_left};
+ghost use Rattle.oim_records.specs.Reads.{left_behind};
+ghost use Rattle.oim_rows.specs.Header.{file_header_fault};
+ghost use Rattle.oim_rows.specs.Streams.{IsOutside, ending, stream_of};
+ghost use Rattle.oim_pieces.specs.PiecesLeft.{FewerSteps};
+ghost use Rattle.oim_pieces.specs.state.PiecesUnderWay.{IsEndOfTable, IsFront, KeepsStream, NoMoreSteps, ReadsJoined, steps_in, stream_in};
+
+use crate::at_work::AtWork;
+use crate::cutter::Cutter;
+use crate::piece_under_way::PieceUnderWay;
+use crate::table_threads::TableThreads;
+use oim_decode::{FirstRecords, JoinedPiece, PieceJoin};
+use oim_records::PieceReader;
+use oim_report::Report;
+use oim_rows::{TableFault, TableKind, whole_fault};
+use std::alloc::Global;
+use std::collections::VecDeque;
+use std::io::Read;
+use std::marker::Model;
+use std::sync::Wait;
+use std::thread::{Scope, Threads};
+
+/// A bound of the loop that cuts ahead. It exceeds the pieces that are under way at once.
+const MOST_CUT: usize = 256;
+
+/// More vectors than return at once. All are taken once the writer has reached the table, since
+/// most belong to helper threads, which use them again.
+const MOST_TAKEN: usize = 256;
+
+/// The pieces of a table that are under way, in order, with what cuts, decodes and joins them.
+///
+/// Contracts see the table's header, the identifiers of the rows that were given, the pieces, and
+/// what is left to cut.
+#[derive(Drop)]
+pub(crate) struct PiecesUnderWay<'a, R: Read + Drop> {
+    cutter: Cutter<R>,
+    threads: TableThreads<'a>,
+    join: PieceJoin,
+    under_way: VecDeque<PieceUnderWay<'a>>,
+    // Whether the rows of the head were given.
+    has_given: bool,
+    // Whether the writer has reached the table.
+    is_wanted: bool,
+    // Whether the vectors that return now are from this table's blocks.
+    are_own: bool,
+}
+
+impl<'a, R: Read + Drop> Model for PiecesUnderWay<'a, R> {
+    ghost use Rattle.std.specs.Prelude.{◌≡◌};
+    ghost use Rattle.oim_pieces.specs.state.PiecesUnderWay.{AreChained, UnderWayLeft};
+
+    ghost Value = { UnderWayLeft };
+
+    ghost view = { λ a. record { header = a.threads; ids = a.join; pieces = a.under_way.items; cutter = a.cutter } };
+
+    ghost invariant = { λ a. (a.threads.table ≡ a.cutter.table) × (a.threads.limit ≡ a.cutter.limit) × AreChained a.threads a.under_way.items a.cutter.next };
+}
+
+/// Opens the table's crew, with the rows of `head` as the only piece under way.
+///
+/// Fails with the header's first fault, and with Memory if memory runs out.
+fn open_table<'a>(
+    alloc: Global,
+    at_work: &'a AtWork,
+    report: &'a Report,
+    table: usize,
+    limit: u32,
+    head: FirstRecords,
+) -> Result<(TableThreads<'a>, VecDeque<PieceUnderWay<'a>>), TableFault>
+    requires place { table < length report.now.tables }
+    requires rows { limit ≤ 4294967294 }
+    ensures threads { IfOk result (λ off. off.0 ≡ table_header_in report.now table limit head) }
+    ensures piece { IfOk result (λ off. off.1.items ≡ record { header = table_header_in report.now table limit head; first = 1; rows = drop 1 head } ∷ []) }
+    ensures rows { IfOk result (λ _. length head - 1 < 18446744073709551615) }
+    ensures header { IfOk result (λ _. file_header_fault report.now table head ≡ None) }
+    ensures fault { IfErr result (λ e. IsOutside table e ⊎ (file_header_fault report.now table head ≡ Some e)) }
+{
+    if head.rows() == u64::MAX {
+        return Err(whole_fault(table, TableKind::Memory));
+    }
+    let Ok(mut under_way) = VecDeque::with_capacity(alloc, 1) else {
+        return Err(whole_fault(table, TableKind::Memory));
+    };
+    match TableThreads::open(alloc, at_work, report, table, limit, head) {
+        Ok((threads, front)) => {
+            under_way.push_back_reserved(front);
+            Ok((threads, under_way))
+        }
+        Err(fault) => Err(fault),
+    }
+}
+
+/// Joins a piece, waiting for its answer.
+fn join_piece<'a, T: Wait>(
+    rt: &T,
+    threads: &mut TableThreads<'a>,
+    join: &mut PieceJoin,
+    piece: PieceUnderWay<'a>,
+) -> JoinedPiece
+    requires { piece.header ≡ threads.old }
+    ensures joined { IsFront piece.entry join.old result join.new }
+    ensures same { threads.new ≡ threads.old }
+{
+    let first = piece.first();
+    let answer = piece.wait_for_answer(rt, threads);
+    join.join(threads.header(), first, answer)
+}
+
+impl<'a, R: Read + Drop> PiecesUnderWay<'a, R> {
+    /// Opens a table with its head and the reader of its further pieces. The rows of the head are
+    /// under way.
+    ///
+    /// Fails with the header's first fault, and with Memory if memory runs out.
+    pub(crate) fn after_head(
+        alloc: Global,
+        at_work: &'a AtWork,
+        report: &'a Report,
+        table: usize,
+        limit: u32,
+        head: FirstRecords,
+        pieces: PieceReader<R>,
+    ) -> Result<PiecesUnderWay<'a, R>, TableFault>
+        requires place { table < length report.now.tables }
+        requires rows { limit ≤ 4294967294 }
+        requires header { 1 ≤ length head }
+        ensures table { IfOk result (λ t. t.cutter.table ≡ table) }
+        ensures unread { IfOk result (λ t. t.cutter.unread ≡ bytes_left pieces) }
+        ensures stream { IfSome (left_behind head pieces) (λ records. IfOk result (λ t. stream_in t ≡ Some (stream_of report.now table limit records))) }
+        ensures fault { IfErr result (λ e. IsOutside table e ⊎ (file_header_fault report.now table head ≡ Some e)) }
+    {
+        let rows = head.rows();
+        match open_table(alloc, at_work, report, table, limit, head) {
+            Ok((threads, under_way)) => Ok(PiecesUnderWay {
+                cutter: Cutter::new(pieces, table, limit, 1 + rows, at_work.size()),
+                threads,
+                join: PieceJoin::new(alloc),
+                under_way,
+                has_given: false,
+                is_wanted: false,
+                are_own: false,
+            }),
+            Err(fault) => Err(fault),
+        }
+    }
+
+    /// Keeps the vector of a written block as a spare, for the thread that wrote the block if that
+    /// is known.
+    pub(crate) fn keep_spare<T: Wait>(&mut self, rt: &T, spare: Vec<u8>)
+        ensures { self.new ≡ self.old }
+    {
+        if self.are_own {
+            self.threads.memory.keep_own(rt, spare);
+        } else {
+            self.threads.memory.keep_spare(spare);
+        }
+    }
+
+    /// Records that the vectors of all given blocks have returned, except those of the last `left`.
+    pub(crate) fn note_left(&mut self, left: usize)
+        ensures { self.new ≡ self.old }
+    {
+        self.threads.memory.note_left(left);
+    }
+
+    /// Records that the piece joined last gave `count` blocks, each with one vector.
+    pub(crate) fn expect(&mut self, count: usize)
+        ensures { self.new ≡ self.old }
+    {
+        self.threads.memory.expect(count);
+    }
+
+    /// Returns how many more spare vectors to take for the next pieces: every one that has
+    /// returned, once the writer has reached the table.
+    pub(crate) fn wanted_spares(&self) -> usize {
+        if self.is_wanted {
+            MOST_TAKEN
+        } else {
+            self.threads.memory.wanted()
+        }
+    }
+
+    /// Returns all spare vectors for texts.
+    pub(crate) fn free_spares<T: Wait>(&mut self, rt: &T) -> Vec<Vec<u8>>
+        ensures { self.new ≡ self.old }
+    {
+        self.threads.memory.free_spares(rt)
+    }
+
+    /// Cuts pieces and starts their decoding while threads have places for them. If no piece is
+    /// under way, cuts the next one in any case.
+    #[tactic(auto, using(crate::proofs::UnderWayLaws::stream_then, crate::proofs::UnderWayLaws::stream_same, crate::proofs::StepLaws::steps_then, crate::proofs::StepLaws::steps_same))]
+    pub(crate) fn cut_ahead<E, T: Threads + Wait + Sync + 'a>(
+        &mut self,
+        scope: &Scope<'a, E>,
+        rt: &'a T,
+    )
+        ensures stream { KeepsStream (stream_in self.old) (stream_in self.new) }
+        ensures steps { NoMoreSteps (steps_in self.old) (steps_in self.new) }
+        ensures table { self.new.cutter.table ≡ self.old.cutter.table }
+    {
+        for _ in 0..MOST_CUT {
+            if !self.may_cut(rt) || !self.cut_next(scope, rt) {
+                return;
+            }
+        }
+    }
+
+    /// Records whether the writer has reached the table. It counts only if other threads can help.
+    ///
+    /// The vectors that are kept between the first call with true and the second are from other
+    /// tables' blocks, because they returned earlier.
+    pub(crate) fn want(&mut self, is_wanted: bool)
+        ensures { self.new ≡ self.old }
+    {
+        let is_wanted = is_wanted && !self.threads.is_alone();
+        self.are_own = self.is_wanted && is_wanted;
+        self.is_wanted = is_wanted;
+    }
+
+    /// Returns whether to cut one more piece.
+    ///
+    /// The rows of the head, and a short piece from a slow reader, are given without waiting for
+    /// others. After a longer one, others may be read before it is given.
+    fn may_cut<T: Threads>(&self, rt: &T) -> bool {
+        match self.under_way.front() {
+            Some(_) => {
+                self.has_given
+                    && !self.cutter.is_slow()
+                    && self
+                        .threads
+                        .may_have(rt, self.under_way.len(), self.is_wanted)
+            }
+            None => true,
+        }
+    }
+
+    /// Cuts the next piece and starts its decoding. Returns false if no piece is left or memory
+    /// runs out.
+    #[tactic(auto, using(crate::proofs::UnderWayLaws::chained_more, crate::proofs::UnderWayLaws::stream_more, crate::proofs::UnderWayLaws::stream_kept, crate::proofs::UnderWayLaws::stream_same, crate::proofs::StepLaws::steps_cut, crate::proofs::StepLaws::steps_kept, crate::proofs::StepLaws::steps_same))]
+    fn cut_next<E, T: Threads + Wait + Sync + 'a>(
+        &mut self,
+        scope: &Scope<'a, E>,
+        rt: &'a T,
+    ) -> bool
+        ensures stream { KeepsStream (stream_in self.old) (stream_in self.new) }
+        ensures steps { NoMoreSteps (steps_in self.old) (steps_in self.new) }
+        ensures table { self.new.cutter.table ≡ self.old.cutter.table }
+    {
+        if self.under_way.reserve(1).is_err() {
+            return false;
+        }
+        if let Some(bytes) = self.threads.memory.free_bytes() {
+            self.cutter.keep_spare(bytes);
+        }
+        let Some(piece) = self.cutter.cut() else {
+            return false;
+        };
+        let under_way = self
+            .threads
+            .send_or_decode(scope, rt, piece.staying(!self.is_wanted));
+        self.under_way.push_back_reserved(under_way);
+        true
+    }
+
+    /// Joins the first piece under way, waiting for its answer. Returns `None` if no piece is under
+    /// way.
+    #[tactic(auto, using(crate::proofs::StepLaws::steps_joined))]
+    pub(crate) fn join_front<T: Wait>(&mut self, rt: &T) -> Option<JoinedPiece>
+        ensures some { IfSome (stream_in self.old) (λ whole. IfSome result (λ s. ReadsJoined self.old.cutter.table whole s (stream_in self.new))) }
+        ensures none { IfNone result ((self.old.pieces ≡ []) × (self.new ≡ self.old)) }
+        ensures steps { OnSome result (FewerSteps (steps_in self.old) (steps_in self.new)) }
+        ensures table { self.new.cutter.table ≡ self.old.cutter.table }
+    {
+        let piece = self.under_way.pop_front()?;
+        self.has_given = true;
+        Some(join_piece(rt, &mut self.threads, &mut self.join, piece))
+    }
+
+    /// Drops the pieces under way. Takes those that no thread has taken, so that none is decoded in
+    /// vain.
+    pub(crate) fn drain<T: Wait>(&mut self, rt: &T)
+        ensures { self.new.cutter.table ≡ self.old.cutter.table }
+    {
+        while self.drop_front(rt) {}
+    }
+
+    /// Drops the first piece under way. Returns false if no piece is under way.
+    fn drop_front<T: Wait>(&mut self, rt: &T) -> bool
+        ensures fewer { result ≡ true → length self.new.pieces < length self.old.pieces }
+        ensures table { self.new.cutter.table ≡ self.old.cutter.table }
+    {
+        match self.under_way.pop_front() {
+            Some(piece) => {
+                piece.draw(rt);
+                true
+            }
+            None => false,
+        }
+    }
+
+    /// Returns what ends the table: its fault, or `None` at the end of the file.
+    #[tactic(auto, using(crate::proofs::UnderWayLaws::none_left, crate::proofs::UnderWayLaws::end_found))]
+    pub(crate) fn end(&self) -> Option<TableFault>
+        requires { self.now.pieces ≡ [] }
+        ensures { IsEndOfTable self.now.cutter.table (stream_in self.now) result }
+    {
+        match self.cutter.over() {
+            Some(end) => end,
+            None => Some(whole_fault(self.cutter.table(), TableKind::Memory)),
+        }
+    }
+
+    /// Returns the table's place in the report.
+    pub(crate) fn table(&self) -> usize
+        ensures { result ≡ self.now.cutter.table }
+    {
+        self.cutter.table()
+    }
+}

@@ -1,0 +1,156 @@
+//! Vectors that go back to the thread that last wrote to them, whose cache still holds them.
+
+ghost use Rattle.std.specs.Prelude.{◌≡◌};
+
+use crossbeam_queue::ArrayQueue;
+use oim_decode::PieceDecoder;
+use std::alloc::Global;
+use std::collections::VecDeque;
+use std::sync::{Arc, Wait};
+
+/// The most spare vectors that are kept for a thread.
+const MOST_KEPT: usize = 64;
+
+/// Spare vectors of one thread. Their memory is still in its processor's cache.
+#[derive(Drop)]
+pub(crate) struct SpareVectors {
+    spares: Arc<ArrayQueue<Vec<u8>>>,
+}
+
+impl SpareVectors {
+    /// Lends a decoder at most `most` vectors.
+    pub(crate) fn lend<T: Wait>(&self, rt: &T, decoder: &mut PieceDecoder<'_>, most: usize)
+        ensures { decoder.new ≡ decoder.old }
+    {
+        for _ in 0..most {
+            match self.spares.pop(rt) {
+                Some(spare) => decoder.keep_spare(spare),
+                None => return,
+            }
+        }
+    }
+
+    /// Takes back the vectors that a decoder did not use.
+    pub(crate) fn take_back<T: Wait>(&self, rt: &T, decoder: &mut PieceDecoder<'_>)
+        ensures { decoder.new ≡ decoder.old }
+    {
+        for _ in 0..MOST_KEPT {
+            match decoder.free_spare() {
+                Some(spare) => {
+                    let _ = self.spares.push(rt, spare);
+                }
+                None => return,
+            }
+        }
+    }
+}
+
+/// The bins of a table's threads, and which thread wrote each block that is still out, in order.
+#[derive(Drop)]
+pub(crate) struct SparesByThread {
+    by_thread: Vec<SpareVectors>,
+    // For each piece: its thread's number, and how many of its blocks are still out.
+    written: VecDeque<(usize, usize)>,
+    // How many blocks are still out.
+    out: usize,
+}
+
+impl SparesByThread {
+    /// Makes a list without a bin.
+    pub(crate) fn new(alloc: Global) -> SparesByThread {
+        SparesByThread {
+            by_thread: Vec::new(alloc),
+            written: VecDeque::new(alloc),
+            out: 0,
+        }
+    }
+
+    /// Returns the number of bins: one for each thread that was started or could not be.
+    pub(crate) fn count(&self) -> usize {
+        self.by_thread.len()
+    }
+
+    /// Makes a bin for one more thread, and returns it with the thread's number, or `None` if
+    /// memory runs out.
+    pub(crate) fn open(&mut self, alloc: Global) -> Option<(SpareVectors, usize)> {
+        let queue = ArrayQueue::new(alloc, MOST_KEPT).ok()?;
+        let spares = Arc::new(alloc, queue).ok()?;
+        let theirs = Arc::try_clone(&spares).ok()?;
+        let number = self.by_thread.len();
+        self.by_thread.push(SpareVectors { spares }).ok()?;
+        Some((SpareVectors { spares: theirs }, number))
+    }
+
+    /// Moves at most `most` vectors to the last thread's bin.
+    pub(crate) fn supply<T: Wait>(&self, rt: &T, spares: &mut Vec<Vec<u8>>, most: usize) {
+        let Some(kept) = self.by_thread.last() else {
+            return;
+        };
+        for _ in 0..most {
+            match spares.pop() {
+                Some(spare) => {
+                    let _ = kept.spares.push(rt, spare);
+                }
+                None => return,
+            }
+        }
+    }
+
+    /// Records that thread `number` wrote the next `count` blocks.
+    pub(crate) fn note(&mut self, number: usize, count: usize) {
+        if count > 0 && self.written.push_back((number, count)).is_ok() {
+            self.out = self.out.saturating_add(count);
+        }
+    }
+
+    /// Keeps the record of the last `left` blocks only. Earlier ones are back, or never will be.
+    pub(crate) fn forget(&mut self, left: usize) {
+        for _ in 0..self.written.len() {
+            let over = self.out.saturating_sub(left);
+            if over == 0 {
+                return;
+            }
+            let Some((number, count)) = self.written.pop_front() else {
+                return;
+            };
+            let gone = count.min(over);
+            self.out = self.out.saturating_sub(gone);
+            if count > gone {
+                let _ = self.written.push_front((number, count - gone));
+            }
+        }
+    }
+
+    /// Keeps the vector of the next block that returns, for the thread that wrote it, or drops it
+    /// if that thread's bin is full. Returns it if no helper thread wrote the block.
+    pub(crate) fn keep<T: Wait>(&mut self, rt: &T, spare: Vec<u8>) -> Option<Vec<u8>> {
+        let Some((number, count)) = self.written.pop_front() else {
+            return Some(spare);
+        };
+        self.out = self.out.saturating_sub(1);
+        if count > 1 {
+            let _ = self.written.push_front((number, count - 1));
+        }
+        match self.by_thread.get(number) {
+            Some(kept) => {
+                let _ = kept.spares.push(rt, spare);
+                None
+            }
+            None => Some(spare),
+        }
+    }
+
+    /// Moves the vectors of all bins to `spares`.
+    pub(crate) fn empty<T: Wait>(&self, rt: &T, spares: &mut Vec<Vec<u8>>) {
+        for kept in self.by_thread.iter() {
+            for _ in 0..MOST_KEPT {
+                match kept.spares.pop(rt) {
+                    Some(spare) => {
+                        let _ = spares.push(spare);
+                    }
+                    None => break,
+                }
+            }
+        }
+    }
+}

@@ -1,0 +1,9 @@
+pub mod Bounds
+pub mod DateNumbers
+pub mod Times
+pub mod Forms
+pub mod DurationLaws
+pub mod HexLaws
+pub mod UnitLaws
+pub mod MemberLaws
+mod Examples

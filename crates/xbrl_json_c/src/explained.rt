@@ -1,0 +1,250 @@
+//! The faults of a run, for people and for programs. No contract says anything about these texts.
+
+use crate::answer::Told;
+use crate::files::Files;
+use oim_meta::MetaFault;
+use oim_names::Text;
+use oim_rows::TableFault;
+use oim_run::{
+    EarlyFault, FaultPlace, Outcome, ReportAgain, Source, explain_report, explain_table,
+    fault_header, fault_place, fault_row, line, report_again, report_explanation, report_fault_row,
+    status, table_line,
+};
+use std::alloc::{AllocError, Global};
+
+/// How many refused tables are explained.
+const MOST_TABLES: usize = 100;
+
+/// The line after a fault if the files give no report when they are read again.
+const CHANGED: &str = "    the report cannot be read again, or has changed\n";
+
+/// Returns the text, or none if memory ran out for it.
+fn or_nothing(alloc: Global, text: Result<Vec<u8>, AllocError>) -> Vec<u8> {
+    match text {
+        Ok(text) => text,
+        Err(_) => Vec::new(alloc),
+    }
+}
+
+/// Appends a text.
+fn put(to: &mut Vec<u8>, text: Result<String, AllocError>) -> Result<(), AllocError> {
+    match text {
+        Ok(text) => to.extend_from_slice(text.as_str().as_bytes()),
+        Err(_) => Err(AllocError),
+    }
+}
+
+/// Appends a record.
+fn put_record(to: &mut Vec<u8>, record: Result<Vec<u8>, AllocError>) -> Result<(), AllocError> {
+    match record {
+        Ok(record) => to.extend_from_slice(record.as_slice()),
+        Err(_) => Err(AllocError),
+    }
+}
+
+/// Appends the explanation of the fault of a table.
+fn put_explanation(
+    alloc: Global,
+    mut files: Files<'_>,
+    meta: &str,
+    again: &Result<ReportAgain, EarlyFault>,
+    fault: &TableFault,
+    to: &mut Vec<u8>,
+) -> Result<(), AllocError> {
+    match again {
+        Ok(again) => put(to, explain_table(alloc, meta, &mut files, again, fault)),
+        Err(_) => to.extend_from_slice(CHANGED.as_bytes()),
+    }
+}
+
+/// Appends the line of each refused table, and after each of the first 100 its explanation.
+fn put_tables(
+    alloc: Global,
+    files: Files<'_>,
+    meta: &str,
+    again: &Result<ReportAgain, EarlyFault>,
+    tables: &[(Text, TableFault)],
+    to: &mut Vec<u8>,
+) -> Result<(), AllocError> {
+    let mut explained = 0;
+    for (id, fault) in tables {
+        put(to, table_line(alloc, id.as_str(), fault))?;
+        if explained < MOST_TABLES {
+            put_explanation(alloc, files, meta, again, fault, to)?;
+            explained += 1;
+        }
+    }
+    Ok(())
+}
+
+/// Appends how many refused tables are not explained, if there are any.
+fn put_more(alloc: Global, count: usize, to: &mut Vec<u8>) -> Result<(), AllocError> {
+    if count <= MOST_TABLES {
+        return Ok(());
+    }
+    let more = count - MOST_TABLES;
+    put(to, format!(in alloc; "    (and {more} more)\n"))
+}
+
+/// Returns the lines of refused tables.
+fn lines_of_tables(
+    alloc: Global,
+    files: Files<'_>,
+    meta: &str,
+    again: &Result<ReportAgain, EarlyFault>,
+    tables: &[(Text, TableFault)],
+) -> Result<Vec<u8>, AllocError> {
+    let mut lines = Vec::new(alloc);
+    put_tables(alloc, files, meta, again, tables, &mut lines)?;
+    put_more(alloc, tables.len(), &mut lines)?;
+    Ok(lines)
+}
+
+/// Returns the place of a table's fault, which has no line, header and cell if the report cannot be
+/// read again.
+fn place_of(
+    alloc: Global,
+    mut files: Files<'_>,
+    meta: &str,
+    again: &Result<ReportAgain, EarlyFault>,
+    fault: &TableFault,
+) -> Result<FaultPlace, AllocError> {
+    match again {
+        Ok(again) => fault_place(alloc, meta, &mut files, again, fault),
+        Err(_) => FaultPlace::unknown(alloc),
+    }
+}
+
+/// Returns the record of a table's fault.
+fn record_of(
+    alloc: Global,
+    files: Files<'_>,
+    meta: &str,
+    again: &Result<ReportAgain, EarlyFault>,
+    id: &str,
+    fault: &TableFault,
+) -> Result<Vec<u8>, AllocError> {
+    match place_of(alloc, files, meta, again, fault) {
+        Ok(place) => fault_row(alloc, id, fault, &place),
+        Err(error) => Err(error),
+    }
+}
+
+/// Returns the header and the records of refused tables.
+fn records_of_tables(
+    alloc: Global,
+    files: Files<'_>,
+    meta: &str,
+    again: &Result<ReportAgain, EarlyFault>,
+    tables: &[(Text, TableFault)],
+) -> Result<Vec<u8>, AllocError> {
+    let mut records = Vec::from_slice(alloc, fault_header().as_bytes())?;
+    for (id, fault) in tables {
+        let record = record_of(alloc, files, meta, again, id.as_str(), fault);
+        put_record(&mut records, record)?;
+    }
+    Ok(records)
+}
+
+/// Tells the faults of refused tables. The report is read again.
+fn told_of_tables(
+    alloc: Global,
+    mut files: Files<'_>,
+    meta: &str,
+    types: &str,
+    tables: &[(Text, TableFault)],
+) -> Told {
+    let again = report_again(alloc, meta, types, &mut files);
+    let lines = lines_of_tables(alloc, files, meta, &again, tables);
+    let faults = records_of_tables(alloc, files, meta, &again, tables);
+    Told {
+        lines: or_nothing(alloc, lines),
+        faults: or_nothing(alloc, faults),
+    }
+}
+
+/// Returns the line of a run that has no refused tables, and the fault's explanation.
+fn lines_of_report(
+    alloc: Global,
+    outcome: &Outcome,
+    explanation: Result<String, AllocError>,
+) -> Result<Vec<u8>, AllocError> {
+    let mut lines = Vec::new(alloc);
+    put(&mut lines, line(alloc, outcome))?;
+    put(&mut lines, explanation)?;
+    Ok(lines)
+}
+
+/// Returns the record of a fault of the metadata, the types table or the parameters file.
+fn record_of_report(
+    alloc: Global,
+    mut files: Files<'_>,
+    meta: &str,
+    types: &str,
+    source: Source,
+    fault: MetaFault,
+) -> Result<Vec<u8>, AllocError> {
+    match report_explanation(alloc, meta, types, &mut files, source, fault) {
+        Ok(told) => report_fault_row(alloc, fault, told.place.as_str(), told.found.as_str()),
+        Err(error) => Err(error),
+    }
+}
+
+/// Returns the header and this record.
+fn with_header(alloc: Global, record: Result<Vec<u8>, AllocError>) -> Result<Vec<u8>, AllocError> {
+    let mut records = Vec::from_slice(alloc, fault_header().as_bytes())?;
+    put_record(&mut records, record)?;
+    Ok(records)
+}
+
+/// Tells a fault of the metadata, the types table or the parameters file, which are read again.
+fn told_of_report(
+    alloc: Global,
+    mut files: Files<'_>,
+    meta: &str,
+    types: &str,
+    source: Source,
+    fault: MetaFault,
+) -> Told {
+    let outcome = Outcome::Report(source, fault);
+    let record = record_of_report(alloc, files, meta, types, source, fault);
+    let explanation = explain_report(alloc, meta, types, &mut files, source, fault);
+    let lines = lines_of_report(alloc, &outcome, explanation);
+    let faults = with_header(alloc, record);
+    Told {
+        lines: or_nothing(alloc, lines),
+        faults: or_nothing(alloc, faults),
+    }
+}
+
+/// Tells an outcome that has no refused tables and no fault of the report's other files. There is a
+/// header with status 0, and no file of faults with status 3.
+fn told_plainly(alloc: Global, outcome: &Outcome) -> Told {
+    let lines = lines_of_report(alloc, outcome, Ok(String::new(alloc)));
+    let header = if status(outcome) > 1 {
+        Ok(Vec::new(alloc))
+    } else {
+        Vec::from_slice(alloc, fault_header().as_bytes())
+    };
+    Told {
+        lines: or_nothing(alloc, lines),
+        faults: or_nothing(alloc, header),
+    }
+}
+
+/// Tells how a run over these files ended.
+pub(crate) fn told_of(
+    alloc: Global,
+    files: Files<'_>,
+    meta: &str,
+    types: &str,
+    outcome: &Outcome,
+) -> Told {
+    match outcome {
+        Outcome::Tables(tables) => { told_of_tables(alloc, files, meta, types, tables.as_slice()) }
+        Outcome::Report(source, fault) => {
+            told_of_report(alloc, files, meta, types, *source, *fault)
+        }
+        _ => told_plainly(alloc, outcome),
+    }
+}

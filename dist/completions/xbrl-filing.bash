@@ -1,0 +1,32 @@
+# Completion of xbrl-filing for bash: source this file, or install it as /usr/share/bash-completion/completions/xbrl-filing.
+
+_xbrl_filing() {
+    local word=${COMP_WORDS[COMP_CWORD]} before=${COMP_WORDS[COMP_CWORD - 1]}
+    # (bash takes `--layout=lines` as three words)
+    if [[ $word == "=" ]]; then
+        word=
+    elif [[ $before == "=" ]]; then
+        before=${COMP_WORDS[COMP_CWORD - 2]}
+    fi
+    COMPREPLY=()
+    case $before in
+        --layout)
+            mapfile -t COMPREPLY < <(compgen -W "compact lines" -- "$word")
+            return
+            ;;
+        --prepare | --cache | --into)
+            compopt -o filenames 2>/dev/null
+            mapfile -t COMPREPLY < <(compgen -d -- "$word")
+            return
+            ;;
+        --workers | --ring | --jobs | --time-limit | --memory-limit | --unpacked-limit) return ;;
+    esac
+    if [[ $word == -* && $before != --taxonomy && $before != --types && $before != --out && $before != --outcomes && $before != --faults ]]; then
+        mapfile -t COMPREPLY < <(compgen -W "--taxonomy --prepare --parameters --every-fault --types --cache --unpacked-limit --into --jobs --outcomes --again --time-limit --memory-limit --out --whole --workers --ring --layout --explain --faults --progress -h --help -V --version" -- "$word")
+    else
+        compopt -o filenames 2>/dev/null
+        mapfile -t COMPREPLY < <(compgen -f -- "$word")
+    fi
+}
+
+complete -F _xbrl_filing xbrl-filing

@@ -1,0 +1,363 @@
+"""A run over many reports: each in a process of its own, several at a time."""
+
+from __future__ import annotations
+
+import json
+import os
+import select
+import shutil
+import signal
+import sys
+import time
+from collections import Counter
+from contextlib import suppress
+from dataclasses import dataclass, replace
+from subprocess import PIPE, run
+from typing import Callable, Counter as Counted, Dict, Iterator, List, Optional
+
+from .batch_words import Batch, read_batch
+from .digests import contents_of_disk, digest_of, digests_of
+from .one_report import KEPT, Paths, Task, Told, begin, read_told
+from .outcomes import (
+    BUSY,
+    DONE,
+    FIRST_BYTES,
+    REFUSED,
+    SIGNAL,
+    TO_RETRY,
+    Outcome,
+    OutcomeFile,
+    count_faults,
+    first_line,
+    limited,
+    read_outcome,
+    status_of,
+    word_of,
+    write_outcome,
+)
+from .outputs import same_file, stands_in
+from .packages import FolderPackage, open_package
+from .progress import Progress
+from .refusals import FILES, WORDS, Refusal, cannot_write, printable, wrong
+from .stopping import Stopped, Stopping, temporary_folder, woken_by_signals
+
+GRACE = 5.0  # seconds from the asking of a process to end until it is made to
+SHOWN_EVERY = 0.5  # seconds between two lines of progress
+OWN_CACHE = ".cache"
+Convert = Callable[[List[str]], int]
+Tell = Callable[[str], None]
+
+
+@dataclass
+class Running:
+    """The process of a report."""
+
+    task: Task
+    process: int
+    pipe: int
+    begun: float
+    ends: Optional[float]  # when its time is up
+    late: bool = False
+
+
+def run_batch(
+    words: List[str], program: str, convert: Convert, progress: Progress, stopping: Stopping
+) -> int:
+    """Convert all reports of a command line, and return the status of the run.
+
+    `convert` runs the command for one report. Each report that is not converted has a line on
+    standard error, and the last line counts.
+    """
+    batch = read_batch(words)
+    begun = time.monotonic()
+    common = common_digest(batch, program)
+    make_folder(batch)
+    place = os.path.abspath(os.environ.get("TMPDIR") or "/tmp")
+    with temporary_folder(place, "xbrl-filing-", stopping) as folder:
+        crew = Crew(batch, common, folder, convert, progress, OutcomeFile(batch.outcomes))
+        with woken_by_signals() as woken:
+            try:
+                crew.work(woken)
+            except BaseException:
+                with stopping.held():
+                    crew.end_all()
+                raise
+            finally:
+                progress.clear()
+    crew.tell_total(time.monotonic() - begun)
+    return status_of(crew.words)
+
+
+def common_digest(batch: Batch, program: str) -> str:
+    """Return the digest of all that the reports have in common.
+
+    That is the taxonomy packages, both programs, and the options that a document may depend on.
+    """
+    packages = []
+    for label in batch.settings.taxonomy:
+        package = open_package(label, batch.settings.limit)
+        if package is None:
+            raise wrong(label, "is neither a ZIP nor a folder, so it is no taxonomy package")
+        packages.append([package.root, package.digest().hex()])
+    own = os.path.dirname(os.path.abspath(__file__))
+    modules = sorted(it for it in os.listdir(own) if it.endswith(".py"))
+    paths = [os.path.join(own, it) for it in modules]
+    texts = digests_of([contents_of_disk(it, os.path.getsize(it), it) for it in paths])
+    said = {
+        "converter": version_of(program),
+        "program": [it.hex() for it in texts],
+        "packages": packages,
+        "limit": batch.settings.limit,
+        "options": batch.settings.rest,
+    }
+    return digest_of(json.dumps(said, sort_keys=True).encode()).hex()
+
+
+def version_of(program: str) -> str:
+    """Return the version of xbrl-json. One that does not run ends the run before any report."""
+    try:
+        done = run([program, "--version"], stdin=PIPE, stdout=PIPE, stderr=PIPE, check=False)
+    except OSError as error:
+        raise Refusal(FILES, program, f"cannot run ({error.strerror})") from None
+    if done.returncode:
+        why = first_line(done.stderr) or f"it ends with status {done.returncode}"
+        raise Refusal(FILES, program, f"cannot run ({why})")
+    return done.stdout.decode("utf-8", "replace").strip()
+
+
+def make_folder(batch: Batch) -> None:
+    """Make the folder of the run, if it does not exist; refuse one that has an input."""
+    folder = os.path.realpath(batch.into)
+    for label in (*batch.reports, *batch.settings.taxonomy):
+        path = os.path.realpath(label)
+        if stands_in(path, folder):
+            raise cannot_write(batch.into, f"{label} stands in it, and is an input of this run")
+        if os.path.isdir(path) and stands_in(folder, path):
+            raise cannot_write(batch.into, f"it stands inside of {label}, an input of this run")
+        if batch.outcomes is not None and same_file(batch.outcomes, path):
+            raise cannot_write(batch.outcomes, "it is an input of this run")
+    for it in (batch.into, cache_of(batch)):  # the first report makes the cache, others wait for it
+        try:
+            os.makedirs(it, exist_ok=True)
+        except OSError as error:
+            raise cannot_write(it, error) from None
+
+
+def cache_of(batch: Batch) -> str:
+    """Return the folder of the cache: without `--cache`, one in the folder of the run."""
+    return batch.settings.cache or os.path.join(batch.into, OWN_CACHE)
+
+
+class Crew:
+    """The processes that are at work, and what has become of the reports so far."""
+
+    def __init__(
+        self,
+        batch: Batch,
+        common: str,
+        folder: str,
+        convert: Convert,
+        progress: Progress,
+        outcomes: OutcomeFile,
+    ) -> None:
+        self.batch, self.common, self.folder = batch, common, folder
+        self.convert, self.progress, self.outcomes = convert, progress, outcomes
+        self.running: Dict[int, Running] = {}
+        self.words: Counted[str] = Counter()
+        self.kept = 0
+        self.began = self.shown = time.monotonic()
+        self.stopped_by = ""  # why no more reports are begun
+
+    def work(self, woken: int) -> None:
+        """Convert all reports. `woken` can be read once a process may have ended."""
+        waiting = self.tasks()
+        task = next(waiting, None)
+        while task is not None or self.running:
+            while task is not None and len(self.running) < self.batch.jobs:
+                self.begin(task)
+                task = next(waiting, None)
+            if select.select([woken], [], [], self.longest_wait())[0]:
+                os.read(woken, 1 << 16)
+            self.end_late()
+            self.take_ended()
+            self.show()
+            if self.stopped_by:
+                task = None
+        if self.stopped_by:
+            raise Refusal(WORDS, "", self.stopped_by)
+
+    def tasks(self) -> Iterator[Task]:
+        """Yield what is to be done for each report."""
+        words = list(self.batch.words)
+        if self.batch.settings.cache is None:
+            words += ["--cache", cache_of(self.batch)]
+        for number, (report, name) in enumerate(zip(self.batch.reports, self.batch.names)):
+            yield Task(
+                report=report,
+                paths=Paths.of(self.batch.into, name),
+                words=tuple(words),
+                common=self.common,
+                unpacked_limit=self.batch.settings.limit,
+                again=self.batch.again,
+                temporary=os.path.join(self.folder, str(number)),
+                memory_limit=self.batch.memory_limit,
+            )
+
+    def begin(self, task: Task) -> None:
+        """Start the process of a report. If the system refuses one, wait for another to end."""
+        reader, writer = os.pipe()
+        os.set_blocking(reader, False)
+        try:
+            process = begin(task, writer, self.convert)
+        except OSError as error:
+            os.close(reader)
+            line = f"xbrl-filing: {task.report}: cannot start a process ({error.strerror})"
+            self.take(task, Outcome(task.report, "", FILES, "thread", line=line))
+            return
+        finally:
+            os.close(writer)
+        now = time.monotonic()
+        limit = self.batch.time_limit
+        ends = None if limit is None else now + limit
+        self.running[process] = Running(task, process, reader, now, ends)
+
+    def longest_wait(self) -> float:
+        """Return how long to wait at most: until a report is late, or the line is shown anew."""
+        now = time.monotonic()
+        ends = [it.ends - now for it in self.running.values() if it.ends is not None]
+        return max(0.0, min([1.0, *ends]))
+
+    def end_late(self) -> None:
+        """Ask each report whose time is up to end, and after a while make it end."""
+        now = time.monotonic()
+        for it in self.running.values():
+            if it.ends is not None and now >= it.ends:
+                send(it.process, signal.SIGKILL if it.late else signal.SIGTERM)
+                it.late, it.ends = True, now + GRACE
+
+    def take_ended(self) -> None:
+        """Take the outcome of each report whose process has ended."""
+        for it in list(self.running.values()):
+            process, waited, usage = os.wait4(it.process, os.WNOHANG)
+            if process:
+                send(it.process, signal.SIGKILL)  # what it has left in its group
+                del self.running[it.process]
+                told = read_told(it.pipe)
+                os.close(it.pipe)
+                shutil.rmtree(it.task.temporary, ignore_errors=True)
+                with suppress(OSError):
+                    os.unlink(f"{it.task.paths.document}.new")
+                self.take(it.task, self.outcome_of(it, told, waited, usage.ru_maxrss << 10))
+
+    def outcome_of(self, it: Running, told: Told, waited: int, memory: int) -> Outcome:
+        """Return what has become of a report."""
+        task, paths = it.task, it.task.paths
+        if told.word == KEPT:
+            earlier = read_outcome(paths.outcome)
+            if earlier is not None:
+                self.kept += 1
+                document = paths.document if earlier.document else ""
+                return replace(earlier, report=task.report, document=document)
+        signaled = os.WIFSIGNALED(waited)
+        status = 128 + os.WTERMSIG(waited) if signaled else os.WEXITSTATUS(waited)
+        log = told.line.encode() or log_of(paths.log)
+        faults, numbers = (0, []) if told.line else count_faults(paths.faults)
+        word = told.word or word_of(status, numbers, log, signaled)
+        outcome = Outcome(
+            report=task.report,
+            digest=told.digest,
+            status=status,
+            outcome=word,
+            seconds=round(time.monotonic() - it.begun, 3),
+            memory=memory,
+            faults=faults,
+            document=paths.document if word == DONE else "",
+            line="" if word == DONE else first_line(log) or f"ended by signal {status - 128}",
+        )
+        return limited(outcome, it.late and word != DONE, task.memory_limit)
+
+    def take(self, task: Task, outcome: Outcome) -> None:
+        """Keep an outcome, and tell of a report that was not converted."""
+        self.words[outcome.outcome] += 1
+        if outcome.status == WORDS:
+            self.stopped_by = outcome.line.partition(": ")[2]
+        elif outcome.outcome != BUSY and os.path.lexists(task.paths.outcome):
+            write_outcome(task.paths.outcome, outcome)
+        self.outcomes.add(outcome)
+        if outcome.outcome != DONE and not self.stopped_by:
+            self.progress.clear()
+            line = outcome.line.removeprefix("xbrl-filing: ").removeprefix(f"{outcome.report}: ")
+            tell(f"{outcome.report}: {outcome.outcome} ({line})")
+
+    def show(self) -> None:
+        """Show on a terminal how far the run is."""
+        now = time.monotonic()
+        if now < self.shown + SHOWN_EVERY:
+            return
+        self.shown = now
+        ended = sum(self.words.values())
+        worked = ended - self.kept
+        left = len(self.batch.reports) - ended
+        line = f"{ended} of {len(self.batch.reports)}: {self.counts()}"
+        if worked:
+            line += f"; about {spoken((now - self.began) / worked * left)} left"
+        self.progress.say(line)
+
+    def counts(self) -> str:
+        retry = sum(self.words[it] for it in TO_RETRY)
+        other = sum(self.words.values()) - self.words[DONE] - self.words[REFUSED] - retry
+        counts = [f"{self.words[DONE]} done", f"{self.words[REFUSED]} refused"]
+        return ", ".join([*counts, f"{other} failed", f"{retry} to try again"])
+
+    def tell_total(self, seconds: float) -> None:
+        """Write the last line: how many reports have which outcome."""
+        kept = f" ({self.kept} of them before)" if self.kept else ""
+        total = sum(self.words.values())
+        tell(f"{total} reports{kept}: {self.counts()}; {spoken(seconds)}")
+
+    def end_all(self) -> None:
+        """Ask all processes to end, and wait until they have; make them after a while."""
+        for it in self.running.values():
+            send(it.process, signal.SIGTERM)
+        until = time.monotonic() + GRACE
+        for it in self.running.values():
+            while not os.waitpid(it.process, os.WNOHANG)[0]:
+                if time.monotonic() > until:
+                    send(it.process, signal.SIGKILL)
+                time.sleep(0.01)
+            send(it.process, signal.SIGKILL)
+
+
+def send(process: int, number: int) -> None:
+    """Send a signal to a report's process. SIGKILL goes to all that it has started too."""
+    with suppress(ProcessLookupError, PermissionError):
+        if number == signal.SIGKILL:
+            os.killpg(process, number)
+        else:
+            os.kill(process, number)
+
+
+def log_of(path: str) -> bytes:
+    """Return the first bytes and the last ones of a log."""
+    with suppress(OSError), open(path, "rb") as file:
+        first = file.read(FIRST_BYTES)
+        if len(first) == FIRST_BYTES:
+            file.seek(max(FIRST_BYTES, os.path.getsize(path) - FIRST_BYTES))
+            first += file.read(FIRST_BYTES)
+        return first
+    return b""
+
+
+def spoken(seconds: float) -> str:
+    """Return a time as people say it."""
+    if seconds < 100:
+        return f"{seconds:.0f} s"
+    minutes = seconds / 60
+    return f"{minutes:.0f} min" if minutes < 100 else f"{minutes / 60:.1f} h"
+
+
+def tell(line: str) -> None:
+    """Write a line to standard error, if there is one."""
+    with suppress(OSError):
+        if sys.stderr is not None:
+            print(f"xbrl-filing: {printable(line)}", file=sys.stderr, flush=True)

@@ -1,0 +1,62 @@
+"""What another Python program may call: `prepare` and `kinds`. Both may run in a thread."""
+
+from __future__ import annotations
+
+from contextlib import ExitStack
+from typing import Dict, List, Optional, Sequence
+
+from .command import run
+from .finding import Finder
+from .kinds import kinds_of
+from .packages import Beside, Package, open_package
+from .progress import Progress
+from .refusals import wrong
+from .schemas import Reference, read_schemas
+from .stopping import Stopping
+from .urls import Place
+from .words import Settings
+from .zip_entries import DEFAULT_LIMIT
+
+
+def prepare(
+    report: str, packages: Sequence[str], folder: str, cache: Optional[str] = None
+) -> None:
+    """Make the plain files of a filing in a new or empty folder, as `--prepare` does.
+
+    Raise `refusals.Refusal` if the report, a package or the folder is refused: its `status` says
+    whose fault it is, its `line` why.
+    """
+    settings = Settings()
+    settings.report, settings.taxonomy = report, list(packages)
+    settings.prepare, settings.cache = folder, cache
+    run(settings, "", silent(), Stopping())
+
+
+def kinds(packages: Sequence[str], entries: Sequence[str]) -> Dict[str, Dict[str, str]]:
+    """Return the word of each concept and dimension that entry points reach.
+
+    The answer is by namespace and name, and has the same words as a types table. Raise
+    `refusals.Refusal` as `prepare` does.
+    """
+    with ExitStack() as opened:
+        taxonomy: List[Package] = []
+        for label in packages:
+            package = open_package(label, DEFAULT_LIMIT)
+            if package is None:
+                raise wrong(label, "is neither a ZIP nor a folder, so it is no taxonomy package")
+            opened.callback(package.close)
+            taxonomy.append(package)
+        finder = Finder(Beside("entry points"), taxonomy)
+        asked = [Reference(Place(it), "entry points", "entry", "") for it in entries]
+        found = kinds_of(read_schemas(asked, finder, silent()))
+    return {
+        namespace: {name: word for name, word in words.items() if not word.startswith("!")}
+        for namespace, words in found.items()
+    }
+
+
+def silent() -> Progress:
+    """Return a progress that is not shown."""
+    progress = Progress()
+    progress.on = False
+    return progress

@@ -1,0 +1,226 @@
+"""One report of a run over many: a process of its own, with limits, in which it is converted."""
+
+from __future__ import annotations
+
+import fcntl
+import json
+import os
+import resource
+import signal
+import sys
+from contextlib import suppress
+from dataclasses import dataclass
+from typing import Callable, List, Optional, Tuple
+
+from .digests import digest_of
+from .outcomes import BUSY, FINAL, Outcome, read_outcome, write_outcome
+from .packages import open_package
+from .refusals import FILES, Refusal, cannot_write, printable
+
+KEPT = "kept"  # the report was converted before
+BEGUN = "begun"  # the outcome word while a report is in hand
+PR_SET_PDEATHSIG = 1
+Convert = Callable[[List[str]], int]
+
+
+@dataclass(frozen=True)
+class Paths:
+    """The files that a report gets in the folder of the run."""
+
+    document: str
+    faults: str
+    log: str
+    outcome: str
+
+    @staticmethod
+    def of(folder: str, name: str) -> Paths:
+        """Return the paths for the report of this name."""
+        front = os.path.join(folder, name)
+        return Paths(f"{front}.json", f"{front}.faults.csv", f"{front}.log", f"{front}.outcome")
+
+
+@dataclass(frozen=True)
+class Task:
+    """What the process of a report is to do."""
+
+    report: str
+    paths: Paths
+    words: Tuple[str, ...]
+    common: str  # the digest of all that the reports have in common
+    unpacked_limit: int
+    again: bool
+    temporary: str  # a folder of its own, for temporary files
+    memory_limit: Optional[int]
+
+
+@dataclass
+class Told:
+    """What the process of a report tells the run, besides its status."""
+
+    digest: str = ""
+    word: str = ""
+    line: str = ""
+
+    def write(self, pipe: int) -> None:
+        """Write all of it at once: it is shorter than what a pipe takes in one piece."""
+        short = Told(self.digest, self.word, self.line[:500])
+        os.write(pipe, json.dumps(short.__dict__).encode() + b"\n")
+
+
+def read_told(pipe: int) -> Told:
+    """Return the last that a process has told by its end."""
+    told = Told()
+    with suppress(OSError, ValueError, TypeError):
+        *lines, _ = os.read(pipe, 1 << 16).split(b"\n")
+        told = Told(**json.loads(lines[-1])) if lines else told
+    return told
+
+
+def begin(task: Task, pipe: int, convert: Convert) -> int:
+    """Start the process of a report, and return its number. It writes to `pipe` what it tells."""
+    parent = os.getpid()
+    process = os.fork()
+    if process:
+        return process
+    status = FILES
+    try:
+        signal.set_wakeup_fd(-1)
+        signal.signal(signal.SIGCHLD, signal.SIG_DFL)
+        os.setpgid(0, 0)  # Ctrl-C is for the run, which then ends its reports
+        end_with_parent(parent)
+        status = attempt(task, pipe, convert)
+    except Exception as error:
+        Told(line=f"xbrl-filing: a fault of the program: {error!r}").write(pipe)
+    except BaseException:  # a signal, before the conversion began
+        status = 128 + signal.SIGTERM
+    finally:
+        os._exit(status)
+
+
+def end_with_parent(parent: int) -> None:
+    """Have the system end this process by SIGTERM once its parent is gone, if it can."""
+    with suppress(ImportError, OSError, AttributeError):
+        import ctypes
+
+        ctypes.CDLL(None).prctl(PR_SET_PDEATHSIG, int(signal.SIGTERM), 0, 0, 0)
+    if os.getppid() != parent:
+        os._exit(128 + signal.SIGTERM)
+
+
+def attempt(task: Task, pipe: int, convert: Convert) -> int:
+    """Convert the report, and return the status. What ends it early is told as a line."""
+    told = Told()
+    try:
+        return work(task, told, pipe, convert)
+    except Refusal as refusal:
+        status, told.line = refusal.status, f"xbrl-filing: {refusal.line}"
+    except MemoryError:
+        status, told.line = FILES, "xbrl-filing: there is not enough memory"
+    except OSError as error:
+        why = error.strerror or error
+        status, told.line = FILES, f"xbrl-filing: {error.filename or task.report}: {why}"
+    told.write(pipe)
+    return status
+
+
+def work(task: Task, told: Told, pipe: int, convert: Convert) -> int:
+    """Convert the report if that was not done before, and return the status."""
+    take_streams(open_log(task.paths.log))
+    if task.memory_limit is not None:
+        resource.setrlimit(resource.RLIMIT_DATA, (task.memory_limit, task.memory_limit))
+    if not claim(2):
+        told.word = BUSY
+        told.line = f"xbrl-filing: {task.report}: another run has it in hand"
+        told.write(pipe)
+        return FILES
+    try:
+        told.digest = digest_of_report(task)
+    except Refusal as refusal:
+        remove_earlier(task, "")
+        os.write(2, f"xbrl-filing: {printable(refusal.line)}\n".encode())
+        return refusal.status
+    if is_kept(task, told.digest):
+        told.word = KEPT
+        told.write(pipe)
+        return 0
+    told.write(pipe)
+    remove_earlier(task, told.digest)
+    os.mkdir(task.temporary, 0o700)
+    os.environ["TMPDIR"] = task.temporary
+    paths = task.paths
+    files = ["--out", paths.document, "--whole", "--faults", paths.faults]
+    return convert([task.report, *task.words, *files])
+
+
+def open_log(path: str) -> int:
+    """Open the log as it is: it is emptied once the report is in hand."""
+    try:
+        return os.open(path, os.O_RDWR | os.O_CREAT | os.O_APPEND | os.O_CLOEXEC, 0o666)
+    except OSError as error:
+        raise cannot_write(path, error) from None
+
+
+def take_streams(log: int) -> None:
+    """Make the log standard error, and give the process nothing to read or to print to."""
+    nothing = os.open(os.devnull, os.O_RDWR)
+    os.dup2(nothing, 0)
+    os.dup2(nothing, 1)
+    os.dup2(log, 2)
+    sys.stderr = open(2, "w", encoding="utf-8", errors="backslashreplace", closefd=False)
+
+
+def claim(log: int) -> bool:
+    """Return whether no other run has this report in hand.
+
+    The lock is on the log, which the report's processes hold open to their end. A file system
+    without locks has no such check.
+    """
+    try:
+        fcntl.flock(log, fcntl.LOCK_EX | fcntl.LOCK_NB)
+    except BlockingIOError:
+        return False
+    except OSError:
+        return True
+    return True
+
+
+def digest_of_report(task: Task) -> str:
+    """Return the digest of a report and of what it is converted with.
+
+    It is empty for a metadata file without a package: what it reads is not all known before.
+    """
+    package = open_package(task.report, task.unpacked_limit)
+    if package is None:
+        return ""
+    said = [task.common, package.root, package.digest().hex()]
+    return digest_of(json.dumps(said).encode()).hex()
+
+
+def is_kept(task: Task, digest: str) -> bool:
+    """Return whether the report was converted or refused before, with the same digest."""
+    if task.again or not digest:
+        return False
+    outcome = read_outcome(task.paths.outcome)
+    if outcome is None or outcome.digest != digest or outcome.outcome not in FINAL:
+        return False
+    return not outcome.document or os.path.isfile(task.paths.document)
+
+
+def remove_earlier(task: Task, digest: str) -> None:
+    """Remove what an earlier run left of the report, and note that it is in hand.
+
+    Refuse files that no run has made: only a report that has an outcome has files of a run.
+    `FILE.new` is what a conversion leaves that is ended by force.
+    """
+    paths = task.paths
+    made = (paths.document, f"{paths.document}.new", paths.faults)
+    if not os.path.lexists(paths.outcome):
+        foreign = [it for it in made if os.path.lexists(it)]
+        foreign += [paths.log] if os.path.getsize(paths.log) else []
+        if foreign:
+            raise cannot_write(foreign[0], "it is there, and no run over many reports made it")
+    write_outcome(paths.outcome, Outcome(task.report, digest, FILES, BEGUN))
+    os.ftruncate(2, 0)
+    for path in made:
+        with suppress(FileNotFoundError):
+            os.unlink(path)

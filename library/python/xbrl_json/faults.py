@@ -1,0 +1,69 @@
+"""The faults of a report, and the errors that hold them."""
+from __future__ import annotations
+
+import csv
+import io
+from dataclasses import dataclass
+from typing import List, Optional
+
+
+@dataclass(frozen=True)
+class Fault:
+    """A fault, with the fields of `xbrl-json --faults`.
+
+    `table` is the table's identifier; it is empty for a fault of the metadata, the types table or
+    the parameters file. `row` and `column` count from 1; row 0 is the header or the whole file, and
+    column 0 the whole record. `number` and `name` are the fault's, as 40 and `BadNumber`.
+
+    `line` is the line of the table's file where the record begins, `header` the column's header
+    cell, and `cell` the row's cell. For another file `cell` is the text at the place, and `place`
+    says where it is. `line` is None, and a text empty, if it does not apply.
+    """
+
+    table: str
+    row: int
+    column: int
+    number: int
+    name: str
+    line: Optional[int]
+    header: str
+    cell: str
+    place: str
+
+
+class ConversionError(Exception):
+    """A report was not converted.
+
+    `status` is the exit status of xbrl-json: 1 if the report has a fault, 3 if memory ran out or a
+    file does not exist. `lines` is what xbrl-json prints with `--explain`. `faults` has a fault for
+    each refused table, or that of another file; it is empty if memory runs out.
+    """
+
+    def __init__(self, status: int, lines: str, faults: List[Fault]) -> None:
+        super().__init__(status, lines, faults)
+        self.status = status
+        self.lines = lines
+        self.faults = faults
+
+    def __str__(self) -> str:
+        """Returns the lines, or the status if memory ran out for them."""
+        return self.lines.rstrip("\n") or f"status {self.status}"
+
+
+class Refused(ConversionError):
+    """The report has a fault, or the system refused memory for one of its tables (Memory)."""
+
+
+def faults_in(records: str) -> List[Fault]:
+    """Returns the faults of a file of faults, which has a header, or of an empty text."""
+    rows = csv.reader(io.StringIO(records, newline=""))
+    next(rows, None)
+    return [Fault(table, int(row), int(column), int(number), name, int(line) if line else None,
+                  header, cell, place)
+            for table, row, column, number, name, line, header, cell, place in rows]
+
+
+def error_of(status: int, lines: str, records: str) -> ConversionError:
+    """Returns the error for a status above 0."""
+    kind = Refused if status == 1 else ConversionError
+    return kind(status, lines, faults_in(records))

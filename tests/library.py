@@ -1,0 +1,420 @@
+#!/usr/bin/env python3
+"""Tests the C library and its Python package.
+
+    tests/library.py FOLDER PROGRAM
+
+FOLDER has libxbrl_json.a and libxbrl_json.so.0, as dist/lib; PROGRAM is xbrl-json. From C, by
+tests/library.c, and from Python:
+
+- the reports of the test modules in MODULES, whose results are written there by hand;
+- the worked reports of examples/, with the bytes, status, lines and faults of PROGRAM;
+- the examples of library/README.md, which must compile without a warning and give these bytes;
+- each request for memory of a conversion refused in turn: a right answer, and no memory left;
+- 10,000 calls of each outcome: always the same answer, and no memory left;
+- eight threads at once, each with a stack of 256 KiB: the same answer.
+
+The shared library must have the public names only and need only the C library. valgrind is used if
+it is installed. Each case that fails is printed; the last line counts. Needs Linux, Python 3.9 or
+later and a C compiler.
+"""
+from __future__ import annotations
+
+import concurrent.futures
+import contextlib
+import csv
+import importlib
+import io
+import json
+import os
+import re
+import shutil
+import subprocess
+import sys
+import tempfile
+import unittest
+from pathlib import Path
+from typing import Any, Dict, List, Optional, Sequence, Tuple
+
+import cases
+from cases import case, told
+
+TOP = Path(__file__).resolve().parent.parent
+WRAP = "-Wl,--wrap=malloc,--wrap=realloc,--wrap=free"
+WARNINGS = ["-Wall", "-Wextra", "-Werror", "-pedantic"]
+STANDARDS = (("cc", "-std=c99"), ("cc", "-std=c17"), ("c++", "-std=c++11", "-x", "c++"))
+EXAMPLES = ("held", "quarterly", "questionnaire", "refused")
+CALLS = 10_000
+MODULES = ["test_reports", "test_cells", "test_facts", "test_metadata", "test_explained",
+           "test_explained_metadata", "test_explained_sources", "test_explained_tables"]
+Run = Tuple[int, bytes, str]
+
+
+def example_files(name: str) -> List[str]:
+    """Returns the files of a report of examples/: META, the types table, and the others."""
+    folder = Path("examples") / name
+    first = [folder / "meta.json", folder / "types.csv"]
+    others = sorted(it.relative_to(TOP) for it in (TOP / folder).rglob("*.csv"))
+    return [str(it) for it in (*first, *(it for it in others if it not in first))]
+
+
+def by_program(program: str, name: str, *words: str) -> Run:
+    """Returns how PROGRAM converts a report of examples/."""
+    meta, types = example_files(name)[:2]
+    command = [program, meta, "--types", types, "--workers", "1", *words]
+    done = subprocess.run(command, cwd=TOP, capture_output=True)
+    return done.returncode, done.stdout, done.stderr.decode()
+
+
+# ---- C
+
+
+def compiled(source: Path, to: Path, *words: str) -> str:
+    """Compiles a C file. Returns what the compiler printed."""
+    command = ["cc", "-O1", "-g", *WARNINGS, f"-I{TOP / 'library'}", "-o", str(to), str(source)]
+    done = subprocess.run([*command, *words], capture_output=True, text=True)
+    return done.stderr if done.returncode or done.stderr else ""
+
+
+def header_by_itself(folder: Path) -> None:
+    """Compiles the header by itself, as C and as C++."""
+    source = folder / "header.c"
+    source.write_text('#include "xbrl_json.h"\nint main(void) {\n    xbrl_json_answer a = '
+                      'XBRL_JSON_ANSWER;\n    xbrl_json_free(&a);\n    return (int)a.status;\n}\n')
+    for compiler, *words in STANDARDS:
+        if shutil.which(compiler):
+            command = [compiler, *words, *WARNINGS, "-fsyntax-only", f"-I{TOP / 'library'}", str(source)]
+            done = subprocess.run(command, capture_output=True, text=True)
+            case(f"the header, {words[0]}", (done.returncode, done.stderr) == (0, ""), done.stderr)
+
+
+def names_of_library(shared: Path) -> None:
+    """Checks the names that the shared library has and needs."""
+    if not (shutil.which("nm") and shutil.which("readelf")):
+        return
+    listed = subprocess.run(["nm", "-D", "--defined-only", shared], capture_output=True, text=True)
+    names = sorted(it.split()[-1].split("@")[0] for it in listed.stdout.splitlines())
+    wanted = ["xbrl_json_convert", "xbrl_json_version"]
+    case("the public names", [it for it in names if it != "XBRL_JSON_0"] == wanted, names)
+    about = subprocess.run(["readelf", "-dW", shared], capture_output=True, text=True).stdout
+    needed = re.findall(r"\(NEEDED\).*\[(.*)\]", about)
+    case("it needs the C library only", needed == ["libc.so.6"], needed)
+    case("its own name", "[libxbrl_json.so.0]" in about, about)
+
+
+def reports_from_c(driver: Path, program: str, folder: Path) -> None:
+    """Runs the modules over a program that calls the library."""
+    count = folder / "count"
+    count.touch(0o666)
+    count.chmod(0o666)
+    starter = folder / "xbrl-json"
+    starter.write_text(f'#!/bin/sh\nexec "{driver}" run "$@"\n')
+    starter.chmod(0o755)
+    environment = {**os.environ, "PROGRAM": program, "COUNT": str(count), "XBRL_JSON": str(starter)}
+    for module in MODULES:
+        command = [sys.executable, "-m", "unittest", f"tests.{module}"]
+        done = subprocess.run(command, cwd=TOP, capture_output=True, text=True, env=environment)
+        found = re.search(r"^Ran (\d+) tests?", done.stderr, re.M)
+        cases.count += int(found.group(1)) if found else 0
+        case(f"{module} from C", done.returncode == 0 and found is not None, done.stderr[-2000:])
+    runs = count.read_text()
+    calls, others = runs.count("L"), runs.count("P")
+    print(f"from C: {calls} calls, {others} runs of the program")
+    case("from C: most runs are calls", calls > 10 * others, calls, others)
+
+
+def modes_of_driver(driver: Path) -> None:
+    """Makes many calls, refuses memory and starts threads, for each report of examples/."""
+    for name in EXAMPLES:
+        files = example_files(name)
+        for words in (["calls", str(CALLS)], ["refuse"], ["threads", "8"]):
+            command = [str(driver), *words, *files]
+            done = subprocess.run(command, cwd=TOP, capture_output=True, text=True)
+            last = done.stdout.splitlines()[-1:]
+            case(f"{name}: {words[0]}", done.returncode == 0, done.stdout[-600:], done.stderr)
+            print(f"{name}: {words[0]}: {''.join(last)}")
+    missing = ["examples/held/t1.csv", "examples/held/types.csv"]
+    done = subprocess.run([str(driver), "calls", str(CALLS), *missing], cwd=TOP, capture_output=True,
+                          text=True)
+    case("metadata that is not JSON: calls", done.returncode == 0, done.stdout, done.stderr)
+
+
+def memory_errors(driver: Path) -> None:
+    """Runs calls under valgrind, if it is there: no wrong access, and no memory left."""
+    if not shutil.which("valgrind"):
+        print("valgrind is not installed")
+        return
+    for name in EXAMPLES:
+        words = ["valgrind", "-q", "--error-exitcode=9", "--leak-check=full",
+                 "--errors-for-leak-kinds=definite", str(driver), "calls", "3"]
+        done = subprocess.run([*words, *example_files(name)], cwd=TOP, capture_output=True, text=True)
+        case(f"{name}: valgrind", done.returncode == 0, done.stdout, done.stderr)
+
+
+# ---- Python
+
+
+class ByPython:
+    """Runs the words of xbrl-json with the Python package, or else with the program."""
+
+    def __init__(self, package: Any, program: str) -> None:
+        self.package, self.program = package, program
+        self.calls = self.others = 0
+
+    def settings(self, words: Sequence[str]) -> Optional[Dict[str, str]]:
+        """Returns the options, or None if these words do not ask for a conversion in memory."""
+        found: Dict[str, str] = {}
+        left = []
+        for word in words:
+            left += word.split("=", 1) if word.startswith("--") else [word]
+        while left:
+            word = left.pop(0)
+            if word == "--explain":
+                found[word] = ""
+            elif word in ("--types", "--layout", "--workers", "--ring", "--out") and left:
+                found[word] = left.pop(0)
+            elif not word.startswith("-") and "META" not in found:
+                found["META"] = word
+            else:
+                return None
+        workers, ring = found.get("--workers", "1"), found.get("--ring", "1")
+        fine = workers.isdigit() and 0 < int(workers) <= 64 and ring.isdigit() and 0 < int(ring) <= 65536
+        fine = fine and found.get("--layout", "lines") in ("compact", "lines")
+        return found if fine and "META" in found and "--types" in found else None
+
+    def files(self, folder: Path, found: Dict[str, str]) -> Optional[Dict[str, bytes]]:
+        """Returns the files below META's folder and the types table, or None without these two."""
+        meta, types = found["META"], found["--types"]
+        if not all((folder / it).is_file() for it in (meta, types)):
+            return None
+        if "--out" in found and os.path.lexists(folder / found["--out"]):
+            return None
+        base = os.path.dirname(meta)
+        files = {types: (folder / types).read_bytes(), meta: (folder / meta).read_bytes()}
+        for path in (folder / base).rglob("*"):
+            if path.is_file():
+                name = os.path.join(base, path.relative_to(folder / base).as_posix())
+                files.setdefault(name, path.read_bytes())
+        return files
+
+    def run(self, folder: Path, words: Sequence[str]) -> Run:
+        """Returns status, standard output and standard error."""
+        found = self.settings(words)
+        files = None
+        with contextlib.suppress(OSError):
+            files = self.files(folder, found) if found else None
+        if found is None or files is None:
+            return self.by_program(folder, words)
+        layout = found.get("--layout", "compact")
+        document, status, lines = b"", 0, ""
+        try:
+            document = self.package.convert(files, found["META"], found["--types"], layout)
+        except self.package.ConversionError as error:
+            status, lines = error.status, said(error.lines, "--explain" in found)
+            about_folder = any((folder / it.split()[-1]).is_dir() for it in error.lines.splitlines()[:2])
+            if about_folder or status == 3 and ("--explain" in found or "--out" in found):
+                return self.by_program(folder, words)
+        if "--out" in found:
+            try:
+                (folder / found["--out"]).write_bytes(document)
+            except OSError:
+                return self.by_program(folder, words)
+            document = b""
+        self.calls += 1
+        return status, document, lines
+
+    def by_program(self, folder: Path, words: Sequence[str]) -> Run:
+        """Runs the program, for words and files that a library cannot have."""
+        self.others += 1
+        done = subprocess.run([self.program, *words], cwd=folder, stdin=subprocess.DEVNULL,
+                              capture_output=True)
+        return done.returncode, done.stdout, done.stderr.decode(errors="replace")
+
+
+def said(lines: str, explain: bool) -> str:
+    """Returns the lines, without those of explanations if they are not wanted."""
+    kept = [it for it in lines.splitlines(keepends=True) if explain or not it.startswith("    ")]
+    return "".join(kept)
+
+
+def reports_from_python(by_python: ByPython) -> None:
+    """Runs the modules in this process, with calls instead of runs.
+
+    An exception has no unfinished document, so that is not compared.
+    """
+    os.environ["XBRL_JSON"] = by_python.program
+    sys.path.insert(0, str(TOP))
+    harness: Any = importlib.import_module("tests.harness")
+    run_program, check_run = harness.TestCase.run_program, harness.TestCase.check_run
+
+    def run(test: Any, *words: Any, **more: Any) -> Any:
+        """Runs these words in the folder of a test."""
+        if more or not all(isinstance(it, str) for it in words):
+            by_python.others += 1
+            return run_program(test, *words, **more)
+        return harness.Done(*by_python.run(test.folder, words))
+
+    def check(test: Any, seen: Any, status: int, out: bytes, err: str) -> None:
+        """Compares a run, without the document if it is unfinished."""
+        check_run(test, seen, status, seen.out if status else out, err)
+
+    harness.TestCase.run_program, harness.TestCase.check_run = run, check
+    for module in MODULES:
+        tests = unittest.defaultTestLoader.loadTestsFromName(f"tests.{module}")
+        result = unittest.TestResult()
+        tests.run(result)
+        cases.count += result.testsRun
+        wrong = [*result.failures, *result.errors]
+        case(f"{module} from Python", not wrong, len(wrong), *(f"{it}: {why[-500:]}" for it, why in wrong[:3]))
+    calls, others = by_python.calls, by_python.others
+    print(f"from Python: {calls} calls, {others} runs of the program")
+    case("from Python: most runs are calls", calls > 10 * others, calls, others)
+
+
+def examples_from_python(package: Any, program: str) -> None:
+    """Compares documents, lines and faults with those of PROGRAM, in both layouts."""
+    os.chdir(TOP)
+    for name in EXAMPLES:
+        files = {it: (TOP / it).read_bytes() for it in example_files(name)}
+        meta, types = example_files(name)[:2]
+        for layout in ("compact", "lines"):
+            with tempfile.NamedTemporaryFile("r") as faults:
+                wanted = by_program(program, name, "--layout", layout, "--explain", "--faults", faults.name)
+                records = list(csv.DictReader(io.StringIO(Path(faults.name).read_text(), newline="")))
+            for way in ("convert", "convert_folder"):
+                try:
+                    if way == "convert":
+                        seen: Run = 0, package.convert(files, meta, types, layout), ""
+                    else:
+                        seen = 0, package.convert_folder(f"examples/{name}", layout=layout), ""
+                    listed: List[Dict[str, str]] = []
+                except package.Refused as refused:
+                    seen = refused.status, wanted[1], refused.lines
+                    listed = [{key: "" if value is None else str(value) for key, value in vars(it).items()}
+                              for it in refused.faults]
+                case(f"{name}, {layout}, {way}", seen == wanted, seen, wanted)
+                case(f"{name}, {layout}, {way}: faults", listed == records, listed, records)
+
+
+def python_threads(package: Any) -> None:
+    """Converts in eight threads of Python at once."""
+
+    def convert(_: int) -> bytes:
+        """Converts a report."""
+        return bytes(package.convert_folder(TOP / "examples/quarterly"))
+
+    wanted = convert(0)
+    with concurrent.futures.ThreadPoolExecutor(8) as pool:
+        seen = list(pool.map(convert, range(400)))
+    case("threads of Python", all(it == wanted for it in seen))
+
+
+def python_errors(package: Any, folder: Path) -> None:
+    """Checks the errors for wrong calls, and files that are mapped, missing or outside."""
+    def raised(kind: type, call: Any, *words: Any) -> bool:
+        """Whether a call raises an error of exactly this kind."""
+        try:
+            call(*words)
+        except Exception as error:
+            return bool(type(error) is kind)
+        return False
+
+    case("an unknown layout", raised(ValueError, package.convert, {}, "m", "t", "wide"))
+    case("a path that is not UTF-8", raised(ValueError, package.convert, {}, "m\udc80", "t"))
+    case("no files", raised(package.ConversionError, package.convert, {}, "m", "t"))
+    case("not a buffer", raised(TypeError, package.convert, {"m": "text", "t": b""}, "m", "t"))
+    case("a buffer with gaps", raised(BufferError, package.convert, {"m": memoryview(b"abcd")[::2]}, "m", "t"))
+    case("a folder without a report", raised(FileNotFoundError, package.convert_folder, folder))
+    report = TOP / "examples/held"
+    files: Dict[str, Any] = {it.name: it.read_bytes() for it in report.iterdir() if it.is_file()}
+    wanted = package.convert(files, "meta.json", "types.csv")
+    kinds = {name: kind(it) for (name, it), kind in zip(sorted(files.items()), (bytearray, memoryview) * 9)}
+    case("bytearray and memoryview", package.convert(kinds, "meta.json", "types.csv") == wanted)
+    large = folder / "large"
+    shutil.copytree(report, large)
+    rows = "".join(f"{it},a note of some length\n" for it in range(60_000))
+    (large / "t1.csv").write_text(f"cash,note\n{rows}")
+    document = json.loads(package.convert_folder(large))
+    case("a mapped table", len(document["facts"]) == 120_000, len(document["facts"]))
+    (large / "t1.csv").unlink()
+    case("a table that does not exist", raised(package.Refused, package.convert_folder, large))
+    metadata = json.loads((large / "meta.json").read_text())
+    metadata["tables"]["t1"]["url"] = "../secret.csv"
+    (large / "meta.json").write_text(json.dumps(metadata))
+    os.mkfifo(folder / "secret.csv")
+    case("a path that leads outside", raised(package.Refused, package.convert_folder, large))
+
+
+# ---- the examples of the page
+
+
+def blocks(language: str) -> List[str]:
+    """Returns the examples of library/README.md in a language."""
+    page = (TOP / "library/README.md").read_text()
+    return re.findall(rf"^```{language}\n(.*?)^```$", page, re.M | re.S)
+
+
+def page_examples(library: Path, program: str, folder: Path) -> None:
+    """Compiles and runs the examples of the page, over a report and over one with faults."""
+    (found,) = blocks("c")
+    source = folder / "convert.c"
+    source.write_text(found)
+    shared = folder / "shared"
+    shared.mkdir()
+    shutil.copy(library / "libxbrl_json.so.0", shared)
+    (shared / "libxbrl_json.so").symlink_to("libxbrl_json.so.0")
+    ways = {"static": [str(library / "libxbrl_json.a")], "shared": [f"-L{shared}", "-lxbrl_json"]}
+    (script,) = [it for it in blocks("python") if "sys.argv" in it]
+    (folder / "convert.py").write_text(script)
+    environment = {**os.environ, "LD_LIBRARY_PATH": str(shared),
+                   "XBRL_JSON_LIBRARY": str(library / "libxbrl_json.so.0"),
+                   "PYTHONPATH": str(TOP / "library/python")}
+    case("the page's C has at most 50 lines", found.count("\n") <= 50, found.count("\n"))
+    for way, words in ways.items():
+        printed = compiled(source, folder / f"by-{way}", *words)
+        case(f"the page's C, {way}", printed == "", printed)
+    for name in EXAMPLES:
+        wanted = by_program(program, name, "--explain")
+        for way in ways:
+            done = subprocess.run([str(folder / f"by-{way}"), *example_files(name)], cwd=TOP,
+                                  capture_output=True, env=environment)
+            seen = done.returncode, done.stdout, done.stderr.decode()
+            document = wanted[1] if wanted[0] == 0 else b""
+            case(f"the page's C, {way}: {name}", seen == (wanted[0], document, wanted[2]), seen, wanted)
+        done = subprocess.run([sys.executable, str(folder / "convert.py"), f"examples/{name}"], cwd=TOP,
+                              capture_output=True, env=environment)
+        fine = done.returncode == wanted[0] and done.stdout == (wanted[1] if wanted[0] == 0 else b"")
+        case(f"the page's Python: {name}", fine, done.returncode, done.stdout, done.stderr)
+
+
+def main(library: Path, program: str) -> int:
+    """Returns the status: 1 if a case fails."""
+    os.environ["XBRL_JSON_LIBRARY"] = str(library / "libxbrl_json.so.0")
+    sys.path.insert(0, str(TOP / "library/python"))
+    package = importlib.import_module("xbrl_json")
+    version = subprocess.run([program, "--version"], capture_output=True, text=True).stdout
+    case("the version", f"xbrl-json {package.version()}\n" == version, package.version(), version)
+    names_of_library(library / "libxbrl_json.so.0")
+    with tempfile.TemporaryDirectory() as name:
+        folder = Path(name)
+        folder.chmod(0o755)  # tests/test_explained*.py also runs the driver as another user
+        header_by_itself(folder)
+        page_examples(library, program, folder)
+        python_errors(package, folder)
+        examples_from_python(package, program)
+        python_threads(package)
+        driver, plain = folder / "driver", folder / "plain"
+        archive, source = str(library / "libxbrl_json.a"), TOP / "tests/library.c"
+        printed = compiled(source, driver, "-std=gnu11", "-DWRAPPED", WRAP, "-pthread", archive)
+        printed += compiled(source, plain, "-std=gnu11", "-pthread", archive)
+        case("the driver", printed == "", printed)
+        modes_of_driver(driver)
+        memory_errors(plain)
+        reports_from_c(driver, program, folder)
+        reports_from_python(ByPython(package, program))
+    return told("the C library and the Python package")
+
+
+if __name__ == "__main__":
+    if len(sys.argv) != 3:
+        sys.exit(__doc__)
+    sys.exit(main(Path(sys.argv[1]).resolve(), os.path.abspath(sys.argv[2])))
