@@ -51,16 +51,6 @@ LANGUAGES = ("console", "sh", "text")
 SKIPPED = {".git", ".ci", "out", "target", "__pycache__", "vendor"}
 SECONDS = 60
 
-# Comments that wait for the next change of their crate: a changed comment proves the crate and all
-# above it again. Each is a file and a part of its line.
-WAITING = {
-    ("crates/oim_rows/src/group_counts.rt", "The most identifiers, for each group"),
-    ("crates/oim_rows/src/group_counts.rt", "A wrong count costs time alone"),
-    ("crates/oim_entries/specs/BadEntries.antt", "is bad for that alone"),
-    ("crates/oim_entries/proofs/ExamplesFiles.antt", "Of a record with a repeated name"),
-    ("crates/oim_entries/proofs/PublishedFaults.antt", "is no record past the limit"),
-}
-
 # What is not written here, and what is written instead. Inline code is cut out before.
 DIALECT: List[Tuple[str, str]] = [
     (r"(?:^|[.:;,(] |\b(?:for|of|by|to|since|and|or|so|that) )[Ww]ho \w+s\b", "anyone who"),
@@ -317,18 +307,11 @@ def text_findings(top: Path) -> Tuple[int, List[Finding]]:
     passed, findings = 0, []
     for name in files(top):
         text = (top / name).read_text()
-        lines = text.splitlines()
         for check in checks:
-            found = [it for it in check(name, text) if not waits(it, lines)]
+            found = list(check(name, text))
             findings += found
             passed += not found
     return passed, findings
-
-
-def waits(finding: "Finding", lines: List[str]) -> bool:
-    """Whether a finding is one of those that wait for the next change of their crate."""
-    line = lines[finding.line - 1] if 0 < finding.line <= len(lines) else ""
-    return any(finding.file == name and part in line for name, part in WAITING)
 
 
 # ---- help texts

@@ -225,7 +225,7 @@ bad_parameters_found :
 unfolding entries_of is_identifier is_plain_char is_name_char is_name_start chars is_utf8 encode
 bad_parameters_found = (refl, refl, refl, refl, refl, refl, refl, refl)
 
--- Of a record with a repeated name and an unknown type, the name is bad.
+-- A record with a repeated name and an unknown type: the name is bad.
 bad_types_found :
     (bad_type [] ≡ bad_at 0 None NoHeader [])
     × (bad_type (name_value ∷ []) ≡ bad_at 0 None BadHeader name_value)

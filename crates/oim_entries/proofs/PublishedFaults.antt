@@ -57,7 +57,7 @@ file_published {S} bad chosen each (r ∷ rs) = by (chosen r) refl
         let all = all_published f it.1 0 f.start rs in
         rw h (subst (λ b. all_of f 0 f.start rs ≡ published b (entries_of f 0 f.start rs)) it.0 all)
 
--- What is wrong with a record that is not a number of texts is no record past the limit.
+-- A fault of a record that is not the given number of texts is never that it is past the limit.
 texts_one : (bad : MetaFault) (n count : ℕ) (r : Record) → meta_fault bad (not_texts n count r).problem ≡ bad
 texts_one bad n count r = by (nat_eq (length r) count) refl
   where

@@ -24,7 +24,7 @@ with_fields r (Ok s) = Ok s
 with_fields r (Err e) = Err (e, r)
 
 -- The value after one more record, which follows the header and n others. A record past the limit
--- is bad for that alone, whatever it has.
+-- is bad for that reason, whatever it has.
 abbrev pub one_entry : {S : Type 0} → EntryFile S → ℕ → S → Record → Result S BadRecord
 one_entry f n s r = with_fields r (if nat_le f.limit n then Err (of_whole (n + 1) TooMany) else entry_after f (n + 1) s r)
 

@@ -16,12 +16,12 @@ const PLACES: u8 = 16;
 /// The identifiers for which the table has memory, for each group.
 const USED: usize = 9;
 
-/// The most identifiers, for each group, before the table grows. So few that a group of the table of a good report
-/// is hardly ever full.
+/// The most identifiers, for each group, before the table grows. With so few, a group of the table
+/// of a good report is hardly ever full.
 const LOAD: usize = 4;
 
 /// How many of the identifiers in a hash set begin in each group of its table, so that none begins
-/// in a group that is full. A wrong count costs time alone.
+/// in a group that is full. A wrong count costs only time.
 #[derive(Drop)]
 pub(crate) struct GroupCounts {
     counts: Vec<u8>,
