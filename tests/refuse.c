@@ -3,12 +3,13 @@
  * REFUSE chooses the calls. KIND:N is the Nth call of a kind, KIND:N+ that one and all later ones,
  * KIND:=MASK those of the first 64 calls whose bits are set. KIND:short cuts each read or write to
  * one byte, and KIND:again interrupts every other one by a signal. The kinds are memory, read,
- * write, zero (a write that takes nothing), open, stat, thread, cut (a file is made shorter), sync
- * and rename.
+ * write, zero (a write that takes nothing), open, stat, thread, cut (a file is made shorter), sync,
+ * rename, permit (a file's permissions are set), unlink, path (links are resolved) and close.
  *
  * At the end the number of calls of each kind is written to the file that REFUSE_COUNT names. After
- * them follow the number of requests for LARGE bytes of memory or more (large), and the number of
- * threads that made BUSY requests of any size or more (busy).
+ * them follow the number of requests for LARGE bytes of memory or more (large), the number of
+ * threads that made BUSY requests of any size or more (busy), and the permissions that regular files
+ * of write had when they were opened and written to, all together (open_to).
  *
  *     cc -shared -fPIC -O1 -o refuse.so tests/refuse.c -ldl
  */
@@ -25,17 +26,18 @@
 #include <sys/syscall.h>
 #include <unistd.h>
 
-enum kind { MEMORY, READ, WRITE, OPEN, STAT, THREAD, CUT, SYNC, RENAME, KINDS };
+enum kind { MEMORY, READ, WRITE, OPEN, STAT, THREAD, CUT, SYNC, RENAME, PERMIT, UNLINK, REALPATH, CLOSE, KINDS };
 enum { LARGE = 32768, BUSY = 100 };
 
 extern void *__libc_malloc(size_t);
 extern void *__libc_realloc(void *, size_t);
 
-static const char *const names[KINDS] = {"memory", "read", "write", "open", "stat", "thread", "cut", "sync", "rename"};
+static const char *const names[KINDS] = {"memory", "read", "write", "open", "stat", "thread", "cut", "sync", "rename",
+                                         "permit", "unlink", "path", "close"};
 static unsigned long calls[KINDS];
 static unsigned long from[KINDS], mask[KINDS];
 static int onward[KINDS], cut[KINDS], again[KINDS], zero;
-static unsigned long large, busy;
+static unsigned long large, busy, open_to;
 static __thread unsigned long own __attribute__((tls_model("initial-exec")));
 
 __attribute__((constructor)) static void read_words(void) {
@@ -78,7 +80,14 @@ ssize_t read(int file, void *to, size_t size) {
     return is_interrupted(READ) ? fails(EINTR) : syscall(SYS_read, file, to, cut[READ] && size > 1 ? 1 : size);
 }
 
+static void note_permissions(int file) {
+    struct stat seen;
+    if (file > 2 && !syscall(SYS_fstat, file, &seen) && S_ISREG(seen.st_mode))
+        __atomic_or_fetch(&open_to, seen.st_mode & 07777, __ATOMIC_SEQ_CST);
+}
+
 ssize_t write(int file, const void *from_, size_t size) {
+    note_permissions(file);
     if (file != 2 && refuses(WRITE)) return zero ? 0 : fails(ENOSPC);
     return is_interrupted(WRITE) ? fails(EINTR) : syscall(SYS_write, file, from_, cut[WRITE] && size > 1 ? 1 : size);
 }
@@ -88,7 +97,10 @@ int open(const char *path, int flags, ...) {
     va_start(more, flags);
     int mode = va_arg(more, int);
     va_end(more);
-    return refuses(OPEN) ? fails(EMFILE) : (int)syscall(SYS_openat, AT_FDCWD, path, flags, mode);
+    if (refuses(OPEN)) return fails(EMFILE);
+    int file = syscall(SYS_openat, AT_FDCWD, path, flags, mode);
+    if (flags & O_CREAT) note_permissions(file);
+    return file;
 }
 
 int statx(int folder, const char *path, int flags, unsigned int wanted, struct statx *to) {
@@ -101,6 +113,21 @@ int fsync(int file) { return refuses(SYNC) ? fails(EIO) : (int)syscall(SYS_fsync
 
 int rename(const char *from_, const char *to) { return refuses(RENAME) ? fails(EACCES) : (int)syscall(SYS_rename, from_, to); }
 
+int fchmod(int file, mode_t mode) { return refuses(PERMIT) ? fails(EPERM) : (int)syscall(SYS_fchmod, file, mode); }
+
+int unlink(const char *path) { return refuses(UNLINK) ? fails(EPERM) : (int)syscall(SYS_unlink, path); }
+
+char *realpath(const char *restrict path, char *restrict to) {
+    char *(*real)(const char *, char *) = dlsym(RTLD_NEXT, "realpath");
+    return refuses(REALPATH) ? (errno = ENOENT, (char *)0) : real(path, to);
+}
+
+/* The file is closed also where its call is refused, as Linux has it. */
+int close(int file) {
+    int done = syscall(SYS_close, file);
+    return refuses(CLOSE) ? fails(EIO) : done;
+}
+
 int pthread_create(pthread_t *to, const pthread_attr_t *how, void *(*body)(void *), void *with) {
     int (*real)(pthread_t *, const pthread_attr_t *, void *(*)(void *), void *) = dlsym(RTLD_NEXT, "pthread_create");
     return refuses(THREAD) ? EAGAIN : real(to, how, body, with);
@@ -110,7 +137,7 @@ void _exit(int status) {
     const char *path = getenv("REFUSE_COUNT");
     int file = path ? syscall(SYS_openat, AT_FDCWD, path, O_WRONLY | O_CREAT | O_TRUNC, 0600) : -1;
     for (int k = 0; file >= 0 && k < KINDS; k++) dprintf(file, "%s %lu\n", names[k], calls[k]);
-    if (file >= 0) dprintf(file, "large %lu\nbusy %lu\n", large, busy);
+    if (file >= 0) dprintf(file, "large %lu\nbusy %lu\nopen_to %lu\n", large, busy, open_to);
     syscall(SYS_exit_group, status);
     __builtin_unreachable();
 }

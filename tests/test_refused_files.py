@@ -4,7 +4,9 @@ With --whole the file has the whole document or is unchanged, and so is the file
 """
 from __future__ import annotations
 
+import os
 import re
+from collections.abc import Sequence
 
 from tests.harness import Done, for_each
 from tests.refusing import FAILED_WRITE, RefusedTest, build_library
@@ -12,6 +14,7 @@ from tests.refusing import FAILED_WRITE, RefusedTest, build_library
 OUT = ["--out", "out.json"]
 NOT_WRITTEN = Done(3, b"", "xbrl-json: cannot write out.json\n")
 OLD = b"what was there"
+FILE_KINDS = ("read", "write", "zero", "open", "stat", "sync", "rename", "permit", "path", "close")
 
 
 def setUpModule() -> None:
@@ -72,7 +75,7 @@ class TestOut(RefusedTest):
 @for_each(
     (f"{kind} refused over {name}", (kind, old))
     for name, old in (("an old file", OLD), ("no file", None))
-    for kind in ("read", "write", "zero", "open", "stat", "sync", "rename")
+    for kind in FILE_KINDS
 )
 class TestWhole(RefusedTest):
     """Leaves the old file with --whole, or none if there was none, and no other file.
@@ -99,10 +102,48 @@ class TestWhole(RefusedTest):
                 self.assertEqual(status == 0, err == "")
 
 
+class TestPermissions(RefusedTest):
+    """Lets nobody open a new file who could not open the one that it replaces."""
+
+    def check_private(self, name: str, words: Sequence[str]) -> None:
+        """Replaces a private file and a public one, while new files are open to all."""
+        file = self.report / name
+        mask = os.umask(0)
+        self.addCleanup(os.umask, mask)
+        for mode in (0o600, 0o640, 0o400, 0o666):
+            with self.subTest(mode=oct(mode)):
+                file.unlink(missing_ok=True)
+                file.write_bytes(OLD)
+                file.chmod(mode)
+                open_to = self.calls([*words, "--workers", "1"])["open_to"]
+                self.assertEqual(oct(open_to & ~(mode | 0o600)), "0o0")
+                self.assertEqual(oct(file.stat().st_mode & 0o777), oct(mode))
+                self.assertNotEqual(file.read_bytes(), OLD)
+
+    def test_whole_document(self) -> None:
+        """Replaces the document."""
+        self.check_private("out.json", [*OUT, "--whole"])
+
+    def test_faults(self) -> None:
+        """Replaces the file of faults."""
+        self.check_private("f.csv", ["--faults", "f.csv"])
+
+    def test_new_file_stays(self) -> None:
+        """Keeps the old document if the new file can neither be used nor removed."""
+        (self.report / "out.json").write_bytes(OLD)
+        (self.report / "types.csv").write_text("x")
+        words = [*OUT, "--whole", "--workers", "1"]
+        self.assertEqual(self.refuse("", words).status, 1)
+        self.assertEqual(self.left(self.report, "out.json*"), ["out.json"])
+        self.assertEqual(self.refuse("unlink:1+", words).status, 1)
+        self.assertEqual(self.left(self.report, "out.json*"), ["out.json", "out.json.new"])
+        self.assertEqual((self.report / "out.json").read_bytes(), OLD)
+
+
 FAULT = re.compile(r"xbrl-json: table (\w+), row (\d+), column (\d+): (\w+) \((\d+)\)")
 OF_THE_REPORT = re.compile(r"xbrl-json: (?:report|types|parameters): (\w+) \((\d+)\)")
 FAULT_HEADER = "table,row,column,number,name,line,header,cell,place"
-KINDS = ("memory", "read", "write", "zero", "open", "stat", "sync", "rename")
+KINDS = ("memory", *FILE_KINDS)
 
 
 def agrees(content: bytes | None, err: str) -> bool:
