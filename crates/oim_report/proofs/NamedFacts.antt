@@ -1,60 +1,19 @@
 -- Values by name: a lookup, an addition, and an addition to a group.
-use Rattle.std.proofs.Common.{◌≡◌, ◌<◌, ◌+◌, ℕ, zero, suc, List, [], ◌∷◌, ◌++◌, Option, Some, None, Bool, true, false, ◌&&◌, nat_lt, if◌then◌else◌, refl, sym, ◌∙◌, ap, arith, length, slice_get}
+use Rattle.std.proofs.Common.{◌≡◌, ◌==◌, ℕ, List, [], ◌∷◌, ◌++◌, Option, Some, None, Bool, true, false, ◌&&◌, if◌then◌else◌, refl, sym, ◌∙◌, ap, length, map, subst, Result, Ok, Err, OnOk}
+use Rattle.std.proofs.Math.Dec.{eqb-suc-zero}
 use Rattle.std.proofs.lemmas.Cmp.{nat_list_eq_equiv}
+use Rattle.std.proofs.lemmas.Map.Entries.{lookup_clone}
+use Rattle.std.proofs.lemmas.Map.Text.{is_eq-slice_cmp}
 use Rattle.std.proofs.lemmas.Slice.Eq.{bytes_eq-Decides}
-use Rattle.std.specs.List.{AllZip, position, position_or_len}
-use Rattle.std.specs.Option.{is_some, option_and_then}
-use Rattle.std.specs.Map.{keys_of, lookup, values_of}
+use Rattle.std.specs.Cmp.Lexicographic.{slice_cmp}
+use Rattle.std.specs.List.{AllByRecursion, AllZip}
+use Rattle.std.specs.Map.{lookup}
+use Rattle.std.specs.Option.{IsSomeAnd, MatchOption, option_and_then, option_map, unwrap_or}
+use Rattle.std.specs.Ordering.{is_eq, nat_cmp}
 use Rattle.std.specs.Str.{bytes_eq}
-use Rattle.indexmap.specs.IndexMap.{set_value_at}
 use Rattle.oim_names.specs.Lookup.{value_at}
 use Rattle.oim_report.specs.Named.{ExtendsUnder, value_under}
-use Rattle.oim_report.specs.state.Named.{renamed}
-
--- A lookup by bytes is a lookup in the entries that contracts see.
-pub lookup-renamed : {K V : Type 0} (bytes : K → List ℕ) (name : List ℕ) (entries : List (K × V)) → lookup (λ k. bytes_eq name (bytes k)) entries ≡ value_at name (renamed bytes entries)
-lookup-renamed bytes name [] = refl
-lookup-renamed {K} {V} bytes name (e ∷ es) =
-    rw (nat_list_eq_equiv.symm name (bytes e.0)) (ap (λ (o : Option V). if bytes_eq (bytes e.0) name then Some e.1 else o) (lookup-renamed bytes name es))
-
-pub none-found : {A : Type 0} (o : Option A) → false ≡ is_some o → o ≡ None
-none-found None e = refl
-none-found (Some x) e = cc e
-
--- Clones of the entries are clones of what contracts see.
-pub clone-renamed : {K V : Type 0} (bytes : K → List ℕ) (is_clone : V → V → Type 0) (xs ys : List (K × V)) → AllZip (λ p q. (bytes q.0 ≡ bytes p.0) × is_clone p.1 q.1) xs ys
-    → AllZip (λ p q. (q.0 ≡ p.0) × is_clone p.1 q.1) (renamed bytes xs) (renamed bytes ys)
-clone-renamed bytes is_clone [] [] h = h
-clone-renamed bytes is_clone [] (y ∷ ys) h = h
-clone-renamed bytes is_clone (x ∷ xs) [] h = h
-clone-renamed bytes is_clone (x ∷ xs) (y ∷ ys) h = (h.0, clone-renamed bytes is_clone xs ys h.1)
-
--- The key at a place is the first that passes.
-FirstAt : {K X : Type 0} → (K → Bool) → List (K × X) → ℕ → Type 0
-FirstAt t [] i = ⊥
-FirstAt t (e ∷ es) zero = t e.0 ≡ true
-FirstAt t (e ∷ es) (suc i) = (t e.0 ≡ false) × FirstAt t es i
-
-first-at : {K X : Type 0} (t : K → Bool) (es : List (K × X)) (i : ℕ) → position_or_len t (keys_of es) ≡ i → i < length es → FirstAt t es i
-unfolding FirstAt
-first-at t [] i p l = absurd (omega (arith, l))
-first-at t (e ∷ es) zero p l = by (t e.0) refl
-  where
-    by : (b : Bool) → t e.0 ≡ b → t e.0 ≡ true
-    by true h = h
-    by false h = let more : 1 + position_or_len t (keys_of es) ≡ 0 = rw h at p in absurd (omega (arith, more))
-first-at t (e ∷ es) (suc i) p l = by (t e.0) refl (first-at t es i)
-  where
-    by : (b : Bool) → t e.0 ≡ b → (position_or_len t (keys_of es) ≡ i → i < length es → FirstAt t es i) → (t e.0 ≡ false) × FirstAt t es i
-    by true h more = let none : 0 ≡ suc i = rw h at p in absurd (omega (arith, none))
-    by false h more = let one : 1 + position_or_len t (keys_of es) ≡ suc i = rw h at p in (h, more (omega (arith, one)) (omega (arith, l)))
-
-at-place : (n len i : ℕ) → Some i ≡ (if nat_lt n len then Some n else None) → n ≡ i
-at-place n len i e = by (nat_lt n len) refl
-  where
-    by : (b : Bool) → nat_lt n len ≡ b → n ≡ i
-    by true h = let found : Some i ≡ Some n = rw h at e in cc found
-    by false h = let none : Some i ≡ None = rw h at e in cc none
+use Rattle.oim_report.specs.state.Named.{AreFound, copied, found_more, with_value}
 
 pub same-bytes : (a b : List ℕ) → bytes_eq a b ≡ true → a ≡ b
 same-bytes a b e = (bytes_eq-Decides a b).0 e
@@ -84,48 +43,137 @@ value-extended {V} name v (e ∷ es) n none = by (bytes_eq e.0 name) (bytes_eq e
     by false true h i more = let apart : bytes_eq name n ≡ false = apart-bytes e.0 name n h i in rw (i, apart) refl
     by false false h i more = rw i (more (rw h at none))
 
--- An addition to the group at a place.
-under-first : {K V : Type 0} (bytes : K → List ℕ) (group name : List ℕ) (v : V) (es : List (K × List (List ℕ × V))) (i : ℕ) (old : List (List ℕ × V))
-    → FirstAt (λ k. bytes_eq group (bytes k)) es i → slice_get (values_of es) i ≡ Some old → value_at name old ≡ None
-    → ExtendsUnder (renamed bytes es) group name v (renamed bytes (set_value_at es i (old ++ (name, v) ∷ [])))
-unfolding FirstAt
-under-first bytes group name v [] i old f at none = absurd f
-under-first {K} {V} bytes group name v (e ∷ es) zero old f at none = λ g n. by g n (bytes_eq (bytes e.0) g) refl
-  where
-    same : e.1 ≡ old
-    same = cc at
+-- What holds if a result is `Ok`, from what does.
+pub on-ok : {T E : Type 0} (r : Result T E) (P Q : Type 0) → (P → Q) → OnOk r P → OnOk r Q
+on-ok (Ok x) P Q f h = f h
+on-ok (Err x) P Q f h = tt
 
-    by : (g n : List ℕ) (b : Bool) → bytes_eq (bytes e.0) g ≡ b
-        → value_under ((bytes e.0, old ++ (name, v) ∷ []) ∷ renamed bytes es) g n
-        ≡ (if bytes_eq group g && bytes_eq name n then Some v else value_under ((bytes e.0, e.1) ∷ renamed bytes es) g n)
-    by g n true h =
-        let here : bytes_eq group g ≡ true = rw (same-bytes group (bytes e.0) f) h in
-        rw (h, here, same) (value-extended name v old n none)
-    by g n false h =
-        let apart : bytes_eq group g ≡ false = rw (same-bytes group (bytes e.0) f) h in
-        rw (h, apart) refl
-under-first {K} {V} bytes group name v (e ∷ es) (suc i) old f at none = λ g n. by g n (bytes_eq (bytes e.0) g) refl (under-first bytes group name v es i old f.1 at none g n)
-  where
-    unlike : bytes_eq (bytes e.0) group ≡ false
-    unlike = rw (nat_list_eq_equiv.symm (bytes e.0) group) f.0
+-- A lookup that lends nothing finds nothing.
+pub none-lent : {A B : Type 0} (f : A → B) (o : Option A) → ((x : A) → o ≡ Some x → ⊥) → option_map f o ≡ None
+none-lent f None h = refl
+none-lent f (Some x) h = absurd (h x refl)
 
-    by : (g n : List ℕ) (b : Bool) → bytes_eq (bytes e.0) g ≡ b
-        → value_under (renamed bytes (set_value_at es i (old ++ (name, v) ∷ []))) g n
-        ≡ (if bytes_eq group g && bytes_eq name n then Some v else value_under (renamed bytes es) g n)
-        → value_under ((bytes e.0, e.1) ∷ renamed bytes (set_value_at es i (old ++ (name, v) ∷ []))) g n
-        ≡ (if bytes_eq group g && bytes_eq name n then Some v else value_under ((bytes e.0, e.1) ∷ renamed bytes es) g n)
-    by g n true h more =
-        let apart : bytes_eq group g ≡ false = apart-bytes (bytes e.0) group g unlike h in
-        rw (h, apart) refl
-    by g n false h more = rw h more
+-- There are entries if and only if values were added.
+pub none-added : {K V : Type 0} (bytes : K → List ℕ) (entries : List (K × V)) (added : List (List ℕ × V))
+    → AreFound (λ n. lookup (λ k. is_eq (slice_cmp nat_cmp n (bytes k))) entries) added → (length entries == 0) ≡ (length added == 0)
+none-added bytes [] [] found = refl
+none-added bytes [] (a ∷ rest) found = cc found.1.0
+none-added {V = V} bytes (e ∷ es) [] found =
+    let here : is_eq (slice_cmp nat_cmp (bytes e.0) (bytes e.0)) ≡ true = is_eq-slice_cmp (bytes e.0) (bytes e.0) ∙ nat_list_eq_equiv.refl (bytes e.0) in
+    let first : lookup (λ k. is_eq (slice_cmp nat_cmp (bytes e.0) (bytes k))) (e ∷ es) ≡ None = found.0 (bytes e.0) in
+    let wrong : Some e.1 ≡ None = rw here at first in
+    cc wrong
+none-added bytes (e ∷ es) (a ∷ rest) found = eqb-suc-zero (length es) ∙ sym (eqb-suc-zero (length rest))
+
+-- A value that was added under a new name.
+added-each : {V : Type 0} (find find2 : List ℕ → Option V) (name : List ℕ) (v : V) (es : List (List ℕ × V)) → find name ≡ None
+    → ((n : List ℕ) → find2 n ≡ found_more find name v n) → AllByRecursion (λ e. find e.0 ≡ Some e.1) es
+    → AllByRecursion (λ e. find2 e.0 ≡ Some e.1) (es ++ (name, v) ∷ [])
+added-each find find2 name v [] none more each =
+    let same : bytes_eq name name ≡ true = nat_list_eq_equiv.refl name in
+    (more name ∙ rw same refl, tt)
+added-each {V} find find2 name v (e ∷ es) none more each = (more e.0 ∙ by (bytes_eq name e.0) refl, added-each find find2 name v es none more each.1)
+  where
+    by : (b : Bool) → bytes_eq name e.0 ≡ b → (if b then Some v else find e.0) ≡ Some e.1
+    by true h =
+        let wrong : find name ≡ Some e.1 = rw (same-bytes name e.0 h) each.0 in
+        let both : None ≡ Some e.1 = sym none ∙ wrong in
+        cc both
+    by false h = each.0
+
+pub found-added : {V : Type 0} (find find2 : List ℕ → Option V) (name : List ℕ) (v : V) (added : List (List ℕ × V)) → AreFound find added → value_at name added ≡ None
+    → ((n : List ℕ) → find2 n ≡ found_more find name v n) → AreFound find2 (added ++ (name, v) ∷ [])
+found-added {V} find find2 name v added found none more = (
+  λ n. more n ∙ ap (λ (o : Option V). if bytes_eq name n then Some v else o) (found.0 n) ∙ sym (value-extended name v added n none),
+  added-each find find2 name v added (found.0 name ∙ none) more found.1,
+)
+
+pub found-same : {V : Type 0} (find find2 : List ℕ → Option V) (added : List (List ℕ × V)) → AreFound find added → ((n : List ℕ) → find2 n ≡ find n) → AreFound find2 added
+found-same {V} find find2 added found same = (λ n. same n ∙ found.0 n, each added found.1)
+  where
+    each : (es : List (List ℕ × V)) → AllByRecursion (λ e. find e.0 ≡ Some e.1) es → AllByRecursion (λ e. find2 e.0 ≡ Some e.1) es
+    each [] h = tt
+    each (e ∷ es) h = (same e.0 ∙ h.0, each es h.1)
+
+-- A lookup after each value was changed.
+value-mapped : {V : Type 0} (f : List ℕ → V → V) (n : List ℕ) (es : List (List ℕ × V)) → value_at n (map (λ e. (e.0, f e.0 e.1)) es) ≡ option_map (f n) (value_at n es)
+value-mapped f n [] = refl
+value-mapped {V} f n (e ∷ es) = by (bytes_eq e.0 n) refl (value-mapped f n es)
+  where
+    by : (b : Bool) → bytes_eq e.0 n ≡ b → value_at n (map (λ e. (e.0, f e.0 e.1)) es) ≡ option_map (f n) (value_at n es)
+        → (if b then Some (f e.0 e.1) else value_at n (map (λ e. (e.0, f e.0 e.1)) es)) ≡ option_map (f n) (if b then Some e.1 else value_at n es)
+    by true h more = ap (λ k. Some (f k e.1)) (same-bytes e.0 n h)
+    by false h more = more
+
+-- Another value of a name that was added.
+pub value-with : {V : Type 0} (name : List ℕ) (old v : V) (es : List (List ℕ × V)) (n : List ℕ) → value_at name es ≡ Some old
+    → value_at n (with_value es name v) ≡ found_more (λ k. value_at k es) name v n
+value-with {V} name old v es n there = value-mapped (λ k x. if bytes_eq name k then v else x) n es ∙ by (bytes_eq name n) refl
+  where
+    keep : (o : Option V) → option_map (λ x. x) o ≡ o
+    keep None = refl
+    keep (Some x) = refl
+
+    by : (b : Bool) → bytes_eq name n ≡ b → option_map (λ x. if b then v else x) (value_at n es) ≡ (if b then Some v else value_at n es)
+    by true h = let here : value_at n es ≡ Some old = rw (← same-bytes name n h) there in rw here refl
+    by false h = keep (value_at n es)
+
+pub found-with : {V : Type 0} (find find2 : List ℕ → Option V) (name : List ℕ) (old v : V) (added : List (List ℕ × V)) → AreFound find added → value_at name added ≡ Some old
+    → ((n : List ℕ) → find2 n ≡ found_more find name v n) → AreFound find2 (with_value added name v)
+found-with {V} find find2 name old v added found there more =
+    (λ n. more n ∙ ap (λ (o : Option V). if bytes_eq name n then Some v else o) (found.0 n) ∙ sym (value-with name old v added n there), each added found.1)
+  where
+    each : (es : List (List ℕ × V)) → AllByRecursion (λ e. find e.0 ≡ Some e.1) es → AllByRecursion (λ e. find2 e.0 ≡ Some e.1) (with_value es name v)
+    each [] h = tt
+    each (e ∷ es) h = (more e.0 ∙ by (bytes_eq name e.0), each es h.1)
+      where
+        by : (b : Bool) → (if b then Some v else find e.0) ≡ Some (if b then v else e.1)
+        by true = refl
+        by false = h.0
+
+-- Clones of the values that a lookup finds.
+module _ {V : Type 0} (is_clone : V → V → Type 0) (find find2 : List ℕ → Option V)
+    (clones : (n : List ℕ) → MatchOption (find n) (find2 n ≡ None) (λ v. IsSomeAnd (find2 n) (is_clone v))) where
+  clone-of : (a b : Option V) (v : V) → a ≡ Some v → MatchOption a (b ≡ None) (λ v. IsSomeAnd b (is_clone v)) → (b ≡ Some (unwrap_or b v)) × is_clone v (unwrap_or b v)
+  clone-of None b v e h = cc e
+  clone-of (Some u) None v e h = absurd h
+  clone-of (Some u) (Some w) v e h = let same : u ≡ v = cc e in (refl, subst (λ x. is_clone x w) same h)
+
+  pub zip-copied : (es : List (List ℕ × V)) → AllByRecursion (λ e. find e.0 ≡ Some e.1) es → AllZip (λ p q. (q.0 ≡ p.0) × is_clone p.1 q.1) es (copied find2 es)
+  zip-copied [] h = tt
+  zip-copied (e ∷ es) h = ((refl, (clone-of (find e.0) (find2 e.0) e.1 h.0 (clones e.0)).1), zip-copied es h.1)
+
+  each-copied : (es : List (List ℕ × V)) → AllByRecursion (λ e. find e.0 ≡ Some e.1) es → AllByRecursion (λ e. find2 e.0 ≡ Some e.1) (copied find2 es)
+  each-copied [] h = tt
+  each-copied (e ∷ es) h = ((clone-of (find e.0) (find2 e.0) e.1 h.0 (clones e.0)).0, each-copied es h.1)
+
+  pub found-copied : (added : List (List ℕ × V)) → AreFound find added → AreFound find2 (copied find2 added)
+  found-copied added found =
+      (λ n. by (find n) (find2 n) (clones n) ∙ ap (option_map (λ v. unwrap_or (find2 n) v)) (found.0 n) ∙ sym (value-mapped (λ k v. unwrap_or (find2 k) v) n added), each-copied added found.1)
+    where
+      by : (a b : Option V) → MatchOption a (b ≡ None) (λ v. IsSomeAnd b (is_clone v)) → b ≡ option_map (λ v. unwrap_or b v) a
+      by None b h = h
+      by (Some v) None h = absurd h
+      by (Some v) (Some w) h = refl
+
+-- A lookup in the clone of a map.
+pub clones-found : {K V : Type 0} (bytes : K → List ℕ) (is_clone : V → V → Type 0) (es fs : List (K × V)) → AllZip (λ p q. (bytes q.0 ≡ bytes p.0) × is_clone p.1 q.1) es fs
+    → (n : List ℕ) → MatchOption (lookup (λ k. is_eq (slice_cmp nat_cmp n (bytes k))) es) (lookup (λ k. is_eq (slice_cmp nat_cmp n (bytes k))) fs ≡ None)
+    (λ v. IsSomeAnd (lookup (λ k. is_eq (slice_cmp nat_cmp n (bytes k))) fs) (is_clone v))
+clones-found bytes is_clone es fs h n =
+    lookup_clone (λ x y. bytes y ≡ bytes x) is_clone (λ k. is_eq (slice_cmp nat_cmp n (bytes k))) (λ x y same. ap (λ b. is_eq (slice_cmp nat_cmp n b)) same) es fs h
 
 -- An addition to a group that exists.
-pub under-found : {K V : Type 0} (bytes : K → List ℕ) (group name : List ℕ) (v : V) (es : List (K × List (List ℕ × V))) (i : ℕ) (old : List (List ℕ × V))
-    → Some i ≡ position (λ k. bytes_eq group (bytes k)) (keys_of es) → i < length es → slice_get (values_of es) i ≡ Some old → value_at name old ≡ None
-    → ExtendsUnder (renamed bytes es) group name v (renamed bytes (set_value_at es i (old ++ (name, v) ∷ [])))
-under-found {K} bytes group name v es i old found within at none =
-    let test : K → Bool = λ k. bytes_eq group (bytes k) in
-    under-first bytes group name v es i old (first-at test es i (at-place (position_or_len test (keys_of es)) (length (keys_of es)) i found) within) at none
+pub under-with : {V : Type 0} (group name : List ℕ) (v : V) (es : List (List ℕ × List (List ℕ × V))) (old : List (List ℕ × V)) → value_at group es ≡ Some old → value_at name old ≡ None
+    → ExtendsUnder es group name v (with_value es group (old ++ (name, v) ∷ []))
+under-with {V} group name v es old there none = λ g n. ap (option_and_then (value_at n)) (value-with group old (old ++ (name, v) ∷ []) es g there) ∙ by g n (bytes_eq group g) refl
+  where
+    by : (g n : List ℕ) (b : Bool) → bytes_eq group g ≡ b
+        → option_and_then (value_at n) (if b then Some (old ++ (name, v) ∷ []) else value_at g es) ≡ (if b && bytes_eq name n then Some v else value_under es g n)
+    by g n true h =
+        let here : value_at g es ≡ Some old = rw (← same-bytes group g h) there in
+        rw here (value-extended name v old n none)
+    by g n false h = refl
 
 -- An addition to a new group.
 pub under-new : {V : Type 0} (group name : List ℕ) (v : V) (es new : List (List ℕ × List (List ℕ × V))) → value_at group es ≡ None
