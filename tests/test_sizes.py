@@ -76,7 +76,7 @@ class TestSizes(TestCase):
         self.gives(0, (cash(i, "7") for i in range(1, count + 1)), "}}\n")
 
     def test_fault_of_a_late_row(self) -> None:
-        """Refuses the row behind a million and a half."""
+        """Refuses the row after a million and a half."""
         count = 1_500_000
         self.write({"t1.csv": "cash\n" + "7\n" * count + "x\n7\n"})
         fault = f"row {count + 1}, column 1: BadNumber (40)"
@@ -91,7 +91,7 @@ class TestSizes(TestCase):
         self.gives(0, facts, "}}\n")
 
     def test_blank_lines_first(self) -> None:
-        """Converts a table behind a million blank lines, before its header and behind it."""
+        """Converts a table after a million blank lines, before its header and after it."""
         blank = "\n" * 1_000_000
         self.write({"t1.csv": f"{blank}cash\n{blank}1\n{blank}"})
         self.gives(0, [cash(1, "1")], "}}\n")
