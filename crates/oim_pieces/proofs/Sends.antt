@@ -9,8 +9,6 @@ use Rattle.oim_records.proofs.piece_records.PieceRecords.TheSendSync as records
 use Rattle.oim_records.specs.contracts.piece_records.PieceRecords as Records
 use Rattle.oim_report.proofs.data.Column.TheSendSync as column
 use Rattle.oim_report.specs.contracts.data.Column as Column
-use Rattle.oim_resolve.proofs.plan.Plan.TheSendSync as plan
-use Rattle.oim_resolve.specs.contracts.plan.Plan as Plan
 use Rattle.oim_pieces.proofs.at_work.AtWork.TheSendSync as at_work
 use Rattle.oim_pieces.specs.contracts.at_work.AtWork as AtWork
 use Rattle.oim_rows.proofs.table_header.TableHeader.TheSendSync as header
@@ -44,11 +42,8 @@ answer_send = answer.the_send
 column_sync : IsSync Column.the_row
 column_sync = column.the_sync
 
-plan_send : (a : NamedLft) → IsSend (Plan.the_row a)
-plan_send a = plan.the_send a
-
 row_plan_send : (a : NamedLft) → IsSend (RowPlan.the_row a)
-row_plan_send a = search (sendable, crosses, plan_send, column_sync) depth 20
+row_plan_send a = search (sendable, crosses, column_sync) depth 20
 
 header_send : (a : NamedLft) → IsSend (Header.the_row a)
 header_send a = header.the_send a

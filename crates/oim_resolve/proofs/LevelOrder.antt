@@ -1,5 +1,5 @@
 -- The dimensions of each level of a report rise by name.
-use Rattle.std.proofs.Common.{◌≡◌, ℕ, zero, suc, List, [], ◌∷◌, Bool, true, false, Option, Some, if◌then◌else◌, subst, arith}
+use Rattle.std.proofs.Common.{◌≡◌, ℕ, zero, suc, List, [], ◌∷◌, ◌++◌, Bool, true, false, Option, Some, if◌then◌else◌, subst, sym, ap, ◌∙◌, arith}
 use Rattle.std.specs.Prelude.{slice_index_or}
 use Rattle.std.specs.List.{All, AllByRecursion}
 use Rattle.std.specs.List.Sorted.{IsStrictlySortedBy}
@@ -48,6 +48,13 @@ valued P (x ∷ xs) n v all e = first_or P x.1 (value_at n xs) v (bytes_eq x.0 n
 pub group_rises : (report : ReportValue) → PartsRise report.level report.templates report.tables → (i c : ℕ) (n : List ℕ) (l : Level)
     → value_at n (column_of report i c).groups ≡ Some l → LevelRises l
 group_rises report h i c n l e = valued LevelRises (column_of report i c).groups n l (column_rises report h i c).2 e
+
+pub all_one : {X : Type 0} (P : X → Type 0) (x : X) → P x → All P (x ∷ [])
+all_one P x a zero d within = a
+all_one P x a (suc k) d within = absurd (omega (arith, within))
+
+pub all_pushed_one : {X : Type 0} (P : X → Type 0) (xs ys : List X) (x : X) → ys ≡ xs ++ x ∷ [] → xs ≡ [] → P x → All P ys
+all_pushed_one P xs ys x e none h = subst (All P) (sym (e ∙ ap (λ zs. zs ++ x ∷ []) none)) (all_one P x h)
 
 pub all_two : {X : Type 0} (P : X → Type 0) (x y : X) → P x → P y → All P (x ∷ y ∷ [])
 all_two P x y a b zero d within = a

@@ -1,29 +1,30 @@
--- Levels merged once: the order in which names are inserted does not matter.
-use Rattle.std.proofs.Common.{◌≡◌, ℕ, Bool, true, false, cond, ◌||◌, reverse, List, [], ◌∷◌, ◌++◌, map, Option, Some, None, refl, sym, ap, subst, ◌∙◌}
-use Rattle.std.specs.List.{fold, flat_map, AllByRecursion}
-use Rattle.std.specs.Option.{option_or, option_map, is_some}
+-- Names of levels merged: the order in which they are inserted does not matter.
+use Rattle.std.proofs.Common.{◌≡◌, ◌<◌, ◌≤◌, ◌+◌, ◌-◌, ℕ, reverse, List, [], ◌∷◌, ◌++◌, take, drop, get_or, length, map, Option, Some, None, refl, sym, ap, subst, ◌∙◌, append_assoc, arith}
+use Rattle.std.specs.Borrow.{Bor}
+use Rattle.std.specs.List.{All, fold, flat_map}
+use Rattle.std.specs.Option.{option_or, option_to_list}
 use Rattle.std.specs.Ordering.{match_ordering, nat_cmp, ordering_reverse}
 use Rattle.std.specs.Cmp.{alike_right}
 use Rattle.std.specs.Cmp.Lexicographic.{slice_cmp, nat_list_cmp_total}
 use Rattle.std.specs.FinMap.{slice_cmp-IsAntisymmetric, nat_cmp-IsAntisymmetric}
 use Rattle.std.specs.declared.cmp.Ordering.{Ordering}
 use Rattle.std.specs.declared.cmp.Ordering.TheVariants.{Less, Equal, Greater}
+use Rattle.std.proofs.lemmas.List.{append-nil, at_drop_all, at_drop_more, length-drop, reverse-append, map-append, take_all, take-append-drop}
 use Rattle.oim_names.specs.Lookup.{value_at}
 use Rattle.oim_report.specs.declared.data.Level.{Level}
 use Rattle.oim_report.specs.declared.data.Written.{Written}
-use Rattle.oim_resolve.specs.state.ProgramLevels.{named, merged_at, merged_levels, written_names, put_levels}
-use Rattle.std.proofs.lemmas.Bool.{false≢true}
-use Rattle.oim_resolve.specs.Written.{put_name, names, written, written_decimals}
-use Rattle.std.proofs.lemmas.List.{reverse-append}
-use Rattle.std.proofs.lemmas.Slice.Eq.{bytes_eq-Decides}
-use Rattle.std.specs.Str.{bytes_eq}
-use Rattle.oim_resolve.proofs.Overrides.{written-push, first_written, written_reversed, decimals-push, first_decimals, decimals_reversed}
-
-abbrev order : List ℕ → List ℕ → Ordering
-order = slice_cmp nat_cmp
+use Rattle.oim_resolve.specs.Cell.{Cell}
+use Rattle.oim_resolve.specs.Order.{IsAscending}
+use Rattle.oim_resolve.specs.ProgramCell.{held}
+use Rattle.oim_resolve.specs.Written.{put_name, names, written, named_groups, group_of_cell}
+use Rattle.oim_resolve.proofs.Ascending.{order, Precedes, turned, earlier}
+use Rattle.oim_resolve.proofs.Overrides.{written-push, first_written, written_reversed}
 
 put : (k n : List ℕ) (ks : List (List ℕ)) (o : Ordering) → order n k ≡ o → put_name (k ∷ ks) n ≡ match_ordering o (n ∷ k ∷ ks) (k ∷ ks) (k ∷ put_name ks n)
 put k n ks o e = ap (λ q. match_ordering q (n ∷ k ∷ ks) (k ∷ ks) (k ∷ put_name ks n)) e
+
+same_name : (m k : List ℕ) → order m k ≡ Equal → m ≡ k
+same_name m k e = slice_cmp-IsAntisymmetric nat_cmp-IsAntisymmetric m k e
 
 -- a precedes b.
 module _ (a b : List ℕ) (less : order a b ≡ Less) where
@@ -59,42 +60,172 @@ module _ (a b : List ℕ) (less : order a b ≡ Less) where
 
 swap_by : (a b : List ℕ) (ks : List (List ℕ)) (o : Ordering) → order a b ≡ o → put_name (put_name ks a) b ≡ put_name (put_name ks b) a
 swap_by a b ks Less e = swap_less a b e ks
-swap_by a b ks Equal e =
-    let same = slice_cmp-IsAntisymmetric nat_cmp-IsAntisymmetric a b e in
-    subst (λ x. put_name (put_name ks a) x ≡ put_name (put_name ks x) a) same refl
+swap_by a b ks Equal e = subst (λ x. put_name (put_name ks a) x ≡ put_name (put_name ks x) a) (same_name a b e) refl
 swap_by a b ks Greater e = sym (swap_less b a (nat_list_cmp_total.antisymm b a ∙ ap ordering_reverse e) ks)
 
 -- Two names may be inserted in either order.
-pub swap : (a b : List ℕ) (ks : List (List ℕ)) → put_name (put_name ks a) b ≡ put_name (put_name ks b) a
+swap : (a b : List ℕ) (ks : List (List ℕ)) → put_name (put_name ks a) b ≡ put_name (put_name ks b) a
 swap a b ks = swap_by a b ks (order a b) refl
 
 swap_one : (a : List ℕ) (bs ks : List (List ℕ)) → fold put_name (put_name ks a) bs ≡ put_name (fold put_name ks bs) a
 swap_one a [] ks = refl
 swap_one a (b ∷ bs) ks = ap (λ xs. fold put_name xs bs) (swap a b ks) ∙ swap_one a bs (put_name ks b)
 
--- So may two lists of names.
-pub swap_all : (ns bs ks : List (List ℕ)) → fold put_name (fold put_name ks ns) bs ≡ fold put_name (fold put_name ks bs) ns
-swap_all [] bs ks = refl
-swap_all (a ∷ ns) bs ks = swap_all ns bs (put_name ks a) ∙ ap (λ xs. fold put_name xs ns) (swap_one a bs ks)
+itself : (a : List ℕ) (o : Ordering) → order a a ≡ o → o ≡ Equal
+itself a Less e = absurd (cc (e, nat_list_cmp_total.antisymm a a))
+itself a Equal e = refl
+itself a Greater e = absurd (cc (e, nat_list_cmp_total.antisymm a a))
 
--- The groups' names may be inserted last.
-pub names_groups_last : (first second last : Level) (gs : List Level) → names (first ∷ second ∷ (gs ++ last ∷ [])) ≡ put_levels (names (first ∷ second ∷ last ∷ [])) gs
-names_groups_last first second last [] = refl
-names_groups_last first second last (g ∷ gs) =
-    ap (λ xs. fold put_name xs (written_names first)) (swap_all (written_names g) (written_names second) (names (gs ++ last ∷ [])))
-    ∙ swap_all (written_names g) (written_names first) (fold put_name (names (gs ++ last ∷ [])) (written_names second))
-    ∙ ap (λ xs. fold put_name xs (written_names g)) (names_groups_last first second last gs)
+-- A name that is there already is not inserted again.
+again_by : (a k : List ℕ) (ks : List (List ℕ)) (o : Ordering) → order a k ≡ o → put_name (put_name ks a) a ≡ put_name ks a
+    → put_name (put_name (k ∷ ks) a) a ≡ put_name (k ∷ ks) a
+again_by a k ks Less e h = ap (λ xs. put_name xs a) (put k a ks Less e) ∙ put a a (k ∷ ks) Equal (itself a (order a a) refl) ∙ sym (put k a ks Less e)
+again_by a k ks Equal e h = ap (λ xs. put_name xs a) (put k a ks Equal e)
+again_by a k ks Greater e h =
+    ap (λ xs. put_name xs a) (put k a ks Greater e) ∙ put k a (put_name ks a) Greater e ∙ ap (λ xs. k ∷ xs) h ∙ sym (put k a ks Greater e)
+
+again : (a : List ℕ) (ks : List (List ℕ)) → put_name (put_name ks a) a ≡ put_name ks a
+again a [] = put a a [] Equal (itself a (order a a) refl)
+again a (k ∷ ks) = again_by a k ks (order a k) refl (again a ks)
+
+-- A name may be inserted before or after two lists become one.
+over_by : (ks ls : List (List ℕ)) (l n : List ℕ) (o : Ordering) → order n l ≡ o
+    → ((js : List (List ℕ)) → fold put_name js (put_name ls n) ≡ put_name (fold put_name js ls) n)
+    → fold put_name ks (match_ordering o (n ∷ l ∷ ls) (l ∷ ls) (l ∷ put_name ls n)) ≡ put_name (fold put_name ks (l ∷ ls)) n
+over_by ks ls l n Less e h = swap_one n (l ∷ ls) ks
+over_by ks ls l n Equal e h =
+    ap (λ xs. fold put_name xs ls) (sym (again l ks)) ∙ swap_one l (l ∷ ls) ks ∙ ap (λ x. put_name (fold put_name ks (l ∷ ls)) x) (sym (same_name n l e))
+over_by ks ls l n Greater e h = h (put_name ks l)
+
+over : (ls : List (List ℕ)) (n : List ℕ) (ks : List (List ℕ)) → fold put_name ks (put_name ls n) ≡ put_name (fold put_name ks ls) n
+over [] n ks = refl
+over (l ∷ ls) n ks = over_by ks ls l n (order n l) refl (over ls n)
+
+over_all : (ks ls ns : List (List ℕ)) → fold put_name ks (fold put_name ls ns) ≡ fold put_name (fold put_name ks ls) ns
+over_all ks ls [] = refl
+over_all ks ls (n ∷ ns) = over_all ks (put_name ls n) ns ∙ ap (λ xs. fold put_name xs ns) (over ls n ks)
+
+names-append : (ls ms : List Level) → names (ls ++ ms) ≡ fold put_name (names ms) (names ls)
+names-append [] ms = refl
+names-append (l ∷ ls) ms = ap (λ xs. fold put_name xs (map (λ e. e.0) l.dimensions)) (names-append ls ms) ∙ sym (over_all (names ms) (names ls) (map (λ e. e.0) l.dimensions))
+
+-- The names of two parts of a list of levels.
+pub names_split : (xs ys zs : List Level) → zs ≡ xs ++ ys → fold put_name (names (reverse xs)) (names (reverse ys)) ≡ names (reverse zs)
+names_split xs ys zs e = sym (ap (λ ls. names (reverse ls)) e ∙ ap names (reverse-append xs ys) ∙ names-append (reverse ys) (reverse xs))
+
+-- TWO LISTS MERGED
+
+-- A name before all that are inserted stays first.
+stays : (a : List ℕ) (ks ns : List (List ℕ)) → Precedes a ns → fold put_name (a ∷ ks) ns ≡ a ∷ fold put_name ks ns
+stays a ks [] h = refl
+stays a ks (n ∷ ns) h =
+    ap (λ xs. fold put_name xs ns) (put a n ks Greater (nat_list_cmp_total.antisymm n a ∙ ap ordering_reverse h.0)) ∙ stays a (put_name ks n) ns h.1
+
+first_less : (a b : List ℕ) (ks ns : List (List ℕ)) → order a b ≡ Less → IsAscending (b ∷ ns) → fold put_name (a ∷ ks) (b ∷ ns) ≡ a ∷ fold put_name ks (b ∷ ns)
+first_less a b ks ns e h = stays a ks (b ∷ ns) (e, earlier a b ns e h.0)
+
+first_equal : (a b : List ℕ) (ks ns : List (List ℕ)) → order a b ≡ Equal → IsAscending (b ∷ ns) → fold put_name (a ∷ ks) (b ∷ ns) ≡ a ∷ fold put_name ks ns
+first_equal a b ks ns e h =
+    let same = same_name a b e in
+    ap (λ xs. fold put_name xs ns) (put a b ks Equal (subst (λ x. order b x ≡ Equal) (sym same) (itself b (order b b) refl)))
+    ∙ stays a ks ns (subst (λ x. Precedes x ns) (sym same) h.0)
+
+first_more : (a b : List ℕ) (ks ns : List (List ℕ)) → order a b ≡ Greater → IsAscending (b ∷ ns) → fold put_name (a ∷ ks) (b ∷ ns) ≡ b ∷ fold put_name (a ∷ ks) ns
+first_more a b ks ns e h = ap (λ xs. fold put_name xs ns) (put a b ks Less (turned b a e)) ∙ stays b (a ∷ ks) ns h.0
+
+alone : (ns : List (List ℕ)) → IsAscending ns → fold put_name [] ns ≡ ns
+alone [] h = refl
+alone (n ∷ ns) h = stays n [] ns h.0 ∙ ap (λ xs. n ∷ xs) (alone ns h.1)
+
+-- What is merged so far, and what is left of both lists.
+abbrev pub IsMerged : List (List ℕ) → List (List ℕ) → List (List ℕ) → List (List ℕ) → Type 0
+IsMerged ks ns out all = out ++ fold put_name ks ns ≡ all
+
+moved : (out all rest : List (List ℕ)) (x : List ℕ) (more : List (List ℕ)) → rest ≡ x ∷ more → out ++ rest ≡ all → (out ++ x ∷ []) ++ more ≡ all
+moved out all rest x more e h = append_assoc out (x ∷ []) more ∙ ap (λ xs. out ++ xs) (sym e) ∙ h
+
+module _ (out first second : List (Bor (List ℕ))) (all : List (List ℕ)) (i j : ℕ) (rise : IsAscending (held (drop j second)))
+    (so_far : IsMerged (held (drop i first)) (held (drop j second)) (held out) all) where
+  module _ (d e : Bor (List ℕ)) (here : i < length first) (there : j < length second) where
+    abbrev x : Bor (List ℕ)
+    x = get_or first i d
+
+    abbrev y : Bor (List ℕ)
+    y = get_or second j e
+
+    firsts : held (drop i first) ≡ x.now ∷ held (drop (i + 1) first)
+    firsts = at_drop_more held first i d here
+
+    seconds : held (drop j second) ≡ y.now ∷ held (drop (j + 1) second)
+    seconds = at_drop_more held second j e there
+
+    rises : IsAscending (y.now ∷ held (drop (j + 1) second))
+    rises = subst IsAscending seconds rise
+
+    pub later_rise : IsAscending (held (drop (j + 1) second))
+    later_rise = rises.1
+
+    both : fold put_name (held (drop i first)) (held (drop j second)) ≡ fold put_name (x.now ∷ held (drop (i + 1) first)) (y.now ∷ held (drop (j + 1) second))
+    both = ap (λ xs. fold put_name xs (held (drop j second))) firsts ∙ ap (fold put_name (x.now ∷ held (drop (i + 1) first))) seconds
+
+    longer : (new : List (Bor (List ℕ))) (z : Bor (List ℕ)) (rest : List (List ℕ)) → new ≡ out ++ z ∷ []
+        → fold put_name (held (drop i first)) (held (drop j second)) ≡ z.now ∷ rest → held new ++ rest ≡ all
+    longer new z rest is e =
+        ap (λ xs. held xs ++ rest) is ∙ ap (λ xs. xs ++ rest) (map-append (λ x. x.now) out (z ∷ [])) ∙ moved (held out) all _ z.now rest e so_far
+
+    pub took_first : (new : List (Bor (List ℕ))) → new ≡ out ++ x ∷ [] → Less ≡ order x.now y.now → IsMerged (held (drop (i + 1) first)) (held (drop j second)) (held new) all
+    took_first new is less =
+        subst (λ xs. IsMerged (held (drop (i + 1) first)) xs (held new) all) (sym seconds)
+        (longer new x _ is (both ∙ first_less x.now y.now (held (drop (i + 1) first)) (held (drop (j + 1) second)) (sym less) rises))
+
+    pub took_both : (new : List (Bor (List ℕ))) → new ≡ out ++ x ∷ [] → Equal ≡ order x.now y.now → IsMerged (held (drop (i + 1) first)) (held (drop (j + 1) second)) (held new) all
+    took_both new is equal = longer new x _ is (both ∙ first_equal x.now y.now (held (drop (i + 1) first)) (held (drop (j + 1) second)) (sym equal) rises)
+
+    pub took_second : (new : List (Bor (List ℕ))) → new ≡ out ++ y ∷ [] → Greater ≡ order x.now y.now → IsMerged (held (drop i first)) (held (drop (j + 1) second)) (held new) all
+    took_second new is greater =
+        subst (λ xs. IsMerged xs (held (drop (j + 1) second)) (held new) all) (sym firsts)
+        (longer new y _ is (both ∙ first_more x.now y.now (held (drop (i + 1) first)) (held (drop (j + 1) second)) (sym greater) rises))
+
+  -- One of the two lists is at its end, and the rests are appended.
+  module _ (new whole : List (Bor (List ℕ))) (new_is : new ≡ out ++ drop i first) (whole_is : whole ≡ new ++ drop j second) where
+    parts : held whole ≡ held out ++ (held (drop i first) ++ held (drop j second))
+    parts =
+        ap held whole_is ∙ map-append (λ x. x.now) new (drop j second)
+        ∙ ap (λ xs. held xs ++ held (drop j second)) new_is ∙ ap (λ xs. xs ++ held (drop j second)) (map-append (λ x. x.now) out (drop i first))
+        ∙ append_assoc (held out) (held (drop i first)) (held (drop j second))
+
+    pub first_ended : length first ≤ i → held whole ≡ all
+    first_ended h =
+        let none : held (drop i first) ≡ [] = at_drop_all held first i h in
+        parts ∙ ap (λ xs. held out ++ (xs ++ held (drop j second))) none
+        ∙ ap (λ xs. held out ++ xs) (sym (alone (held (drop j second)) rise) ∙ ap (λ xs. fold put_name xs (held (drop j second))) (sym none)) ∙ so_far
+
+    pub second_ended : length second ≤ j → held whole ≡ all
+    second_ended h =
+        let none : held (drop j second) ≡ [] = at_drop_all held second j h in
+        parts ∙ ap (λ xs. held out ++ (held (drop i first) ++ xs)) none
+        ∙ ap (λ xs. held out ++ xs) (append-nil (held (drop i first)) ∙ ap (fold put_name (held (drop i first))) (sym none)) ∙ so_far
+
+pub rest_is : {X : Type 0} (xs : List X) (i : ℕ) → take (length xs - i) (drop i xs) ≡ drop i xs
+rest_is xs i = take_all (length xs - i) (drop i xs) (omega (arith, length-drop i xs))
+
+-- The names of the parts of a list of levels, merged.
+pub names_parted : (ls front back : List (Bor Level)) (m : ℕ) (v w : List (Bor (List ℕ))) → front ≡ take m ls → back ≡ drop m ls
+    → held v ≡ names (reverse (held front)) → held w ≡ names (reverse (held back)) → fold put_name (held v) (held w) ≡ names (reverse (held ls))
+names_parted ls front back m v w front_is back_is v_is w_is =
+    let whole : held ls ≡ held front ++ held back =
+    ap held (sym (take-append-drop m ls)) ∙ map-append (λ x. x.now) (take m ls) (drop m ls)
+    ∙ ap (λ xs. held xs ++ held (drop m ls)) (sym front_is) ∙ ap (λ xs. held front ++ held xs) (sym back_is) in
+    ap (λ xs. fold put_name xs (held w)) v_is ∙ ap (fold put_name (names (reverse (held front)))) w_is ∙ names_split (held front) (held back) (held ls) whole
+
+-- WHAT LEVELS WRITE
 
 grouped : {V : Type 0} (a b c : Option V) → option_or a (option_or b c) ≡ option_or (option_or a b) c
 grouped None b c = refl
 grouped (Some v) b c = refl
 
-both_none : {V : Type 0} (b : Bool) (o : Option V) → o ≡ None → cond b o None ≡ cond true o None
-both_none true o e = refl
-both_none false o e = sym e
-
 -- What some levels write, or else the more general ones.
-first_written-append : (ls ms : List Level) (n : List ℕ) → first_written (ls ++ ms) n ≡ option_or (first_written ls n) (first_written ms n)
+pub first_written-append : (ls ms : List Level) (n : List ℕ) → first_written (ls ++ ms) n ≡ option_or (first_written ls n) (first_written ms n)
 first_written-append [] ms n = refl
 first_written-append (l ∷ ls) ms n = ap (option_or (value_at n l.dimensions)) (first_written-append ls ms n) ∙ grouped (value_at n l.dimensions) (first_written ls n) (first_written ms n)
 
@@ -109,160 +240,31 @@ written_merged report template column groups n =
     ∙ ap (λ o. option_or o (first_written (template ∷ report ∷ []) n)) (sym (written_reversed groups n))
     ∙ ap (option_or (written (reverse groups) n)) (sym (written_reversed (template ∷ report ∷ []) n)))
 
--- Whether a name is in a list.
-abbrev pub has : List ℕ → List (List ℕ) → Bool
-has n [] = false
-has n (k ∷ ks) = bytes_eq k n || has n ks
+or_none : {V : Type 0} (o : Option V) → option_or o None ≡ o
+or_none None = refl
+or_none (Some v) = refl
 
-skip : {V : Type 0} (f : List ℕ → Option V) (k n : List ℕ) (o : Option V) (b : Bool) (es : List (List ℕ × V)) (rest : Bool)
-    → f k ≡ o → bytes_eq k n ≡ b → value_at n es ≡ cond rest (f n) None → value_at n (named k o ++ es) ≡ cond (b || rest) (f n) None
-skip f k n None true es rest e h p =
-    let same = (bytes_eq-Decides k n).0 h in
-    let nothing = ap f (sym same) ∙ e in
-    p ∙ both_none rest (f n) nothing
-skip f k n None false es rest e h p = p
-skip f k n (Some v) true es rest e h p =
-    let same = (bytes_eq-Decides k n).0 h in
-    ap (λ b. cond b (Some v) (value_at n es)) h ∙ sym e ∙ ap f same
-skip f k n (Some v) false es rest e h p = ap (λ b. cond b (Some v) (value_at n es)) h ∙ p
-
--- A look-up in the entries of a list of names.
-pub value_at-entries : {V : Type 0} (f : List ℕ → Option V) (ks : List (List ℕ)) (n : List ℕ) → value_at n (flat_map (λ k. named k (f k)) ks) ≡ cond (has n ks) (f n) None
-value_at-entries f [] n = refl
-value_at-entries f (k ∷ ks) n = skip f k n (f k) (bytes_eq k n) (flat_map (λ k. named k (f k)) ks) (has n ks) refl refl (value_at-entries f ks n)
-
-or_again : (b c : Bool) → (b || c) ≡ (b || (b || c))
-or_again true c = refl
-or_again false c = refl
-
-or_swap : (a b c : Bool) → (a || (b || c)) ≡ (b || (a || c))
-or_swap true true c = refl
-or_swap true false c = refl
-or_swap false b c = refl
-
-or_assoc : (a b c : Bool) → (a || (b || c)) ≡ ((a || b) || c)
-or_assoc true b c = refl
-or_assoc false b c = refl
-
-has_match : (n m k : List ℕ) (ks : List (List ℕ)) (o : Ordering) → order m k ≡ o → has n (put_name ks m) ≡ (bytes_eq m n || has n ks)
-    → has n (match_ordering o (m ∷ k ∷ ks) (k ∷ ks) (k ∷ put_name ks m)) ≡ (bytes_eq m n || (bytes_eq k n || has n ks))
-has_match n m k ks Less e h = refl
-has_match n m k ks Equal e h =
-    let same = slice_cmp-IsAntisymmetric nat_cmp-IsAntisymmetric m k e in
-    subst (λ x. (bytes_eq k n || has n ks) ≡ (bytes_eq x n || (bytes_eq k n || has n ks))) (sym same) (or_again (bytes_eq k n) (has n ks))
-has_match n m k ks Greater e h = ap (λ b. bytes_eq k n || b) h ∙ or_swap (bytes_eq k n) (bytes_eq m n) (has n ks)
-
-has-put : (n m : List ℕ) (ks : List (List ℕ)) → has n (put_name ks m) ≡ (bytes_eq m n || has n ks)
-has-put n m [] = refl
-has-put n m (k ∷ ks) = has_match n m k ks (order m k) refl (has-put n m ks)
-
-pub has-fold : (n : List ℕ) (ms ks : List (List ℕ)) → has n (fold put_name ks ms) ≡ (has n ms || has n ks)
-has-fold n [] ks = refl
-has-fold n (m ∷ ms) ks =
-    has-fold n ms (put_name ks m) ∙ ap (λ b. has n ms || b) (has-put n m ks) ∙ or_swap (has n ms) (bytes_eq m n) (has n ks) ∙ or_assoc (bytes_eq m n) (has n ms) (has n ks)
-
-is_some_pick : {V : Type 0} (b : Bool) (v : V) (o : Option V) → is_some (cond b (Some v) o) ≡ (b || is_some o)
-is_some_pick true v o = refl
-is_some_pick false v o = refl
-
-pub has-keys : {V : Type 0} (n : List ℕ) (es : List (List ℕ × V)) → has n (map (λ e. e.0) es) ≡ is_some (value_at n es)
-has-keys n [] = refl
-has-keys n (e ∷ es) = ap (λ b. bytes_eq e.0 n || b) (has-keys n es) ∙ sym (is_some_pick (bytes_eq e.0 n) e.1 (value_at n es))
-
-pub where_some : {V : Type 0} (o : Option V) → cond (is_some o) o None ≡ o
-where_some None = refl
-where_some (Some v) = refl
-
--- A name is in the merged list exactly if one of the levels writes it.
-three : (a b d : Option Written) → (is_some a || (is_some b || (is_some d || false)))
-    ≡ is_some {T = Written × Bool} (option_or (option_map (λ w. (w, true)) d) (option_map (λ w. (w, false)) (option_or b (option_or a None))))
-three None None None = refl
-three None None (Some d) = refl
-three None (Some b) None = refl
-three None (Some b) (Some d) = refl
-three (Some a) None None = refl
-three (Some a) None (Some d) = refl
-three (Some a) (Some b) None = refl
-three (Some a) (Some b) (Some d) = refl
-
-module _ (report template column : Level) where
-  pub has-merged : (n : List ℕ) → has n (names (report ∷ template ∷ column ∷ [])) ≡ is_some (merged_at report template column n)
-  has-merged n =
-      has-fold n (written_names report) (names (template ∷ column ∷ []))
-      ∙ ap (λ b. has n (written_names report) || b) (has-fold n (written_names template) (names (column ∷ []))
-      ∙ ap (λ b. has n (written_names template) || b) (has-fold n (written_names column) []))
-      ∙ ap (λ b. b || (has n (written_names template) || (has n (written_names column) || false))) (has-keys n report.dimensions)
-      ∙ ap (λ b. is_some (value_at n report.dimensions) || (b || (has n (written_names column) || false))) (has-keys n template.dimensions)
-      ∙ ap (λ b. is_some (value_at n report.dimensions) || (is_some (value_at n template.dimensions) || (b || false))) (has-keys n column.dimensions)
-      ∙ three (value_at n report.dimensions) (value_at n template.dimensions) (value_at n column.dimensions)
-
-  -- So a look-up in the merged list gives what the levels write.
-  pub value_at-merged : (n : List ℕ) → value_at n (merged_levels report template column) ≡ merged_at report template column n
-  value_at-merged n =
-      value_at-entries (merged_at report template column) (names (report ∷ template ∷ column ∷ [])) n
-      ∙ ap (λ b. cond b (merged_at report template column n) None) (has-merged n) ∙ where_some (merged_at report template column n)
-
--- An own value precedes the groups', another follows them.
-abbrev pub picked : Option (Written × Bool) → Option Written → Option Written
-picked None g = g
-picked (Some (w, true)) g = Some w
-picked (Some (w, false)) g = option_or g (Some w)
-
-picked_is : (own general g : Option Written) → picked (option_or (option_map (λ w. (w, true)) own) (option_map (λ w. (w, false)) general)) g ≡ option_or own (option_or g general)
-picked_is (Some w) general g = refl
-picked_is None None None = refl
-picked_is None None (Some v) = refl
-picked_is None (Some w) g = refl
-
--- What is found in a merged column, and in the groups.
-pub pick_written : (planned : List (List ℕ × (Written × Bool))) (groups : List Level) (n : List ℕ) (w : Option Written) (report template column : Level)
-    → planned ≡ merged_levels report template column
-    → w ≡ picked (value_at n planned) (written (reverse groups) n)
-    → w ≡ written (report ∷ template ∷ (reverse groups ++ column ∷ [])) n
-pick_written planned groups n w report template column e h =
-    h ∙ ap (λ p. picked (value_at n p) (written (reverse groups) n)) e
-    ∙ ap (λ o. picked o (written (reverse groups) n)) (value_at-merged report template column n)
-    ∙ picked_is (value_at n column.dimensions) (written (report ∷ template ∷ []) n) (written (reverse groups) n)
+-- The same, from what column, groups and the others write.
+pub written_by : (report template column : Level) (groups : List Level) (n : List ℕ) (a b d : Option Written)
+    → a ≡ written (column ∷ []) n → b ≡ written (reverse groups) n → d ≡ written (report ∷ template ∷ []) n
+    → option_or a (option_or b d) ≡ written (report ∷ template ∷ (reverse groups ++ column ∷ [])) n
+written_by report template column groups n a b d ha hb hd =
+    ap (λ o. option_or o (option_or b d)) (ha ∙ or_none (value_at n column.dimensions))
+    ∙ ap (λ o. option_or (value_at n column.dimensions) (option_or o d)) hb
+    ∙ ap (λ o. option_or (value_at n column.dimensions) (option_or (written (reverse groups) n) o)) hd
     ∙ sym (written_merged report template column groups n)
 
-or_true : (b c : Bool) → c ≡ true → (b || c) ≡ true
-or_true true c e = refl
-or_true false c e = e
+-- The groups of a row, searched for a name.
+module _ (c : Cell) (is : List ℕ) (i : ℕ) (n : List ℕ) where
+  abbrev pub from_group : List ℕ → Option Written
+  from_group js = first_written (flat_map (λ j. option_to_list (group_of_cell c j)) js) n
 
-all_some : {V : Type 0} (f : List ℕ → Option V) (ks : List (List ℕ)) → ((n : List ℕ) → has n ks ≡ true → is_some (f n) ≡ true) → AllByRecursion (λ k. is_some (f k) ≡ true) ks
-all_some f [] h = tt
-all_some f (k ∷ ks) h =
-    (h k (ap (λ b. b || has k ks) ((bytes_eq-Decides k k).1 refl)), all_some f ks (λ n e. h n (or_true (bytes_eq k n) (has n ks) e)))
+  pub in_group : (d : ℕ) (l : Level) (w : Written) → i < length is → Some l ≡ group_of_cell c (get_or is i d) → Some w ≡ value_at n l.dimensions
+      → from_group (drop i is) ≡ first_written (named_groups c) n → Some w ≡ written (reverse (named_groups c)) n
+  in_group d l w h g v p =
+      ap (λ o. option_or o (from_group (drop (i + 1) is))) v
+      ∙ ap (λ o. first_written (option_to_list o ++ flat_map (λ j. option_to_list (group_of_cell c j)) (drop (i + 1) is)) n) g
+      ∙ sym (at_drop_more from_group is i d h) ∙ p ∙ sym (written_reversed (named_groups c) n)
 
-key-named : {V : Type 0} (k : List ℕ) (o : Option V) → is_some o ≡ true → (es : List (List ℕ × V)) → map (λ e. e.0) (named k o ++ es) ≡ k ∷ map (λ e. e.0) es
-key-named k None e es = absurd (false≢true e)
-key-named k (Some v) e es = refl
-
-keys-named : {V : Type 0} (f : List ℕ → Option V) (ks : List (List ℕ)) → AllByRecursion (λ k. is_some (f k) ≡ true) ks → map (λ e. e.0) (flat_map (λ k. named k (f k)) ks) ≡ ks
-keys-named f [] h = refl
-keys-named f (k ∷ ks) h = key-named k (f k) h.0 (flat_map (λ k. named k (f k)) ks) ∙ ap (λ xs. k ∷ xs) (keys-named f ks h.1)
-
--- The names of a merged column, with the groups' names inserted.
-pub names_merged : (planned : List (List ℕ × (Written × Bool))) (groups : List Level) (report template column : Level)
-    → planned ≡ merged_levels report template column
-    → put_levels (map (λ e. e.0) planned) (reverse groups) ≡ names (report ∷ template ∷ (reverse groups ++ column ∷ []))
-names_merged planned groups report template column e =
-    ap (λ ks. put_levels ks (reverse groups)) (ap (λ (es : List (List ℕ × (Written × Bool))). map (λ e. e.0) es) e
-    ∙ keys-named (merged_at report template column) (names (report ∷ template ∷ column ∷ []))
-    (all_some (merged_at report template column) (names (report ∷ template ∷ column ∷ [])) (λ n h. sym (has-merged report template column n) ∙ h)))
-    ∙ sym (names_groups_last report template column (reverse groups))
-
--- The decimals of column, groups, template and report.
-first_decimals-append : (ls ms : List Level) → first_decimals (ls ++ ms) ≡ option_or (first_decimals ls) (first_decimals ms)
-first_decimals-append [] ms = refl
-first_decimals-append (l ∷ ls) ms = ap (option_or l.decimals) (first_decimals-append ls ms) ∙ grouped l.decimals (first_decimals ls) (first_decimals ms)
-
-pub decimals_merged : (report template column : Level) (groups : List Level)
-    → written_decimals (report ∷ template ∷ (reverse groups ++ column ∷ [])) ≡ option_or column.decimals (option_or (written_decimals (reverse groups)) (written_decimals (report ∷ template ∷ [])))
-decimals_merged report template column groups =
-    decimals-push (report ∷ template ∷ reverse groups) column
-    ∙ ap (option_or column.decimals)
-    (ap written_decimals (sym (reverse-append groups (template ∷ report ∷ []))) ∙ decimals_reversed (groups ++ template ∷ report ∷ [])
-    ∙ first_decimals-append groups (template ∷ report ∷ [])
-    ∙ ap (λ o. option_or o (first_decimals (template ∷ report ∷ []))) (sym (decimals_reversed groups))
-    ∙ ap (option_or (written_decimals (reverse groups))) (sym (decimals_reversed (template ∷ report ∷ []))))
+  pub in_no_group : length is ≤ i → from_group (drop i is) ≡ first_written (named_groups c) n → None ≡ written (reverse (named_groups c)) n
+  in_no_group h p = sym (at_drop_all from_group is i h) ∙ p ∙ sym (written_reversed (named_groups c) n)

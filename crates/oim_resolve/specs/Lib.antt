@@ -8,5 +8,4 @@ pub mod Facts
 pub mod Order
 pub mod ProgramCell
 pub mod ProgramValues
-pub mod ProgramPlan
 pub mod state

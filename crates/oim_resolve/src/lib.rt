@@ -6,17 +6,15 @@
 //! that of the table, the row and the column, joined by dots. The dimensions of a `Fact` are in
 //! byte order of name, without repeats.
 //!
-//! - `compile` makes the `Plan` of a table. It keeps what is the same for all rows: the merged
-//!   dimensions of each column, each property group, the role of each name, the value or fault of
-//!   each literal, and the column and parameter that each reference names. A literal's fault is
-//!   returned only by a cell that uses the literal.
-//! - `Plan::resolve` finds the fact of one cell, and `resolve` does both for a single cell.
+//! - `resolve` finds the fact of one cell. It keeps nothing for the next cell, so a cell costs what
+//!   the levels of its own column write.
+//! - `levels` tells what several levels write: names, dimensions and decimals.
 //! - `read_value` reads one dimension, `read_concept` a concept, and `fact_value` the fact's cell
 //!   by the kind of its concept.
 //!
-//! In `specs/`, the files named `Program..` define what contracts see of a plan, of references and
-//! of the value that is read from a cell. The others hold the rules. `specs/state/` describes what
-//! the program keeps, and is read together with the code.
+//! In `specs/`, the files named `Program..` define what contracts see of references and of the
+//! value that is read from a cell. The others hold the rules. `specs/state/` describes what the
+//! program keeps, and is read together with the code.
 //!
 //! A call:
 //!
@@ -38,13 +36,12 @@ mod cell;
 mod dimension;
 mod fact;
 mod least;
-mod plan;
+pub mod levels;
 mod reading;
 mod role;
 
-pub use cell::side_of;
+pub use cell::{resolve, side_of};
 pub use dimension::{Entry, read_concept, read_value};
 pub use fact::{CellFault, Fact, Row};
-pub use plan::{Plan, compile, levels, resolve};
 pub use reading::{FactValue, fact_value};
 pub use role::Role;

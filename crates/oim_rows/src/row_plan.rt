@@ -16,16 +16,14 @@ use crate::table_header::{TableHeader, push_row_number};
 use oim_names::{Items, Text};
 use oim_records::Fields;
 use oim_report::Column;
-use oim_resolve::{CellFault, Fact, Plan, Row, compile};
+use oim_resolve::{CellFault, Fact, Row, resolve};
 use std::alloc::{AllocError, Global};
 use std::marker::Model;
 use std::snapshot::Snapshot;
 
-/// The plan of a table's template under a header, which turns the cells of a row into its facts. A
-/// contract sees the header.
+/// What turns the cells of a row under a header into its facts. A contract sees the header.
 #[derive(Drop)]
 pub struct RowPlan<'a> {
-    plan: Plan<'a>,
     columns: &'a [Column],
     // the index in the header of each column of the template
     sources: Vec<Option<usize>>,
@@ -40,7 +38,7 @@ impl<'a> Model for RowPlan<'a> {
 
     ghost view = { λ a. a.header.value };
 
-    ghost invariant = { λ a. IsOfTable a.header.value a.plan a.columns.now a.sources.items };
+    ghost invariant = { λ a. IsOfTable a.header.value a.columns.now a.sources.items };
 }
 
 fn sources_of(
@@ -108,11 +106,9 @@ impl<'a> RowPlan<'a> {
     pub fn new(alloc: Global, header: &TableHeader<'a>) -> Result<RowPlan<'a>, AllocError>
         ensures { IfOk result (λ p. p ≡ header.now) }
     {
-        let plan = compile(alloc, header.report(), header.table())?;
         let columns = header.report().template_columns(header.table());
         let sources = sources_of(alloc, header.columns(), columns.len())?;
         Ok(RowPlan {
-            plan,
             columns,
             sources,
             header: Snapshot::of(header),
@@ -138,18 +134,18 @@ impl RowPlan<'_> {
         Ok(Row::new(number, Text::new(id), cells))
     }
 
-    /// Returns the fact under one header cell of a row of `table`.
+    /// Returns the fact under one header cell of a row.
     ///
     /// If one of the first two steps of its cell settles the result, it does not depend on memory.
     fn fact_of_cell(
         &self,
         alloc: Global,
-        table: usize,
+        header: &TableHeader<'_>,
         row: &Row,
         place: usize,
         column: Option<usize>,
     ) -> Result<Option<Fact>, TableFault>
-        requires table { table ≡ (self.now).table }
+        requires header { header.now ≡ self.now }
         requires cells { length row.now.cells ≡ length (columns_of (self.now).report (self.now).table) }
         ensures fact { OrNoMemory (self.now).table result (fact_at (self.now).report (self.now).table row.now place column) }
         ensures early { IfSome (early_fact_at (self.now).report (self.now).table row.now place column) (λ answer. result ≡ answer) }
@@ -160,35 +156,36 @@ impl RowPlan<'_> {
         if !is_fact(self.columns, column) {
             return Ok(None);
         }
-        match self.plan.resolve(alloc, row, column) {
+        let table = header.table();
+        match resolve(alloc, header.report(), table, row, column) {
             Ok(fact) => Ok(fact),
             Err(CellFault::Memory) => Err(whole_fault(table, TableKind::Memory)),
             Err(fault) => Err(fault_at_place(table, row.number, place, TableKind::Cell(fault))),
         }
     }
 
-    /// Returns the facts of a row in header order, for the columns that `header` names.
+    /// Returns the facts of a row in header order.
     ///
     /// Returns the fault of the first cell that has one, or Memory if memory runs out.
     fn facts_of_row(
         &self,
         alloc: Global,
-        table: usize,
+        header: &TableHeader<'_>,
         row: &Row,
-        header: &[Option<usize>],
     ) -> Result<Items<Fact>, TableFault>
-        requires table { table ≡ (self.now).table }
+        requires header { header.now ≡ self.now }
         requires cells { length row.now.cells ≡ length (columns_of (self.now).report (self.now).table) }
-        ensures { OrNoMemory (self.now).table result (facts_from (self.now).report (self.now).table row.now 0 header.now) }
+        ensures { OrNoMemory (self.now).table result (facts_from (self.now).report (self.now).table row.now 0 (self.now).columns) }
     {
-        let Ok(room) = Vec::with_capacity(alloc, header.len()) else {
-            return Err(whole_fault(table, TableKind::Memory));
+        let columns = header.columns();
+        let Ok(room) = Vec::with_capacity(alloc, columns.len()) else {
+            return Err(whole_fault(header.table(), TableKind::Memory));
         };
         let mut facts = Items::from_vec(room);
-        for i in 0..header.len() {
-            if let Some(fact) = self.fact_of_cell(alloc, table, row, i, header[i])? {
+        for i in 0..columns.len() {
+            if let Some(fact) = self.fact_of_cell(alloc, header, row, i, columns[i])? {
                 if facts.push(fact).is_err() {
-                    return Err(whole_fault(table, TableKind::Memory));
+                    return Err(whole_fault(header.table(), TableKind::Memory));
                 }
             }
         }
@@ -213,6 +210,6 @@ impl RowPlan<'_> {
         let Ok(cells) = self.row(alloc, header, number, row) else {
             return Err(whole_fault(header.table(), TableKind::Memory));
         };
-        self.facts_of_row(alloc, header.table(), &cells, header.columns())
+        self.facts_of_row(alloc, header, &cells)
     }
 }

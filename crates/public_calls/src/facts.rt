@@ -5,8 +5,8 @@ use oim_cells::{CellMeaning, NumberKind};
 use oim_meta::{ColumnKind, Kind, Level, Report, Side, Written};
 use oim_names::{Items, Text};
 use oim_resolve::{
-    CellFault, Entry, Fact, FactValue, Plan, Role, Row, compile, fact_value, levels, read_concept,
-    read_value, resolve, side_of,
+    CellFault, Entry, Fact, FactValue, Role, Row, fact_value, levels, read_concept, read_value,
+    resolve, side_of,
 };
 use std::alloc::{AllocError, Global};
 
@@ -35,22 +35,6 @@ fn cells_of(alloc: Global, cash: &str) -> Result<Items<Text>, AllocError> {
     Ok(cells)
 }
 
-/// Returns whether the plan of the table, which many cells can use, has a fact for the row's first
-/// cell.
-fn is_planned(alloc: Global, report: &Report, row: &Row) -> bool {
-    if report.tables() == 0 || report.columns(0) == 0 || row.cells.len() != report.columns(0) {
-        return false;
-    }
-    if report.column(0, 0).kind != ColumnKind::Fact {
-        return false;
-    }
-    let plan: Plan<'_> = match compile(alloc, report, 0) {
-        Ok(plan) => plan,
-        Err(_) => return false,
-    };
-    is_fact(plan.resolve(alloc, row, 0))
-}
-
 /// Returns whether an answer is a fact with an identifier.
 fn is_fact(answer: Result<Option<Fact>, CellFault>) -> bool {
     match answer {
@@ -59,17 +43,12 @@ fn is_fact(answer: Result<Option<Fact>, CellFault>) -> bool {
     }
 }
 
-/// Returns whether the first row with these cells gives a fact in both ways.
+/// Returns whether the first row with these cells gives a fact.
 fn gives(alloc: Global, report: &Report, cells: Items<Text>) -> bool {
     match Text::from_str(alloc, "r_1") {
-        Ok(id) => are_facts(alloc, report, &Row::new(1, id, cells)),
+        Ok(id) => is_fact(fact_of(alloc, report, &Row::new(1, id, cells))),
         Err(_) => false,
     }
-}
-
-/// Returns whether a row gives a fact in both ways.
-fn are_facts(alloc: Global, report: &Report, row: &Row) -> bool {
-    is_fact(fact_of(alloc, report, row)) && is_planned(alloc, report, row)
 }
 
 /// Returns whether the calls over a report answer as they must.

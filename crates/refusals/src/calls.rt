@@ -30,8 +30,8 @@ pub(crate) enum Call {
     OpensRing(bool),
     /// Opens claims of two items, and draws them.
     Claims,
-    /// Resolves a cell, by a plan or not.
-    Resolves(bool),
+    /// Resolves a cell.
+    Resolves,
     /// Reads a table, row by row or in blocks.
     ReadsTable(bool),
     /// Writes the head of a document.
@@ -63,7 +63,7 @@ pub(crate) fn made(alloc: Global, call: Call, over: Over<'_>) -> Answer {
         Call::CopiesReport => metadata::copies(over.report),
         Call::OpensRing(is_alone) => rings::opens(alloc, is_alone),
         Call::Claims => rings::claims(alloc),
-        Call::Resolves(is_planned) => cells::resolves(alloc, over.report, over.row, is_planned),
+        Call::Resolves => cells::resolves(alloc, over.report, over.row),
         Call::ReadsTable(in_blocks) => rows::reads(alloc, over.report, in_blocks),
         Call::WritesHead => rows::writes_the_head(alloc, over.report),
         Call::WritesFacts(are_two) => rows::writes(alloc, over.facts, are_two),
@@ -158,8 +158,7 @@ fn rings_and_claims_without_memory(rt: HostRuntime) {
 }
 
 const TABLES: &[Trial] = &[
-    (Call::Resolves(false), ROOM, 20),
-    (Call::Resolves(true), ROOM, 20),
+    (Call::Resolves, ROOM, 10),
     (Call::ReadsTable(false), 4 * ROOM, 50),
     (Call::ReadsTable(true), 4 * ROOM, 50),
 ];

@@ -1,9 +1,9 @@
-//! A table's plan and the fact of a cell while memory runs out.
+//! The fact of a cell while memory runs out.
 
 use crate::scarcity::Answer;
 use oim_meta::{ColumnKind, Report};
 use oim_names::{Items, Text};
-use oim_resolve::{CellFault, Fact, Row, compile, resolve};
+use oim_resolve::{CellFault, Fact, Row, resolve};
 use std::alloc::{AllocError, Global};
 
 /// Adds a cell.
@@ -39,19 +39,13 @@ fn of_fact(answer: Result<Option<Fact>, CellFault>) -> Answer {
     }
 }
 
-/// Resolves the first cell of a row of the first table, directly or by the table's plan.
-pub(crate) fn resolves(alloc: Global, report: &Report, row: &Row, is_planned: bool) -> Answer {
+/// Resolves the first cell of a row of the first table.
+pub(crate) fn resolves(alloc: Global, report: &Report, row: &Row) -> Answer {
     if report.tables() == 0 || report.columns(0) == 0 || row.cells.len() != report.columns(0) {
         return Answer::Wrong;
     }
     if report.column(0, 0).kind != ColumnKind::Fact {
         return Answer::Wrong;
     }
-    if !is_planned {
-        return of_fact(resolve(alloc, report, 0, row, 0));
-    }
-    match compile(alloc, report, 0) {
-        Ok(plan) => of_fact(plan.resolve(alloc, row, 0)),
-        Err(_) => Answer::Refused,
-    }
+    of_fact(resolve(alloc, report, 0, row, 0))
 }

@@ -5,10 +5,9 @@ ghost use Rattle.oim_resolve.specs.state.ProgramCellAt.{IsCellAt};
 use crate::cell::decimals::Stated;
 use crate::cell::texts::not_empty;
 use crate::fact::Row;
-use crate::plan::{PlannedDimension, Reference};
 use oim_cells::{CellMeaning, meaning};
 use oim_names::Text;
-use oim_report::{Report, WrittenDecimals};
+use oim_report::{Report, Written, WrittenDecimals};
 use std::alloc::{AllocError, Global};
 
 /// A cell: a row of a table and the index of a column.
@@ -30,10 +29,8 @@ impl<'a> CellAt<'a> {
     ghost use Rattle.oim_resolve.specs.Cell.{text_at, meaning_at};
     ghost use Rattle.oim_resolve.specs.Facts.{fact_meaning, id_of, stated_by};
     ghost use Rattle.oim_resolve.specs.state.ProgramCell.{cell_at};
-    ghost use Rattle.oim_resolve.specs.state.ProgramDimensions.{reference_text, row_meaning};
-    ghost use Rattle.oim_resolve.specs.state.ProgramPlan.{seen_planned, seen_reference};
     ghost use Rattle.oim_resolve.specs.state.ProgramValues.{seen_stated};
-    ghost use Rattle.oim_resolve.specs.Values.{not_empty, text_in_row, referred};
+    ghost use Rattle.oim_resolve.specs.Values.{not_empty, text_in_row, referred, value};
 
     /// Returns the text of the row's cell at index `i`.
     fn text_at(&self, i: usize) -> &'a str
@@ -82,39 +79,17 @@ impl<'a> CellAt<'a> {
         }
     }
 
-    /// Returns the text of the row's cell at index `i`, if it exists and is not empty.
-    fn cell_text(&self, i: usize) -> Option<&'a str>
-        ensures { option_map (λ t. t.now) result ≡ not_empty (text_at (cell_at self.now) i) }
+    /// Returns the value that a level writes for a dimension, as the row gives it.
+    pub(crate) fn value(&self, written: &'a Written) -> CellMeaning<'a>
+        ensures { seen_meaning result ≡ value (cell_at self.now) written.now }
     {
-        let row = self.row;
-        match row.cells.as_slice().get(i) {
-            Some(text) => not_empty(text.as_str()),
-            None => None,
-        }
-    }
-
-    /// Returns the text of the cell or parameter that a reference names.
-    fn reference_text(&self, reference: Reference<'a>) -> Option<&'a str>
-        ensures { option_map (λ t. t.now) result ≡ reference_text (cell_at self.now) (seen_reference reference.entry) }
-    {
-        if let Some(place) = reference.place
-            && let Some(text) = self.cell_text(place)
-        {
-            return Some(text);
-        }
-        reference.parameter
-    }
-
-    /// Returns the value that the row gives a dimension that is not a literal.
-    pub(crate) fn row_meaning(&self, dimension: &PlannedDimension<'a>) -> CellMeaning<'a>
-        ensures { seen_meaning result ≡ row_meaning (cell_at self.now) (seen_planned dimension.now) }
-    {
-        match dimension.reference {
-            Some(reference) => match self.reference_text(reference) {
-                Some(text) => meaning(text),
-                None => CellMeaning::Absent,
-            },
-            None => CellMeaning::Text(self.number),
+        match written {
+            Written::Absent => CellMeaning::Absent,
+            Written::Nil => CellMeaning::Nil,
+            Written::Empty => CellMeaning::Empty,
+            Written::Text(text) => CellMeaning::Text(text.as_str()),
+            Written::RowNumber(_) => CellMeaning::Text(self.number),
+            Written::Named(name, _) => self.referred(name.as_str()),
         }
     }
 

@@ -1,41 +1,36 @@
 //! The dimensions and decimals that apply to a cell, and the fact that they give.
 
-ghost use Rattle.std.specs.Prelude.{◌≡◌, ◌<◌, ◌⊎◌, [], length, map, IfErr, IfOk, IsOk};
-ghost use Rattle.std.specs.Option.{option_map};
+ghost use Rattle.std.specs.Prelude.{◌≡◌, ◌⊎◌, map, IfErr, IfOk, IsOk};
+ghost use Rattle.std.specs.List.{All};
 ghost use Rattle.oim_cells.specs.Cells.{seen_meaning};
-ghost use Rattle.oim_resolve.specs.Facts.{concept_kind, fact_meaning, rest_result, stated};
+ghost use Rattle.oim_report.specs.InOrder.{LevelRises};
+ghost use Rattle.oim_resolve.specs.Facts.{concept_kind, fact_meaning, rest_result, role_of, stated};
 ghost use Rattle.oim_resolve.specs.Order.{IsAscending};
-ghost use Rattle.oim_resolve.specs.ProgramCell.{held};
 ghost use Rattle.oim_resolve.specs.state.ProgramCell.{cell_at};
 ghost use Rattle.oim_resolve.specs.state.ProgramValues.{seen_stated};
-ghost use Rattle.oim_resolve.specs.state.ProgramDimensions.{AreMet, dimension_read, dimensions_of, entries_in};
-ghost use Rattle.oim_resolve.specs.state.ProgramPlan.{seen_keyed, seen_planned};
-ghost use Rattle.oim_resolve.specs.state.Rows.{row_map};
-ghost use Rattle.oim_resolve.specs.Written.{levels, named_groups, written_decimals};
+ghost use Rattle.oim_resolve.specs.state.ProgramDimensions.{AreMet, dimension_read, dimensions_of};
+ghost use Rattle.oim_resolve.specs.Written.{levels, names};
 
 use crate::cell::cell_at::CellAt;
 use crate::cell::decimals::Stated;
-use crate::cell::entries::DimensionEntries;
-use crate::cell::planned_cell::PlannedCell;
+use crate::cell::texts::side_of;
 use crate::cell::value::{CellValue, suffix_of, text_of};
 use crate::dimension::{Entry, read_value};
 use crate::fact::{CellFault, Fact};
 use crate::least::{both, lesser};
-use crate::plan::{PlannedDimension, decimals_in, put_entries};
+use crate::levels::{names, written, written_decimals};
 use crate::reading::fact_value;
 use crate::role::Role;
 use oim_names::{Items, Text};
-use oim_report::{Kind, Level, WrittenDecimals};
+use oim_report::{Kind, Level};
 use std::alloc::{AllocError, Global};
 
-/// A cell with the properties that apply to it.
+/// A cell with the levels that apply to it, from the most specific to the most general.
 #[derive(Drop)]
 pub(crate) struct CellDimensions<'a> {
     place: CellAt<'a>,
-    /// The groups that the row names, in the order of `propertiesFrom`.
-    groups: Vec<&'a Level>,
-    entries: DimensionEntries<'a>,
-    ghost all: { AreMet place groups.items entries },
+    levels: Vec<&'a Level>,
+    ghost met: { AreMet place levels.items },
 }
 
 /// The dimensions of a fact, each with its name.
@@ -50,64 +45,31 @@ fn fact_with(id: Text, given: ((Dimensions, Option<i32>), Option<Text>)) -> Fact
     Fact::new(id, value, decimals, dimensions)
 }
 
-/// Returns references to the dimensions of a column.
-fn lent<'a>(
-    alloc: Global,
-    planned: &'a [PlannedDimension<'a>],
-) -> Result<Vec<&'a PlannedDimension<'a>>, AllocError>
-    ensures { IfOk result (λ v. held v.items ≡ planned.now) }
+/// Returns the levels of a cell, from the most specific to the most general.
+fn levels_of<'a>(alloc: Global, place: CellAt<'a>) -> Result<Vec<&'a Level>, AllocError>
+    ensures met { IfOk result (λ v. AreMet place.entry v.items) }
+    ensures rise { IfOk result (λ v. All (λ l. LevelRises l.now) v.items) }
 {
-    let mut entries = Vec::with_capacity(alloc, planned.len())?;
-    for entry in planned {
-        entries.push(entry)?;
-    }
-    Ok(entries)
-}
-
-/// Returns the groups that the row names, and the column's dimensions merged with theirs.
-#[tactic(auto, unfolding(crate::specs::state::Rows::row_map))]
-fn with_groups<'a>(
-    alloc: Global,
-    cell: PlannedCell<'a>,
-) -> Result<(Vec<&'a Level>, Vec<&'a PlannedDimension<'a>>), AllocError>
-    ensures groups { IfOk result (λ v. held v.0.items ≡ named_groups (cell_at cell.entry.place)) }
-    ensures dimensions { IfOk result (λ v. map seen_keyed (held v.1.items) ≡ row_map (cell_at cell.entry.place)) }
-{
-    let columns = cell.columns;
-    let column = cell
-        .place
-        .report
-        .column(cell.place.table, cell.place.column);
-    let mut groups = Vec::new(alloc);
-    let mut entries = lent(alloc, columns[cell.place.column].planned.as_slice())?;
-    for i in column.from.as_slice() {
-        if let Some(group) = cell.named_group(*i) {
-            groups.push(group.level)?;
-            put_entries(&mut entries, group.planned.as_slice())?;
-        }
-    }
-    Ok((groups, entries))
+    let report = place.report;
+    report.stands_in_order();
+    let column = report.column(place.table, place.column);
+    let template = report.template_level(place.table);
+    let general = report.report_level();
+    let mut levels = Vec::with_capacity(alloc, column.from.len().saturating_add(3))?;
+    levels.push(&column.level)?;
+    place.push_groups(&mut levels)?;
+    levels.push(template)?;
+    levels.push(general)?;
+    Ok(levels)
 }
 
 impl<'a> CellDimensions<'a> {
-    fn new(alloc: Global, cell: PlannedCell<'a>) -> Result<CellDimensions<'a>, AllocError>
-        ensures { IfOk result (λ m. m.place ≡ cell.entry.place) }
+    fn new(alloc: Global, place: CellAt<'a>) -> Result<CellDimensions<'a>, AllocError>
+        ensures place { IfOk result (λ m. m.place ≡ place.entry) }
+        ensures rise { IfOk result (λ m. All (λ l. LevelRises l.now) m.levels.items) }
     {
-        let place = cell.place;
-        let columns = cell.columns;
-        if place.report.column(place.table, place.column).from.len() == 0 {
-            return Ok(CellDimensions {
-                place,
-                groups: Vec::new(alloc),
-                entries: DimensionEntries::Column(&columns[place.column]),
-            });
-        }
-        let (groups, planned) = with_groups(alloc, cell)?;
-        Ok(CellDimensions {
-            place,
-            groups,
-            entries: DimensionEntries::Grouped(planned),
-        })
+        let levels = levels_of(alloc, place)?;
+        Ok(CellDimensions { place, levels })
     }
 
     /// Returns what a dimension gives a fact, or the least fault of its value.
@@ -115,37 +77,41 @@ impl<'a> CellDimensions<'a> {
         &self,
         alloc: Global,
         kind: Kind,
-        dimension: &PlannedDimension<'a>,
+        name: &str,
     ) -> Result<Result<Entry, CellFault>, AllocError>
-        ensures read { IfOk result (λ r. r ≡ dimension_read (cell_at self.now.place) kind (seen_planned dimension.now)) }
-        ensures early { IfErr result (λ _. ((dimension.now).role ≡ Role.Language)
-            ⊎ IsOk (dimension_read (cell_at self.now.place) kind (seen_planned dimension.now))) }
+        requires { All (λ l. LevelRises l.now) self.now.levels.items }
+        ensures read { IfOk result (λ r. r ≡ dimension_read (cell_at self.now.place) kind name.now) }
+        ensures early { IfErr result (λ _. (role_of self.now.place.report.now name.now ≡ Role.Language)
+            ⊎ IsOk (dimension_read (cell_at self.now.place) kind name.now)) }
     {
-        if dimension.role.is_dropped(kind) {
+        let report = self.place.report;
+        let role = Role::of(report, name);
+        if role.is_dropped(kind) {
             return Ok(Ok(None));
         }
-        match &dimension.literal {
-            Some(literal) => literal.read(),
-            None => read_value(
+        match written(self.levels.as_slice(), name) {
+            Some(written) => read_value(
                 alloc,
-                self.place.report,
-                dimension.role,
-                dimension.side,
-                self.place.row_meaning(dimension),
+                report,
+                role,
+                side_of(written),
+                self.place.value(written),
             ),
+            None => Ok(Ok(None)),
         }
     }
 
     /// Returns what all dimensions give a fact, or their least fault.
     fn read(&self, alloc: Global, kind: Kind) -> Result<Result<Dimensions, CellFault>, AllocError>
-        ensures { IfOk result (λ r. r ≡ dimensions_of (cell_at self.now.place) kind (map seen_planned (entries_in self.now.entries))) }
+        requires { All (λ l. LevelRises l.now) self.now.levels.items }
+        ensures { IfOk result (λ r. r ≡ dimensions_of (cell_at self.now.place) kind (names (levels (cell_at self.now.place)))) }
     {
-        let mut given = Items::from_vec(Vec::with_capacity(alloc, self.entries.len())?);
+        let names = names(alloc, self.levels.as_slice())?;
+        let mut given = Items::from_vec(Vec::with_capacity(alloc, names.len())?);
         let mut least = None;
-        for i in 0..self.entries.len() {
-            let dimension = self.entries.at(i);
-            match self.read_dimension(alloc, kind, dimension)? {
-                Ok(Some(value)) => given.push((dimension.name.clone()?, value))?,
+        for name in names.as_slice() {
+            match self.read_dimension(alloc, kind, name)? {
+                Ok(Some(value)) => given.push((Text::from_str(alloc, name)?, value))?,
                 Ok(None) => {}
                 Err(fault) => {
                     least = Some(match least {
@@ -161,27 +127,16 @@ impl<'a> CellDimensions<'a> {
         }
     }
 
-    fn written_decimals(&self) -> Option<&'a WrittenDecimals>
-        ensures { option_map (λ w. w.now) result ≡ written_decimals (levels (cell_at self.now.place)) }
-    {
-        let place = self.place;
-        decimals_in(
-            place.report.report_level(),
-            place.report.template_level(place.table),
-            self.groups.as_slice(),
-            &place.report.column(place.table, place.column).level,
-        )
-    }
-
     /// Returns the decimals that the properties give in this row.
     fn stated(&self) -> Stated<'a>
         ensures { seen_stated result ≡ stated (cell_at self.now.place) }
     {
-        self.place.stated(self.written_decimals())
+        self.place.stated(written_decimals(self.levels.as_slice()))
     }
 
     /// Returns the fact, or the least fault of dimensions, decimals and value.
     fn fact(&self, alloc: Global, value: CellValue<'_>) -> Result<Fact, CellFault>
+        requires rise { All (λ l. LevelRises l.now) self.now.levels.items }
         requires kind { value.kind ≡ concept_kind (cell_at self.now.place) }
         requires meaning { seen_meaning value.meaning ≡ fact_meaning (cell_at self.now.place) }
         ensures { (result ≡ Err CellFault.Memory) ⊎ (result ≡ rest_result (cell_at self.now.place)) }
@@ -202,13 +157,13 @@ impl<'a> CellDimensions<'a> {
     /// or the least fault of its dimensions, decimals and value.
     pub(crate) fn fact_of(
         alloc: Global,
-        cell: PlannedCell<'a>,
+        place: CellAt<'a>,
         value: CellValue<'_>,
     ) -> Result<Fact, CellFault>
-        requires kind { value.kind ≡ concept_kind (cell_at cell.place) }
-        requires meaning { seen_meaning value.meaning ≡ fact_meaning (cell_at cell.place) }
-        ensures { (result ≡ Err CellFault.Memory) ⊎ (result ≡ rest_result (cell_at cell.entry.place)) }
+        requires kind { value.kind ≡ concept_kind (cell_at place) }
+        requires meaning { seen_meaning value.meaning ≡ fact_meaning (cell_at place) }
+        ensures { (result ≡ Err CellFault.Memory) ⊎ (result ≡ rest_result (cell_at place.entry)) }
     {
-        CellDimensions::new(alloc, cell)?.fact(alloc, value)
+        CellDimensions::new(alloc, place)?.fact(alloc, value)
     }
 }

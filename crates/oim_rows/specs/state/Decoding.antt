@@ -3,13 +3,10 @@ use Rattle.std.specs.Prelude.{◌≡◌, ◌<◌, List, ℕ, Option, map, length
 use Rattle.std.specs.List.{range_with_len}
 use Rattle.oim_report.specs.Readers.{columns_of}
 use Rattle.oim_report.specs.declared.data.Column.{Column}
-use Rattle.oim_resolve.specs.ProgramPlan.{PlanOf}
 use Rattle.oim_rows.specs.RowFacts.{TableHeaderValue, source_of_column}
 
--- The plan and the columns are those of the table, and each column's index in the header is known.
-pub record IsOfTable (header : TableHeaderValue) (plan : PlanOf) (columns : List Column) (sources : List (Option ℕ)) : Type 0 where
+-- The columns are those of the table, and each column's index in the header is known.
+pub record IsOfTable (header : TableHeaderValue) (columns : List Column) (sources : List (Option ℕ)) : Type 0 where
   pub in_range : header.table < length header.report.tables
-  pub one_report : plan.report ≡ header.report
-  pub one_table : plan.table ≡ header.table
   pub all_columns : columns ≡ columns_of header.report header.table
   pub sources_are : sources ≡ map (source_of_column header.columns) (range_with_len 0 (length columns))

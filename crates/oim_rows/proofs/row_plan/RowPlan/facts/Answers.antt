@@ -2,11 +2,8 @@ use Rattle.std.proofs.Common.{◌∙◌, ap, length}
 use Rattle.std.proofs.lemmas.List.FromFn.{length-map-range_with_len}
 use Rattle.oim_report.specs.Readers.{columns_of}
 use Rattle.oim_resolve.specs.declared.fact.Row.{Row}
-use Rattle.oim_rows.specs.RowFacts.{TableHeaderValue, cell_at}
+use Rattle.oim_rows.specs.RowFacts.{cell_at}
 use Rattle.oim_rows.proofs.row_plan.RowPlan.facts.Goals as goal
-
-pub facts_of_row-requires-clause-table : goal.facts_of_row-requires-clause-table
-facts_of_row-requires-clause-table c = c.table-2.ensures.value ∙ ap (λ (r : TableHeaderValue). r.table) c.requires.header
 
 pub facts_of_row-requires-clause-cells : goal.facts_of_row-requires-clause-cells
 facts_of_row-requires-clause-cells c =

@@ -1,6 +1,6 @@
 use Rattle.std.proofs.Common.{Ok, inr, ap, ◌∙◌}
 use Rattle.oim_resolve.specs.state.ProgramCell.{cell_at}
-use Rattle.oim_resolve.specs.state.ProgramDimensions.{dimensions_of}
+use Rattle.oim_resolve.specs.Written.{levels, names}
 use Rattle.oim_resolve.proofs.Ascending.{given_ascends}
 use Rattle.oim_resolve.proofs.Outcomes.{fact_fault, fact_whole, read_together}
 use Rattle.oim_resolve.proofs.RowFacts.{row_read}
@@ -10,7 +10,7 @@ pub fact_with-requires : goal.fact_with-requires
 fact_with-requires c =
     let cell = cell_at c.args.self.now.place in
     let k = c.args.value.kind in
-    let dimensions = c.in_ok-dimensions.ensures ∙ ap (dimensions_of cell k) c.args.self.now.all.entries_are ∙ row_read cell k in
+    let dimensions = c.in_ok-dimensions.ensures ∙ row_read cell k (names (levels cell)) in
     let together = read_together cell k _ _ c.suffix_of.result _ _ _ _ _ c.both-2.result c.requires.meaning c.fact_value-reading.ensures c.suffix_of.ensures
     c.stated.ensures dimensions c.decimals-decimals.ensures c.in_ok-text.ensures.text c.both.ensures c.both-2.ensures in
     given_ascends cell k c.in-Ok.given c.both-2.result c.in-Ok.is together
@@ -19,7 +19,7 @@ pub returns : goal.returns
 returns c =
     let cell = cell_at c.args.self.now.place in
     let k = c.args.value.kind in
-    let dimensions = c.in_ok-dimensions.ensures ∙ ap (dimensions_of cell k) c.args.self.now.all.entries_are ∙ row_read cell k in
+    let dimensions = c.in_ok-dimensions.ensures ∙ row_read cell k (names (levels cell)) in
     let together = read_together cell k _ _ c.suffix_of.result _ _ _ _ _ c.both-2.result c.requires.meaning c.fact_value-reading.ensures c.suffix_of.ensures
     c.stated.ensures dimensions c.decimals-decimals.ensures c.in_ok-text.ensures.text c.both.ensures c.both-2.ensures in
     inr (ap Ok c.fact_with.ensures ∙ fact_whole cell k _ c.in-Ok.given c.both-2.result c.requires.kind c.in_ok-id.ensures c.in-Ok.is together)
@@ -28,7 +28,7 @@ pub returns-in-Err : goal.returns-in-Err
 returns-in-Err c =
     let cell = cell_at c.args.self.now.place in
     let k = c.args.value.kind in
-    let dimensions = c.in_ok-dimensions.ensures ∙ ap (dimensions_of cell k) c.args.self.now.all.entries_are ∙ row_read cell k in
+    let dimensions = c.in_ok-dimensions.ensures ∙ row_read cell k (names (levels cell)) in
     let together = read_together cell k _ _ c.suffix_of.result _ _ _ _ _ c.both-2.result c.requires.meaning c.fact_value-reading.ensures c.suffix_of.ensures
     c.stated.ensures dimensions c.decimals-decimals.ensures c.in_ok-text.ensures.text c.both.ensures c.both-2.ensures in
     inr (fact_fault cell k c.in-Err.fault c.both-2.result c.requires.kind c.in-Err.is together)
