@@ -81,12 +81,13 @@ impl Drain {
         if let Item::Block(block) = &item {
             self.backlog.less(block.count());
         }
-        self.waiting.wake();
+        let left = self.consumer.slots();
+        self.waiting.wake(left);
         Some(item)
     }
 
     /// Waits until the feed wakes this drain, or at most a few milliseconds, so it may return
-    /// although nothing was sent. The feed wakes it after every few items, when the ring is full
+    /// although nothing was sent. The feed wakes it after every few items, when it finds no room
     /// and at the close. Call it if `take` returned `None`. The items taken stay the same.
     pub fn wait<R: Wait>(&self, rt: &R) {
         self.waiting.wait(rt);

@@ -125,7 +125,6 @@ impl Feed {
     /// Sends a block. If the ring is full, the error gives the block back, and nothing changes. The
     /// ring is not full while fewer items were sent than its size. It allocates no memory and does
     /// not wait.
-    #[tactic(auto, using(crate::proofs::TakenWhole::blocks_more))]
     pub fn put(&mut self, block: Block) -> Result<(), Block>
         ensures ring { (self.new.ring ≡ self.old.ring) × (self.new.size ≡ self.old.size) }
         ensures ok { OnOk result (self.new.sent ≡ self.old.sent ++ items.Block block ∷ []) }
@@ -133,20 +132,39 @@ impl Feed {
         ensures room { length self.old.sent < self.old.size → IsOk result }
         ensures open { blocks_only self.new.sent ≡ true }
     {
+        let facts = block.count();
+        match self.send(block) {
+            Ok(()) => {}
+            Err(back) => {
+                self.waiting.await_any();
+                return Err(back);
+            }
+        }
+        self.waiting.tell(facts);
+        Ok(())
+    }
+
+    /// Sends a block as `put` does, and wakes no drain.
+    #[tactic(auto, using(crate::proofs::TakenWhole::blocks_more))]
+    fn send(&mut self, block: Block) -> Result<(), Block>
+        ensures ring { (self.new.ring ≡ self.old.ring) × (self.new.size ≡ self.old.size) }
+        ensures ok { OnOk result (self.new.sent ≡ self.old.sent ++ items.Block block ∷ []) }
+        ensures full { IfErr result (λ back. (back ≡ block) × (self.new ≡ self.old)) }
+        ensures room { length self.old.sent < self.old.size → IsOk result }
+        ensures open { blocks_only self.new.sent ≡ true }
+    {
         if self.producer.slots() <= self.kept {
-            self.waiting.wake();
             return Err(block);
         }
-        let facts = block.count();
-        self.backlog.more(facts);
+        self.backlog.more(block.count());
         self.producer.push_reserved(Item::Block(block));
-        self.waiting.tell(facts);
         Ok(())
     }
 
     /// Sends a block as `put` does, if fewer than `most` blocks are known to wait in the ring.
     /// Otherwise the error gives the block back, as if the ring were full. It succeeds while the
-    /// count of items sent is below `most` and below the ring's size.
+    /// count of items sent is below `most` and below the ring's size. It wakes the drain less often
+    /// than `put`.
     pub fn put_below(&mut self, block: Block, most: usize) -> Result<(), Block>
         ensures ring { (self.new.ring ≡ self.old.ring) × (self.new.size ≡ self.old.size) }
         ensures ok { OnOk result (self.new.sent ≡ self.old.sent ++ items.Block block ∷ []) }
@@ -154,11 +172,22 @@ impl Feed {
         ensures room { length self.old.sent < self.old.size → length self.old.sent < most → IsOk result }
         ensures open { blocks_only self.new.sent ≡ true }
     {
-        if self.waiting_blocks() < most {
-            return self.put(block);
+        let most = most.min(self.room());
+        let waiting = self.waiting_blocks();
+        if waiting >= most {
+            self.waiting.await_few(most);
+            return Err(block);
         }
-        self.waiting.wake();
-        Err(block)
+        self.send(block)?;
+        self.waiting.tell_of(waiting.saturating_add(1), most);
+        Ok(())
+    }
+
+    /// Returns how many blocks the ring holds at most.
+    fn room(&self) -> usize
+        ensures { result ≡ self.now.size }
+    {
+        self.producer.capacity().saturating_sub(self.kept)
     }
 
     /// Returns the count of blocks that are known to wait in the ring. It does not wait.
@@ -188,7 +217,7 @@ impl Feed {
         match producer.push(Item::Ending(ending)) {
             Ok(()) => {}
             Err(_) => {
-                waiting.wake();
+                waiting.await_any();
                 let feed = Feed {
                     producer,
                     kept,
@@ -206,8 +235,9 @@ impl Feed {
         }
     }
 
-    /// Waits until the drain takes an item. Returns at once if it took one since this feed last
-    /// waited. Call it if the ring was full. The items sent stay the same.
+    /// Waits for room: until the drain takes an item if `put` or `close` found the ring full, or
+    /// until it has taken three quarters of the blocks if `put_below` gave the block back. May
+    /// return earlier. Call it only then. The items sent stay the same.
     pub fn wait<R: Wait>(&self, rt: &R) {
         self.waiting.wait(rt);
     }

@@ -24,12 +24,12 @@
 //! - After a failed write the writer takes items as before, up to the ending of each table.
 //! - **Room in its ring.** A feed sleeps on its Parker if its ring is full, or holds as many blocks
 //!   as the feed may put, at least one. It sleeps until it is given the token. The drain first
-//!   takes an item and then gives the token, which stays until a sleep takes it. So a feed that
-//!   sleeps has found these items after the last one was taken. The writer reaches the table, takes
-//!   one of them, and the feed continues.
+//!   takes an item and then gives the token if few items are left, at the latest if none is. The
+//!   token stays until a sleep takes it. So a feed that sleeps has found these items after the last
+//!   token was given. The writer reaches the table, takes all of them, and the feed continues.
 
 use std::alloc::{AllocError, Global};
-use std::sync::atomic::{AtomicU64, Ordering};
+use std::sync::atomic::{AtomicU64, AtomicUsize, Ordering};
 use std::sync::{Arc, Wait};
 use std::thread::Parker;
 use std::time::Duration;
@@ -41,7 +41,7 @@ const MOST_UNTOLD: usize = 2_048;
 const HALF_BLOCK: usize = 128;
 
 /// The longest first sleep of a drain, in milliseconds.
-const SHORT_SLEEP: u64 = 1;
+const SHORT_SLEEP: u64 = 2;
 
 /// The longest sleep of a drain that has found nothing several times, in milliseconds.
 const LONG_SLEEP: u64 = 16;
@@ -51,6 +51,8 @@ const LONG_SLEEP: u64 = 16;
 struct Parkers {
     feed: Parker,
     drain: Parker,
+    /// The feed is woken when at most so many items are left in the ring.
+    few: AtomicUsize,
 }
 
 /// The feed's side: it waits, and wakes the drain.
@@ -98,6 +100,7 @@ pub(crate) fn both_ends(
     let both = Parkers {
         feed: Parker::new(),
         drain: Parker::new(),
+        few: AtomicUsize::new(usize::MAX),
     };
     let parkers = Arc::new(alloc, both)?;
     let feed = FeedWaiting {
@@ -122,6 +125,28 @@ impl FeedWaiting {
         }
     }
 
+    /// Notes that a block was sent, that `waiting` blocks wait, and that `most` may. Wakes the drain
+    /// if they are three quarters of them. A drain that is not woken finds the blocks after its
+    /// sleep.
+    pub(crate) fn tell_of(&mut self, waiting: usize, most: usize) {
+        if waiting >= most - most / 4 {
+            self.wake();
+        }
+    }
+
+    /// Notes that the feed is about to wait until a quarter of `most` items is left, and wakes the
+    /// drain.
+    pub(crate) fn await_few(&mut self, most: usize) {
+        self.parkers.few.store(most / 4, Ordering::SeqCst);
+        self.wake();
+    }
+
+    /// Notes that the feed is about to wait until an item is taken, and wakes the drain.
+    pub(crate) fn await_any(&mut self) {
+        self.parkers.few.store(usize::MAX, Ordering::SeqCst);
+        self.wake();
+    }
+
     /// Ends the drain's wait, or its next wait if it is not waiting.
     pub(crate) fn wake(&mut self) {
         self.untold = 0;
@@ -135,11 +160,15 @@ impl FeedWaiting {
 }
 
 impl DrainWaiting {
-    /// Ends the feed's wait, or its next wait if it is not waiting. Call it after an item was
-    /// taken.
-    pub(crate) fn wake(&self) {
-        self.limit.store(SHORT_SLEEP, Ordering::SeqCst);
-        self.parkers.feed.unpark();
+    /// Notes that an item was taken and `left` are left. If these are few, ends the feed's wait, or
+    /// its next wait if it is not waiting.
+    pub(crate) fn wake(&self, left: usize) {
+        if self.limit.load(Ordering::SeqCst) != SHORT_SLEEP {
+            self.limit.store(SHORT_SLEEP, Ordering::SeqCst);
+        }
+        if left <= self.parkers.few.load(Ordering::SeqCst) {
+            self.parkers.feed.unpark();
+        }
     }
 
     /// Waits until the feed wakes the drain, or until a limit that doubles with each wait until an

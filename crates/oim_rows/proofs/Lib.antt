@@ -9,3 +9,4 @@ mod DotFacts
 mod FactIds
 mod Examples
 mod OrderedIds
+mod MovedIds

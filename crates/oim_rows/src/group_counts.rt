@@ -79,9 +79,24 @@ impl GroupCounts {
         ids.reserve(groups.saturating_mul(USED).saturating_sub(ids.len()))?;
         self.counts.clear();
         self.counts.resize(groups, 0)?;
+        self.count_all(ids);
+        Ok(())
+    }
+
+    /// Counts the identifiers of a set, beside those that were counted.
+    pub(crate) fn count_all(&mut self, ids: &IndexSet<RowId>) {
         for id in ids.as_slice() {
             let _ = self.is_full(id);
         }
-        Ok(())
+    }
+
+    /// Forgets the identifiers. The groups stay.
+    pub(crate) fn clear(&mut self) {
+        self.counts.as_mut_slice().fill(0);
+    }
+
+    /// Returns the count of groups.
+    pub(crate) fn groups(&self) -> usize {
+        self.counts.len()
     }
 }

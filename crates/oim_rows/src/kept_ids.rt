@@ -11,6 +11,7 @@ ghost use Rattle.std.specs.Str.{bytes_eq};
 
 use crate::group_counts::GroupCounts;
 use crate::row_id::{RowId, Sought};
+use crate::spare_ids::SpareIds;
 use indexmap::IndexSet;
 use std::alloc::{AllocError, Global};
 use std::collections::BTreeSet;
@@ -86,6 +87,42 @@ impl KeptIds {
             hashed: IndexSet::new(alloc),
             counts: GroupCounts::new(alloc),
             ordered: BTreeSet::new(alloc),
+        }
+    }
+
+    /// Moves the identifiers of the hash set to the memory of `spare`, if that is larger.
+    #[tactic(auto, using(crate::proofs::MovedIds::all_moved))]
+    pub(crate) fn move_to(&mut self, spare: SpareIds)
+        ensures { (other : List ℕ) → is_kept (self.new).hashed.keys (self.new).ordered other ≡ is_kept (self.old).hashed.keys (self.old).ordered other }
+    {
+        if spare.capacity() <= self.hashed.capacity() {
+            return;
+        }
+        let SpareIds {
+            mut hashed,
+            mut counts,
+        } = spare;
+        if hashed.append(&mut self.hashed).is_ok() {
+            counts.count_all(&hashed);
+            self.hashed = hashed;
+            self.counts = counts;
+        }
+    }
+
+    /// Drops the identifiers, and returns the memory of the hash set for those of another table.
+    ///
+    /// Returns `None` if it is small or large, or if identifiers are in order.
+    pub(crate) fn into_spare(self) -> Option<SpareIds> {
+        let KeptIds {
+            alloc: _,
+            hashed,
+            counts,
+            ordered,
+        } = self;
+        if ordered.is_empty() {
+            SpareIds::of(hashed, counts)
+        } else {
+            None
         }
     }
 

@@ -36,6 +36,7 @@ mod row_id;
 mod row_plan;
 mod rows;
 mod short;
+mod spare_ids;
 mod table_header;
 
 pub use fault::{TableFault, TableKind, fault_at_place, fault_of_read, whole_fault};
@@ -44,4 +45,5 @@ pub use laws::{fact_identifiers_differ, stream_is_of_all_rows, table_stream_is_o
 pub use row_id::RowId;
 pub use row_plan::RowPlan;
 pub use rows::{RowFacts, Rows};
+pub use spare_ids::SpareIds;
 pub use table_header::{TableHeader, push_row_number};
