@@ -10,7 +10,7 @@ use std::marker::Model;
 /// The fewest groups of a table that is kept.
 const FEWEST: usize = 512;
 
-/// The most groups of a table that is kept. With its identifiers, at most some 65,000, it has about
+/// The most groups of a table that is kept. With its identifiers, at most 65,536, it has about
 /// 5 MB.
 const MOST: usize = 16_384;
 
