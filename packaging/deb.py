@@ -25,6 +25,8 @@ from email.utils import formatdate
 from pathlib import Path
 from typing import Dict, List, NamedTuple
 
+from library import is_shipped
+
 TOP = Path(__file__).resolve().parent.parent
 ARCHITECTURE = "amd64"
 LIBRARIES = "/usr/lib/x86_64-linux-gnu"
@@ -111,7 +113,7 @@ def packages(version: str) -> List[Package]:
  .
  The processor must have SSE 4.2 and POPCNT (x86-64-v2).""",
     }, [])
-    if not (TOP / SHARED).exists():
+    if not is_shipped(version):
         return [programs]
     about = """
  The library converts files in memory, and answers the document or the faults
