@@ -47,8 +47,7 @@ WARNINGS = ["-Wall", "-Wextra", "-Werror", "-pedantic"]
 STANDARDS = (("cc", "-std=c99"), ("cc", "-std=c17"), ("c++", "-std=c++11", "-x", "c++"))
 EXAMPLES = ("held", "quarterly", "questionnaire", "refused")
 CALLS = 10_000
-# Outcomes that no report of examples/ has: the status, the layout, and the files, as tests/library.c
-# takes them.
+# Outcomes that no report of examples/ has: the status, the layout, and the files of the driver.
 OUTCOMES = {
     "metadata that is not JSON": (1, "0", ["examples/held/t1.csv", "examples/held/types.csv"]),
     "an unknown layout": (2, "7", ["examples/held/meta.json", "examples/held/types.csv"]),
@@ -330,7 +329,7 @@ def resident() -> int:
 
 
 def python_memory(package: Any) -> None:
-    """Makes many calls of each outcome, which leave no memory behind."""
+    """Makes many calls of each outcome, and compares the memory before and after them."""
     held, refused = ({it: (TOP / it).read_bytes() for it in example_files(name)} for name in ("held", "refused"))
     kinds = [(held, "examples/held", "types.csv"), (refused, "examples/refused", "types.csv"),
              (held, "examples/held", "t1.csv"), (held, "examples/held", "absent.csv")]

@@ -39,12 +39,11 @@ share/zsh/site-functions/_xbrl-filing share/zsh/site-functions/_xbrl-json""".spl
 BASH = """. xbrl-filing.bash; cd "$1"; shift
 COMP_WORDS=("$@"); COMP_CWORD=$(($# - 1)); _xbrl_filing; printf '%s\\n' "${COMPREPLY[@]}"
 """
-PREPARED = """import sys, xbrl_json
-from xbrl_json.filings import Refusal, prepare
-prepare(sys.argv[2], sys.argv[3:], sys.argv[1])
+PREPARED = """import sys, xbrl_json, xbrl_json.filings as filings
+filings.prepare(sys.argv[2], sys.argv[3:], sys.argv[1])
 try:
-    prepare("absent.zip", [], sys.argv[1] + "2")
-except Refusal as refusal:
+    filings.prepare("absent.zip", [], sys.argv[1] + "2")
+except filings.Refusal as refusal:
     print(xbrl_json.Refused.__name__, refusal.status)
 """
 CONVERTED = """import sys, xbrl_json
