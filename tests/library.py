@@ -468,4 +468,5 @@ if __name__ == "__main__":
     if reason:
         print(f"left out: {reason}")
         sys.exit(told(NAME))
-    sys.exit(main(Path(*folder or [TOP / dist.LIBRARY]).resolve(), os.path.abspath(file)))
+    at = Path(folder[0]) if folder else TOP / dist.LIBRARY
+    sys.exit(main(at.resolve(), os.path.abspath(file)))

@@ -1,7 +1,7 @@
 #!/usr/bin/env python3
 """Measures calls of the C library, and fails if one takes longer than it may.
 
-    bench/library.py [FOLDER PROGRAM]
+    bench/calls.py [FOLDER PROGRAM]
 
 FOLDER has the library and PROGRAM is xbrl-json; without them they are dist/lib and dist/xbrl-json.
 The reports are those of bench/generate.py in the shape `positions`:
