@@ -9,6 +9,7 @@
 PREFIX = /usr/local
 DESTDIR =
 LIBDIR = $(PREFIX)/lib
+PYTHONDIR = $(PREFIX)/lib/python3/dist-packages
 ZSHDIR = $(PREFIX)/share/zsh/site-functions
 
 share := $(DESTDIR)$(PREFIX)/share
@@ -19,13 +20,15 @@ bash := $(share)/bash-completion/completions
 fish := $(share)/fish/vendor_completions.d
 zsh := $(DESTDIR)$(ZSHDIR)
 lib := $(DESTDIR)$(LIBDIR)
+python := $(DESTDIR)$(PYTHONDIR)/xbrl_json
+modules := $(filter-out %/commands.py,$(wildcard library/python/xbrl_json/*.py))
 header := $(DESTDIR)$(PREFIX)/include/xbrl_json.h
 programs := xbrl-json xbrl-filing
 archive := libxbrl_json.a
 shared := libxbrl_json.so.0
 has_library := $(wildcard dist/lib/$(shared))
 
-.PHONY: all install install-programs install-library uninstall
+.PHONY: all install install-programs install-library install-python uninstall
 
 all:
 	@echo 'usage: make install [PREFIX=/usr/local] [DESTDIR=FOLDER]; make uninstall'
@@ -56,6 +59,12 @@ install-library:
 	sed -e 's|^prefix=.*|prefix=$(PREFIX)|' -e 's|^libdir=.*|libdir=$(LIBDIR)|' \
 	    dist/lib/xbrl_json.pc > $(lib)/pkgconfig/xbrl_json.pc
 	chmod 644 $(lib)/pkgconfig/xbrl_json.pc
+
+# For Debian's package of the module; `make install` leaves it out, because pip installs the wheel.
+install-python:
+	install -d $(python)/filing
+	install -m 644 $(modules) library/python/xbrl_json/py.typed $(python)
+	install -m 644 filing/*.py $(python)/filing
 
 uninstall:
 	rm -f $(foreach it,$(programs),$(bin)/$(it) $(man)/$(it).1 $(bash)/$(it) $(fish)/$(it).fish $(zsh)/_$(it))

@@ -5,8 +5,8 @@
 
 It writes `xbrl-json_VERSION_amd64.deb` to FOLDER, which is `out` without an argument. The package
 has both programs, their man pages and completions, and the manual. If dist/lib has the C library,
-it also writes `libxbrl-json0` (what a linked program needs) and `libxbrl-json-dev` (what a compiler
-needs). Files are placed by `make install`.
+it also writes `libxbrl-json0` (what a linked program needs), `libxbrl-json-dev` (what a compiler
+needs) and `python3-xbrl-json` (the Python package). Files are placed by `make install`.
 
 Two runs over the same files write the same bytes. The time of each file is SOURCE_DATE_EPOCH, or
 1 January 2020. Needs Python 3.9 or later, GNU make and dpkg-deb.
@@ -25,6 +25,8 @@ from email.utils import formatdate
 from pathlib import Path
 from typing import Dict, List, NamedTuple
 
+from library import is_shipped
+
 TOP = Path(__file__).resolve().parent.parent
 ARCHITECTURE = "amd64"
 LIBRARIES = "/usr/lib/x86_64-linux-gnu"
@@ -33,19 +35,22 @@ MAINTAINER = "Dobelaixo maintainers <maintainers@users.noreply.dobelaixo.example
 SHARED = "dist/lib/libxbrl_json.so.0"
 MANUAL = ("docs/MANUAL.md", "docs/FAULTS.md", "docs/PROVED.md")
 
-# The modules are compiled at the installation, because a user cannot write next to them.
+# The modules of these packages are compiled at the installation, because a user cannot write next
+# to them. Debian's tools find those of dist-packages by the package's name, others by their folder.
+MODULES = {"xbrl-json": "/usr/share/xbrl-json",
+           "python3-xbrl-json": "/usr/lib/python3/dist-packages/xbrl_json"}
 AFTER_INSTALL = """#!/bin/sh
 set -e
 if [ "$1" = configure ] && command -v py3compile >/dev/null 2>&1; then
-    py3compile -p xbrl-json /usr/share/xbrl-json
+    py3compile -p {words}
 fi
 """
 BEFORE_REMOVAL = """#!/bin/sh
 set -e
 if command -v py3clean >/dev/null 2>&1; then
-    py3clean -p xbrl-json /usr/share/xbrl-json
+    py3clean -p {words}
 else
-    rm -rf /usr/share/xbrl-json/filing/__pycache__
+    find {folder} -name __pycache__ -exec rm -rf {{}} +
 fi
 """
 COPYRIGHT = """Format: https://www.debian.org/doc/packaging-manuals/copyright-format/1.0/
@@ -111,7 +116,7 @@ def packages(version: str) -> List[Package]:
  .
  The processor must have SSE 4.2 and POPCNT (x86-64-v2).""",
     }, [])
-    if not (TOP / SHARED).exists():
+    if not is_shipped(version):
         return [programs]
     about = """
  The library converts files in memory, and answers the document or the faults
@@ -129,7 +134,13 @@ def packages(version: str) -> List[Package]:
         "Description": f"converter of xBRL-CSV reports to xBRL-JSON - development files{about}\n"
                        " .\n This package has the header and the static library.",
     }, ["*.a", "*.so", "*.pc", "*.h"])
-    return [programs, shared, development]
+    python = Package("python3-xbrl-json", "install-python", {
+        "Section": "python",
+        "Architecture": "all",
+        "Depends": f"libxbrl-json0 (= {version}), python3:any (>= 3.9)",
+        "Description": f"converter of xBRL-CSV reports to xBRL-JSON - Python package{about}",
+    }, [])
+    return [programs, shared, development, python]
 
 
 def install(package: Package, root: Path) -> None:
@@ -197,9 +208,11 @@ def add_control(package: Package, root: Path, version: str) -> None:
         del fields["Source"]
     write(root / "DEBIAN/control", "".join(f"{name}: {it}\n" for name, it in fields.items()))
     write(root / "DEBIAN/md5sums", sums)
-    if package.name == "xbrl-json":
-        write(root / "DEBIAN/postinst", AFTER_INSTALL, 0o755)
-        write(root / "DEBIAN/prerm", BEFORE_REMOVAL, 0o755)
+    if package.name in MODULES:
+        folder = MODULES[package.name]
+        words = f"{package.name} {folder}" if package.name == "xbrl-json" else package.name
+        write(root / "DEBIAN/postinst", AFTER_INSTALL.format(words=words), 0o755)
+        write(root / "DEBIAN/prerm", BEFORE_REMOVAL.format(words=words, folder=folder), 0o755)
     elif package.name == "libxbrl-json0":
         write(root / "DEBIAN/shlibs", f"libxbrl_json 0 libxbrl-json0 (>= {version})\n")
         write(root / "DEBIAN/triggers", "activate-noawait ldconfig\n")
@@ -207,7 +220,7 @@ def add_control(package: Package, root: Path, version: str) -> None:
 
 def make(package: Package, version: str, out: Path) -> Path:
     """Makes a package, and returns its file."""
-    file = out / f"{package.name}_{version}_{ARCHITECTURE}.deb"
+    file = out / f"{package.name}_{version}_{package.fields.get('Architecture', ARCHITECTURE)}.deb"
     with tempfile.TemporaryDirectory() as folder:
         root = Path(folder) / "root"
         root.mkdir(mode=0o755)

@@ -3,8 +3,8 @@
 
     packaging/library.py [--from ARCHIVE] [FOLDER]
 
-ARCHIVE is crates/xbrl_json_c/out/libxbrl_json_c.a without the option, which `rt lib` builds. It
-writes to FOLDER, which is `out/lib` without an argument:
+ARCHIVE is crates/xbrl_json_c/out/libxbrl_json_c.a without the option, which packaging/archive.py or
+`rt lib` builds. It writes to FOLDER, which is `out/lib` without an argument:
 
     libxbrl_json.a      the static library: one object, with the public names only
     libxbrl_json.so.0   the shared library, which has the public names and needs the C library only
@@ -89,6 +89,14 @@ def version_of(shared: Path) -> str:
     return ctypes.string_at(text.at, text.len).decode().split()[0]
 
 
+def is_shipped(version: str) -> bool:
+    """Whether dist/lib has the C library. Ends the script if it is of another version."""
+    shared = TOP / "dist/lib" / SHARED
+    if shared.exists() and version_of(shared) != version:
+        sys.exit(f"dist/lib is {version_of(shared)}, and dist/xbrl-json is {version}: make both anew")
+    return shared.exists()
+
+
 def make(archive: Path, out: Path) -> None:
     """Makes the files of the library in a folder."""
     its_kit = kit()
@@ -113,7 +121,7 @@ def main(words: List[str]) -> int:
         print(__doc__)
         return 0 if words == ["--help"] else 2
     if not archive.exists():
-        print(f"packaging/library.py: {archive} does not exist: run `rt lib` in its crate", file=sys.stderr)
+        print(f"packaging/library.py: {archive} does not exist: packaging/archive.py makes it", file=sys.stderr)
         return 1
     out = Path(words[0] if words else TOP / "out/lib")
     make(archive, out)

@@ -21,6 +21,8 @@ import zipfile
 from pathlib import Path
 from typing import Dict, List
 
+from library import is_shipped
+
 TOP = Path(__file__).resolve().parent.parent
 SHARED = TOP / "dist/lib/libxbrl_json.so.0"
 PROGRAM = TOP / "dist/xbrl-json"
@@ -74,7 +76,7 @@ def contents(its_version: str, its_tag: str) -> Dict[str, bytes]:
         for path in sorted(folder.iterdir()):
             if path.suffix == ".py" or path.name == "py.typed":
                 found[f"{below}/{path.name}"] = path.read_bytes()
-    if SHARED.exists():
+    if is_shipped(its_version):
         found[f"xbrl_json/{SHARED.name}"] = SHARED.read_bytes()
     found[f"xbrl_json-{its_version}.data/scripts/xbrl-json"] = PROGRAM.read_bytes()
     about = f"xbrl_json-{its_version}.dist-info"

@@ -145,7 +145,7 @@ def fill_library(top: Path) -> str:
     if not its_kit:
         raise Refused("the kit's command `rt` is needed")
     if not holds(top, "is_library_built_of", ".", sources):
-        raise Refused(f"no library was proved here from these sources: run .ci/run, or `rt lib` in crates/{LIBRARY_CRATE}")
+        raise Refused("no library was proved here from these sources: run .ci/run with library_required=yes in dist/sources.sh")
     if asked(top, "noted", f"crates/{LIBRARY_CRATE}/out/SOURCES", "kit") != its_kit:
         raise Refused("the library here was proved by another kit: run .ci/run")
     make_library(top, top / LIBRARY)

@@ -5,10 +5,11 @@
  *     library refuse META TYPES ..      refuses each request for memory in turn
  *     library threads N META TYPES ..   converts in N threads at once, 50 times each
  *
- * META, TYPES and what follows are files. `run` leaves what a library cannot do to the program that
- * the variable PROGRAM names: words that are not about a conversion, and files that are not there.
- * It writes `L` to the file that the variable COUNT names if it asked the library, and else `P`.
- * The other three print one line, and end with status 1 if something is wrong.
+ * META, TYPES and what follows are files; `-` is a file that is not there. `run` leaves what a
+ * library cannot do to the program that the variable PROGRAM names: words that are not about a
+ * conversion, and files that are not there. It writes `L` to the file that the variable COUNT names
+ * if it asked the library, and else `P`. The other three print one line, and end with status 1 if
+ * something is wrong. The variable LAYOUT may have the number of a layout for them.
  *
  * The linker's option --wrap puts the functions below instead of malloc, realloc and free.
  */
@@ -401,7 +402,8 @@ int main(int argc, char **argv) {
     meta = argv[given];
     types = argv[given + 1];
     for (int i = given; i < argc; i++)
-        if (!put(argv[i])) return 2;
+        if (strcmp(argv[i], "-") && !put(argv[i])) return 2;
+    if (getenv("LAYOUT")) layout = (uint32_t)strtoul(getenv("LAYOUT"), NULL, 10);
     if (!strcmp(argv[1], "calls")) return calls(number);
     if (!strcmp(argv[1], "refuse")) return refuse();
     if (!strcmp(argv[1], "threads") && number > 0 && number <= 64) return threads((size_t)number);

@@ -1,16 +1,17 @@
 #!/usr/bin/env python3
 """Tests the C library and its Python package.
 
-    tests/library.py FOLDER PROGRAM
+    tests/library.py [FOLDER] PROGRAM
 
-FOLDER has libxbrl_json.a and libxbrl_json.so.0, as dist/lib; PROGRAM is xbrl-json. From C, by
+FOLDER has libxbrl_json.a and libxbrl_json.so.0; PROGRAM is xbrl-json. Without FOLDER it is dist/lib
+if that is of these sources; otherwise nothing is tested, and a line gives the reason. From C, by
 tests/library.c, and from Python:
 
 - the reports of the test modules in MODULES, whose results are written there by hand;
 - the worked reports of examples/, with the bytes, status, lines and faults of PROGRAM;
 - the examples of library/README.md, which must compile without a warning and give these bytes;
 - each request for memory of a conversion refused in turn: a right answer, and no memory left;
-- 10,000 calls of each outcome: always the same answer, and no memory left;
+- 10,000 calls of each outcome, at each status: always the same answer, and no memory left;
 - eight threads at once, each with a stack of 256 KiB: the same answer.
 
 The shared library must have the public names only and need only the C library. valgrind is used if
@@ -36,14 +37,25 @@ from pathlib import Path
 from typing import Any, Dict, List, Optional, Sequence, Tuple
 
 import cases
+import dist
 from cases import case, told
 
 TOP = Path(__file__).resolve().parent.parent
+NAME = "the C library and the Python package"
 WRAP = "-Wl,--wrap=malloc,--wrap=realloc,--wrap=free"
 WARNINGS = ["-Wall", "-Wextra", "-Werror", "-pedantic"]
 STANDARDS = (("cc", "-std=c99"), ("cc", "-std=c17"), ("c++", "-std=c++11", "-x", "c++"))
 EXAMPLES = ("held", "quarterly", "questionnaire", "refused")
 CALLS = 10_000
+# Outcomes that no report of examples/ has: the status, the layout, and the files of the driver.
+OUTCOMES = {
+    "metadata that is not JSON": (1, "0", ["examples/held/t1.csv", "examples/held/types.csv"]),
+    "an unknown layout": (2, "7", ["examples/held/meta.json", "examples/held/types.csv"]),
+    "no metadata": (3, "0", ["-", "examples/held/types.csv"]),
+    "no types table": (3, "0", ["examples/held/meta.json", "-"]),
+}
+# Bytes by which Python may grow in these calls: less than one short text of each answer.
+MOST_GROWTH = 1 << 18
 MODULES = ["test_reports", "test_cells", "test_facts", "test_metadata", "test_explained",
            "test_explained_metadata", "test_explained_sources", "test_explained_tables"]
 Run = Tuple[int, bytes, str]
@@ -132,10 +144,12 @@ def modes_of_driver(driver: Path) -> None:
             last = done.stdout.splitlines()[-1:]
             case(f"{name}: {words[0]}", done.returncode == 0, done.stdout[-600:], done.stderr)
             print(f"{name}: {words[0]}: {''.join(last)}")
-    missing = ["examples/held/t1.csv", "examples/held/types.csv"]
-    done = subprocess.run([str(driver), "calls", str(CALLS), *missing], cwd=TOP, capture_output=True,
-                          text=True)
-    case("metadata that is not JSON: calls", done.returncode == 0, done.stdout, done.stderr)
+    for name, (status, layout, files) in OUTCOMES.items():
+        command = [str(driver), "calls", str(CALLS), *files]
+        done = subprocess.run(command, cwd=TOP, capture_output=True, text=True,
+                              env={**os.environ, "LAYOUT": layout})
+        case(f"{name}: calls", done.returncode == 0, done.stdout, done.stderr)
+        case(f"{name}: status", done.stdout.startswith(f"status {status},"), done.stdout)
 
 
 def memory_errors(driver: Path) -> None:
@@ -308,6 +322,27 @@ def python_threads(package: Any) -> None:
     case("threads of Python", all(it == wanted for it in seen))
 
 
+def resident() -> int:
+    """Returns how many bytes of memory this process uses."""
+    pages = Path("/proc/self/statm").read_text().split()[1]
+    return int(pages) * os.sysconf("SC_PAGE_SIZE")
+
+
+def python_memory(package: Any) -> None:
+    """Makes many calls of each outcome, and compares the memory before and after them."""
+    held, refused = ({it: (TOP / it).read_bytes() for it in example_files(name)} for name in ("held", "refused"))
+    kinds = [(held, "examples/held", "types.csv"), (refused, "examples/refused", "types.csv"),
+             (held, "examples/held", "t1.csv"), (held, "examples/held", "absent.csv")]
+    for files, folder, types in kinds:
+        before = 0
+        for number in range(CALLS + 1_000):
+            if number == 1_000:
+                before = resident()
+            with contextlib.suppress(package.ConversionError):
+                package.convert(files, f"{folder}/meta.json", f"{folder}/{types}")
+        case(f"Python, {folder}, {types}: memory", resident() - before < MOST_GROWTH, resident() - before)
+
+
 def python_errors(package: Any, folder: Path) -> None:
     """Checks the errors for wrong calls, and files that are mapped, missing or outside."""
     def raised(kind: type, call: Any, *words: Any) -> bool:
@@ -386,6 +421,16 @@ def page_examples(library: Path, program: str, folder: Path) -> None:
         case(f"the page's Python: {name}", fine, done.returncode, done.stdout, done.stderr)
 
 
+def left_out() -> str:
+    """Returns why dist/lib is not tested, or an empty text if it is."""
+    if not (TOP / dist.LIBRARY).exists():
+        return f"there is no {dist.LIBRARY}"
+    sources = dist.asked(TOP, "sources_sum", ".", dist.LIBRARY_CRATE)
+    if dist.asked(TOP, "noted", str(dist.LIBRARY / "SOURCES"), "sources") != sources:
+        return f"{dist.LIBRARY} is of other sources"
+    return ""
+
+
 def main(library: Path, program: str) -> int:
     """Returns the status: 1 if a case fails."""
     os.environ["XBRL_JSON_LIBRARY"] = str(library / "libxbrl_json.so.0")
@@ -402,6 +447,7 @@ def main(library: Path, program: str) -> int:
         python_errors(package, folder)
         examples_from_python(package, program)
         python_threads(package)
+        python_memory(package)
         driver, plain = folder / "driver", folder / "plain"
         archive, source = str(library / "libxbrl_json.a"), TOP / "tests/library.c"
         printed = compiled(source, driver, "-std=gnu11", "-DWRAPPED", WRAP, "-pthread", archive)
@@ -411,10 +457,16 @@ def main(library: Path, program: str) -> int:
         memory_errors(plain)
         reports_from_c(driver, program, folder)
         reports_from_python(ByPython(package, program))
-    return told("the C library and the Python package")
+    return told(NAME)
 
 
 if __name__ == "__main__":
-    if len(sys.argv) != 3:
+    if len(sys.argv) not in (2, 3):
         sys.exit(__doc__)
-    sys.exit(main(Path(sys.argv[1]).resolve(), os.path.abspath(sys.argv[2])))
+    *folder, file = sys.argv[1:]
+    reason = "" if folder else left_out()
+    if reason:
+        print(f"left out: {reason}")
+        sys.exit(told(NAME))
+    at = Path(folder[0]) if folder else TOP / dist.LIBRARY
+    sys.exit(main(at.resolve(), os.path.abspath(file)))

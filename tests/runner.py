@@ -32,7 +32,15 @@ from typing import Any, NamedTuple
 TOP = Path(__file__).resolve().parent.parent
 
 # Scripts that count by themselves, the longest first: they start before the modules.
-SCRIPTS = ["filing.py", "every_fault.py", "filing_bounds.py", "fuzz_filing.py", "fault_table.py"]
+SCRIPTS = [
+    "filing.py",
+    "every_fault.py",
+    "library.py",
+    "filing_bounds.py",
+    "fuzz_filing.py",
+    "packages.py",
+    "fault_table.py",
+]
 # The modules that take the longest start first.
 LONGEST = ["tests.test_refused", "tests.test_shipped", "tests.test_stress", "tests.test_run"]
 # Seconds after which a module is stopped: many times what the longest takes.
@@ -168,7 +176,9 @@ def run_script(name: str, program: str) -> Told:
     if len(told) < failed or (status != 0 and not failed):
         why = f"{end_of(status)}\n{last_lines(output)}"
         told += [(f"tests/{name}", why)] * max(failed - len(told), 1)
-    return Told(f"tests/{name}", passed, told, [])
+    begin = "left out: "
+    skipped = [(f"tests/{name}", it[len(begin) :]) for it in lines if it.startswith(begin)]
+    return Told(f"tests/{name}", passed, told, skipped)
 
 
 def modules() -> list[str]:

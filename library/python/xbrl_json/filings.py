@@ -1,0 +1,15 @@
+"""Filings: reports that extend a module of taxonomy packages. Only the wheel has this module.
+
+    from xbrl_json import convert_folder
+    from xbrl_json.filings import prepare
+
+    prepare("report.zip", ["taxonomy.zip"], "plain")
+    document = convert_folder("plain")
+
+`prepare` makes the plain files that `convert_folder` takes, and raises `Refusal` if a file of the
+filing is wrong. `kinds` returns the types of concepts and dimensions.
+"""
+from .filing.library import kinds, prepare
+from .filing.refusals import Refusal
+
+__all__ = ["Refusal", "kinds", "prepare"]
