@@ -209,7 +209,7 @@ def many_urls() -> Files:
 
 def many_missing() -> Files:
     """A linkbase that refers to many files of the standards, which no package has."""
-    return {"reg/mod.xsd": linked(loc(f"http://www.xbrl.org/{it}.xsd") for it in range(50_000))}
+    return {"reg/mod.xsd": linked(loc(f"http://www.xbrl.org/{it}.xsd") for it in range(20_000))}
 
 
 def many_starts() -> Files:
