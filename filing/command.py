@@ -19,6 +19,7 @@ from .final import check_final
 from .finding import Finder, Found
 from .kept_module import Joined, ModuleCache
 from .kinds import REASONS, Kinds, kinds_of
+from .lost_cells import refuse_lost_cells
 from .metadata import check_parts, merge
 from .origins import Origins
 from .outputs import refuse_outputs
@@ -293,6 +294,7 @@ def join_anew(
     check_parameters(merged, renaming, files)
     check_references(merged, files)
     require_parameters(merged, files)
+    refuse_lost_cells(merged, lost, files, lambda name: kind_of(name, namespaces, kinds))
     return origins, files, types_table(kinds, namespaces.values())
 
 

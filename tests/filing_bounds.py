@@ -145,7 +145,7 @@ def by_slashes(size: int) -> Files:
 
 def module_by_slashes() -> Files:
     """A module that extends itself by ever more slashes."""
-    module = {**json.loads(MODULE), "x": "y" * (1 << 20)}
+    module: Dict[str, Any] = {**json.loads(MODULE), "x": "y" * (1 << 20)}
     module["documentInfo"]["extends"] = [".//mod.json"]
     return {"reg/mod.json": json.dumps(module)}
 
@@ -338,7 +338,7 @@ def many_concepts() -> Files:
 
 def many_texts() -> Files:
     """A module with far more commas and brackets in its texts than JSON may have values."""
-    module = {**json.loads(MODULE), "x": 'a,{["\\' * 2_000_000}
+    module: Dict[str, Any] = {**json.loads(MODULE), "x": 'a,{["\\' * 2_000_000}
     return {**GOOD, "reg/mod.json": json.dumps(module)}
 
 
