@@ -22,7 +22,7 @@ from .kinds import REASONS, Kinds, kinds_of
 from .lost_cells import refuse_lost_cells
 from .metadata import check_parts, merge
 from .origins import Origins
-from .outputs import refuse_outputs
+from .outputs import claim_outputs, refuse_outputs
 from .packages import Package, open_package
 from .parameter_list import parameter_list
 from .parameters import check_parameters, check_references, require_parameters
@@ -139,6 +139,7 @@ def run_opened(
     for package in packages:
         open_packages.callback(package.close)
     refuse_outputs(settings, packages, None)
+    claim_outputs(settings, open_packages)
     place = None if settings.prepare is None else place_of(settings.prepare)
     if settings.parameters:
         return tell_parameters(report, packages, progress)

@@ -35,7 +35,7 @@ def refuse_lost_cells(merged: Merged, lost: Dict[str, str], files: Files, kind_o
         used = table.get("template", name)
         template = templates.get(used, {}) if isinstance(used, str) else {}
         url = table.get("url")
-        if url not in files.tables or not mentions(files, url, lost):
+        if not isinstance(url, str) or url not in files.tables or not mentions(files, url, lost):
             continue
         columns = columns_of_texts(template, merged.value, kind_of)
         for row, column, text in cells_of(files, url, columns):
