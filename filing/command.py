@@ -21,6 +21,7 @@ from .kept_module import Joined, ModuleCache
 from .kinds import REASONS, Kinds, kinds_of
 from .lost_cells import refuse_lost_cells
 from .metadata import check_parts, merge
+from .nested import open_taxonomy
 from .origins import Origins
 from .outputs import claim_outputs, refuse_outputs
 from .packages import Package, open_package
@@ -33,7 +34,14 @@ from .refusals import FILES, WRONG, Refusal, cannot_write, printable, wrong
 from .report import find_report, report_by_itself
 from .schemas import Reference, read_schemas
 from .refused_faults import record_refusal
-from .stopping import Stopped, Stopping, end_by_signal, run_program, temporary_folder
+from .stopping import (
+    Stopped,
+    Stopping,
+    end_by_signal,
+    run_program,
+    temporary_folder,
+    temporary_place,
+)
 from .types_table import types_table
 from .words import HELP, Settings, asked, read_words
 
@@ -230,13 +238,8 @@ def open_inputs(settings: Settings) -> Tuple[Found, List[Package]]:
 
     The packages are in the order in which their catalogs count.
     """
-    packages: List[Package] = []
     package = open_package(settings.report, settings.limit)
-    for label in settings.taxonomy:
-        taxonomy = open_package(label, settings.limit)
-        if taxonomy is None:
-            raise wrong(label, "is neither a ZIP nor a folder, so it is no taxonomy package")
-        packages.append(taxonomy)
+    packages = [it for label in settings.taxonomy for it in open_taxonomy(label, settings.limit)]
     if package is None:
         return report_by_itself(settings.report), packages
     return find_report(package), [package, *packages]
@@ -371,11 +374,6 @@ def place_of(prepare: str) -> Tuple[str, str]:
     if not os.path.isdir(parent):
         raise cannot_write(prepare, "there is no folder to put it in")
     return parent, name
-
-
-def temporary_place() -> str:
-    """Return the folder of temporary files. If TMPDIR is set, no other is tried."""
-    return os.path.abspath(os.environ.get("TMPDIR") or "/tmp")
 
 
 def umask() -> int:

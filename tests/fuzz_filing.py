@@ -349,6 +349,13 @@ def zip_of(chance: Chance, path: Path, files: Files) -> None:
         path.write_bytes(zip_changed(chance, path.read_bytes()))
 
 
+def wrap(chance: Chance, path: Path) -> None:
+    """Make a ZIP the only package in another ZIP, or one of several."""
+    text = path.read_bytes()
+    names = chance.choice((["a.zip"], ["a.zip", "b/c.ZIP"], [".a.zip"], ["a.zip", "x.txt"]))
+    zip_of(chance, path, {it: text for it in names})
+
+
 def zip_changed(chance: Chance, data: bytes) -> bytes:
     """Change a header of a ZIP, or any of its bytes."""
     marks = [b"PK\1\2", b"PK\3\4", b"PK\5\6"]
@@ -439,6 +446,8 @@ def make_case(chance: Chance, folder: Path) -> Case:
     for name, part in parts.items():
         if chance.random() < 0.6:
             zip_of(chance, folder / name, part)
+            if chance.random() < 0.1:
+                wrap(chance, folder / name)
         else:
             (folder / name).mkdir()
             folder_of(chance, folder / name, part)
