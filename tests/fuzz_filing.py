@@ -452,7 +452,8 @@ def make_case(chance: Chance, folder: Path) -> Case:
             (folder / name).mkdir()
             folder_of(chance, folder / name, part)
     words = ["r", "--taxonomy", "t"] if split else ["f"]
-    if chance.random() < 0.1 and not split and (folder / "f").is_dir():
+    alone = chance.random() < 0.1 and not split and (folder / "f").is_dir()
+    if alone and not any(it.is_fifo() for it in (folder / "f").rglob("*")):  # a pipe is waited for
         words = ["f/reports/report.json", "--taxonomy", "f"]
     if chance.random() < 0.05:
         (folder / "x").write_bytes(chance.choice((b"", b"PK\3\4", b"PK\5\6" + b"\0" * 18, b"{}")))
