@@ -18,6 +18,7 @@ from typing import Callable, Counter as Counted, Dict, Iterator, List, Optional
 from .batch_words import Batch, read_batch
 from .digests import contents_of_disk, digest_of, digests_of
 from .one_report import KEPT, Paths, Task, Told, begin, read_told
+from .nested import open_taxonomy
 from .outcomes import (
     BUSY,
     DONE,
@@ -36,10 +37,10 @@ from .outcomes import (
     write_outcome,
 )
 from .outputs import same_file, stands_in
-from .packages import FolderPackage, open_package
+from .packages import FolderPackage
 from .progress import Progress
-from .refusals import FILES, WORDS, Refusal, cannot_write, printable, wrong
-from .stopping import Stopped, Stopping, temporary_folder, woken_by_signals
+from .refusals import FILES, WORDS, Refusal, cannot_write, printable
+from .stopping import Stopped, Stopping, temporary_folder, temporary_place, woken_by_signals
 
 GRACE = 5.0  # seconds from the asking of a process to end until it is made to
 SHOWN_EVERY = 0.5  # seconds between two lines of progress
@@ -72,8 +73,7 @@ def run_batch(
     begun = time.monotonic()
     common = common_digest(batch, program)
     make_folder(batch)
-    place = os.path.abspath(os.environ.get("TMPDIR") or "/tmp")
-    with temporary_folder(place, "xbrl-filing-", stopping) as folder:
+    with temporary_folder(temporary_place(), "xbrl-filing-", stopping) as folder:
         crew = Crew(batch, common, folder, convert, progress, OutcomeFile(batch.outcomes))
         with woken_by_signals() as woken:
             try:
@@ -95,10 +95,9 @@ def common_digest(batch: Batch, program: str) -> str:
     """
     packages = []
     for label in batch.settings.taxonomy:
-        package = open_package(label, batch.settings.limit)
-        if package is None:
-            raise wrong(label, "is neither a ZIP nor a folder, so it is no taxonomy package")
-        packages.append([package.root, package.digest().hex()])
+        for package in open_taxonomy(label, batch.settings.limit):
+            packages.append([package.root, package.digest().hex()])
+            package.close()
     own = os.path.dirname(os.path.abspath(__file__))
     modules = sorted(it for it in os.listdir(own) if it.endswith(".py"))
     paths = [os.path.join(own, it) for it in modules]

@@ -5,7 +5,7 @@ from __future__ import annotations
 from bisect import bisect_right
 from typing import Dict, Iterator, List, Optional, Sequence, Tuple
 
-from .markup import LONGEST_URL, XML_BASE, Content, parse
+from .markup import LONGEST_URL, XML_BASE, Content, Elements, parse
 from .packages import Package
 from .refusals import wrong
 from .urls import Place, decoded, joined, normal
@@ -15,6 +15,7 @@ NAMESPACE = "urn:oasis:names:tc:entity:xmlns:xml:catalog "
 REWRITE, EXACT = NAMESPACE + "rewriteURI", NAMESPACE + "uri"
 STANDARD_HOSTS = ("www.xbrl.org", "xbrl.org", "www.w3.org")
 MOST_IN_OTHER_CAPITALS = 4  # entries that are looked at for a line, each in a whole package
+MOST_ELEMENTS = 100_000  # of the catalogs of a run; one entry serves a whole package
 MOST_ENTRIES = 100  # that are tried for one URL; packages of supervisors have one or two
 
 
@@ -58,6 +59,7 @@ class Catalogs:
     def __init__(self, packages: Sequence[Package]) -> None:
         self.exact: Dict[str, List[Tuple[Package, str]]] = {}
         self.rewrites: Dict[str, List[Tuple[Package, str]]] = {}
+        self.elements = Elements(MOST_ELEMENTS, MOST_ELEMENTS)
         for package in packages:
             self.take(package)
         self.starts = sorted(it for it in self.rewrites if len(it) <= LONGEST_URL)
@@ -68,7 +70,7 @@ class Catalogs:
         if not package.has(CATALOG):
             return
         entries = Entries(package.shown(CATALOG))
-        parse(package.pieces(CATALOG), entries)
+        parse(package.pieces(CATALOG), entries, self.elements)
         for url, path in entries.exact:
             self.exact.setdefault(normal(url), []).append((package, path))
         for start, prefix in entries.rewrites:

@@ -19,9 +19,11 @@ from .final import check_final
 from .finding import Finder, Found
 from .kept_module import Joined, ModuleCache
 from .kinds import REASONS, Kinds, kinds_of
+from .lost_cells import refuse_lost_cells
 from .metadata import check_parts, merge
+from .nested import open_taxonomy
 from .origins import Origins
-from .outputs import refuse_outputs
+from .outputs import claim_outputs, refuse_outputs
 from .packages import Package, open_package
 from .parameter_list import parameter_list
 from .parameters import check_parameters, check_references, require_parameters
@@ -32,7 +34,14 @@ from .refusals import FILES, WRONG, Refusal, cannot_write, printable, wrong
 from .report import find_report, report_by_itself
 from .schemas import Reference, read_schemas
 from .refused_faults import record_refusal
-from .stopping import Stopped, Stopping, end_by_signal, run_program, temporary_folder
+from .stopping import (
+    Stopped,
+    Stopping,
+    end_by_signal,
+    run_program,
+    temporary_folder,
+    temporary_place,
+)
 from .types_table import types_table
 from .words import HELP, Settings, asked, read_words
 
@@ -138,6 +147,7 @@ def run_opened(
     for package in packages:
         open_packages.callback(package.close)
     refuse_outputs(settings, packages, None)
+    claim_outputs(settings, open_packages)
     place = None if settings.prepare is None else place_of(settings.prepare)
     if settings.parameters:
         return tell_parameters(report, packages, progress)
@@ -228,13 +238,8 @@ def open_inputs(settings: Settings) -> Tuple[Found, List[Package]]:
 
     The packages are in the order in which their catalogs count.
     """
-    packages: List[Package] = []
     package = open_package(settings.report, settings.limit)
-    for label in settings.taxonomy:
-        taxonomy = open_package(label, settings.limit)
-        if taxonomy is None:
-            raise wrong(label, "is neither a ZIP nor a folder, so it is no taxonomy package")
-        packages.append(taxonomy)
+    packages = [it for label in settings.taxonomy for it in open_taxonomy(label, settings.limit)]
     if package is None:
         return report_by_itself(settings.report), packages
     return find_report(package), [package, *packages]
@@ -293,6 +298,7 @@ def join_anew(
     check_parameters(merged, renaming, files)
     check_references(merged, files)
     require_parameters(merged, files)
+    refuse_lost_cells(merged, lost, files, lambda name: kind_of(name, namespaces, kinds))
     return origins, files, types_table(kinds, namespaces.values())
 
 
@@ -368,11 +374,6 @@ def place_of(prepare: str) -> Tuple[str, str]:
     if not os.path.isdir(parent):
         raise cannot_write(prepare, "there is no folder to put it in")
     return parent, name
-
-
-def temporary_place() -> str:
-    """Return the folder of temporary files. If TMPDIR is set, no other is tried."""
-    return os.path.abspath(os.environ.get("TMPDIR") or "/tmp")
 
 
 def umask() -> int:

@@ -5,7 +5,7 @@ from __future__ import annotations
 from typing import Dict, Iterator, NamedTuple, Optional, Sequence, Set
 
 from .catalog import CATALOG, STANDARD_HOSTS, Catalogs, name_in_package
-from .markup import LONGEST_URL
+from .markup import LONGEST_URL, Elements
 from .packages import Beside, Package
 from .refusals import Refusal, wrong
 from .urls import Place
@@ -49,6 +49,7 @@ class Finder:
         self.catalogs = Catalogs(packages)
         self.urls: Dict[object, Set[Place]] = {}  # the URLs of each file
         self.asked = self.asked_text = self.passed_over = 0
+        self.elements = Elements()  # of the schemas and linkbases
         self.read: Set[object] = set()
         self.first = self.again = 0  # bytes that were read first, and again
 

@@ -24,6 +24,7 @@ from .digests import digest_of
 from .final import final_parts
 from .finding import Found
 from .kinds import REASONS, Kinds
+from .lost_cells import mention_lost
 from .metadata import Merged, Path, objects
 from .origins import Origins
 from .packages import Package
@@ -151,6 +152,8 @@ class ModuleCache:
                 check_parameters(merged, Renaming(module.lost, lambda _: False), files)
                 check_references(merged, files)
                 require_parameters(merged, files)
+                if mention_lost(files, module.lost):
+                    return None
                 used_templates = merged.value.get("tableTemplates", {})
                 if set(used_templates) & set(module.faulty):
                     return None

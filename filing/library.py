@@ -8,9 +8,9 @@ from typing import Dict, List, Optional, Sequence
 from .command import run
 from .finding import Finder
 from .kinds import kinds_of
-from .packages import Beside, Package, open_package
+from .nested import open_taxonomy
+from .packages import Beside, Package
 from .progress import Progress
-from .refusals import wrong
 from .schemas import Reference, read_schemas
 from .stopping import Stopping
 from .urls import Place
@@ -41,11 +41,9 @@ def kinds(packages: Sequence[str], entries: Sequence[str]) -> Dict[str, Dict[str
     with ExitStack() as opened:
         taxonomy: List[Package] = []
         for label in packages:
-            package = open_package(label, DEFAULT_LIMIT)
-            if package is None:
-                raise wrong(label, "is neither a ZIP nor a folder, so it is no taxonomy package")
-            opened.callback(package.close)
-            taxonomy.append(package)
+            for package in open_taxonomy(label, DEFAULT_LIMIT):
+                opened.callback(package.close)
+                taxonomy.append(package)
         finder = Finder(Beside("entry points"), taxonomy)
         asked = [Reference(Place(it), "entry points", "entry", "") for it in entries]
         found = kinds_of(read_schemas(asked, finder, silent()))

@@ -16,6 +16,10 @@ LONGEST_URL = 4096
 MOST_BASES = 100
 DEEPEST = 1000  # elements around one; schemas of supervisors have 20 at most
 LARGEST_TOKEN = 16 << 20  # of a tag, a comment or an instruction, which expat holds as a whole
+MOST_ELEMENTS = 10_000_000  # of the XML of a run; a module of 200 MB has 1.3 million
+FREE_ELEMENTS = 250_000  # of a run, which may be of any length
+A_REFERENCE = 10  # elements that take as long as a reference which is followed, or a base
+SHORTEST = 16  # bytes of each further element on average; those of modules have 130 to 150
 NO_MEMORY = expat.errors.codes[expat.errors.XML_ERROR_NO_MEMORY]
 # The encodings that are taken, by Python's names: what expat calls those that it reads itself, or
 # None. Others are refused: some take quadratic time (punycode), some do not encode text.
@@ -53,6 +57,28 @@ MARKS = (
 )
 
 
+class Elements:
+    """Counts the elements of the XML files of a run, and refuses too many.
+
+    Time goes by elements, so a file of very short ones takes as long as a far larger file.
+    """
+
+    def __init__(self, most: int = MOST_ELEMENTS, free: int = FREE_ELEMENTS) -> None:
+        self.most, self.free = most, free
+        self.count = self.size = 0
+
+    def add(self, more: int, size: int, label: str) -> None:
+        """Add the elements in `size` bytes of a file."""
+        self.count += more
+        self.size += size
+        before = "with the XML read before it: check where the package is from"
+        if self.count > self.most:
+            raise wrong(label, f"has more than {self.most} elements, {before}")
+        if self.count > self.free + self.size // SHORTEST:
+            why = f"has more than {self.free} elements of fewer than {SHORTEST} bytes"
+            raise wrong(label, f"{why}, {before}")
+
+
 class Content:
     """The content of a file: `start` and `end` are called for its elements.
 
@@ -61,7 +87,7 @@ class Content:
 
     def __init__(self, place: Place, label: str) -> None:
         self.label = label
-        self.depth = 0
+        self.depth = self.started = 0
         self.bases: List[Tuple[int, Place]] = [(0, place)]
         self.scope: Dict[str, List[str]] = {"xml": ["http://www.w3.org/XML/1998/namespace"]}
         self.declarations = 0  # how often the prefixes in scope have changed
@@ -78,6 +104,10 @@ class Content:
     def drop(self) -> None:
         """Forget the parser: the two refer to each other, so neither would be freed at once."""
         self.parser = None
+
+    def elements(self) -> int:
+        """Return how many elements have come. A prefix that one declares counts as another."""
+        return self.started + self.declarations // 2
 
     def start(self, name: str, attributes: Dict[str, str]) -> None:
         raise NotImplementedError
@@ -102,6 +132,7 @@ class Content:
 
         Each is joined to the one around it, so their length and their number have bounds.
         """
+        self.started += A_REFERENCE
         base = joined(self.base(), reference.strip())
         if len(base.text) > LONGEST_URL:
             raise wrong(self.label, f"has an 'xml:base' of {len(base.text)} characters; more than {LONGEST_URL} are not taken (line {self.line()})")
@@ -111,6 +142,7 @@ class Content:
 
     def enter(self) -> None:
         """Enter an element, unless too many are around it."""
+        self.started += 1
         self.depth += 1
         if self.depth > DEEPEST:
             raise self.too_deep()
@@ -145,11 +177,11 @@ class Content:
         return self.parser.CurrentLineNumber if self.parser else 0
 
 
-def parse(pieces: Iterable[bytes], content: Content) -> None:
-    """Read a file to its end.
+def parse(pieces: Iterable[bytes], content: Content, elements: Elements) -> None:
+    """Read a file to its end, and add its elements to those of the run.
 
-    Refuse one that is not well-formed, that is in an encoding that is not taken, or that has a
-    document type, and so any that has an entity of its own.
+    Refuse one that is not well-formed, that is in an encoding that is not taken, that has too many
+    elements, or that has a document type, and so any that has an entity of its own.
     """
     pieces = iter(pieces)
     first = start_of(pieces)
@@ -158,10 +190,12 @@ def parse(pieces: Iterable[bytes], content: Content) -> None:
     parser.StartDoctypeDeclHandler = lambda *_: refuse(content, "has a document type")
     content.take(parser)
     try:
-        fed = 0
+        fed = counted = 0
         for piece in chained(first, pieces) if native else recoded(first, pieces, encoding):
             parser.Parse(piece)
             fed += len(piece)
+            elements.add(content.elements() - counted, len(piece), content.label)
+            counted = content.elements()
             if fed - parser.CurrentByteIndex > LARGEST_TOKEN:
                 refuse(content, f"has a tag or a comment of more than {LARGEST_TOKEN} bytes")
         parser.Parse(b"", True)

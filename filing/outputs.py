@@ -1,14 +1,18 @@
-"""Refuses outputs that are inputs, by any of their names, before anything is written.
+"""Refuses outputs that are inputs, and those that another run writes, before anything is written.
 
 `--out` is emptied in place, so links count.
 """
 
 from __future__ import annotations
 
+import errno
 import os
+import socket
 import stat
+from contextlib import ExitStack
 from typing import Iterator, List, Optional
 
+from .digests import digest_of
 from .packages import FolderPackage, Package
 from .prepared import Files
 from .refusals import cannot_write
@@ -34,6 +38,40 @@ def refuse_outputs(settings: Settings, packages: List[Package], files: Optional[
     if settings.prepare is not None and settings.cache is not None:
         if stands_in(os.path.realpath(settings.cache), os.path.realpath(settings.prepare)):
             raise cannot_write(settings.cache, "the cache stands inside of the folder to prepare")
+
+
+def claim_outputs(settings: Settings, opened: ExitStack) -> None:
+    """Claim the files that xbrl-json is to write until `opened` is closed.
+
+    Refuse one that another run on this machine has claimed: both would write into it.
+    """
+    keys = {key: output for output in settings.outputs() for key in keys_of(output)}
+    for key, output in keys.items():
+        claim = socket.socket(socket.AF_UNIX)
+        opened.callback(claim.close)
+        try:
+            claim.bind(b"\0xbrl-filing/" + digest_of(key).hex().encode())
+        except OSError as error:
+            if error.errno == errno.EADDRINUSE:
+                raise cannot_write(output, "another run writes it") from None
+            continue  # a system without names for sockets that are no files
+        claim.set_inheritable(True)  # xbrl-json holds it if this program ends by force
+
+
+def keys_of(output: str) -> Iterator[bytes]:
+    """Yield what a file that may be written is known by: its path, and the file that is there.
+
+    Yield nothing for a pipe or a device, which several runs may write.
+    """
+    path = os.path.realpath(output)
+    try:
+        known = os.stat(path)
+    except OSError:
+        yield os.fsencode(path)
+        return
+    if stat.S_ISREG(known.st_mode):
+        yield os.fsencode(path)
+        yield f"{known.st_dev}/{known.st_ino}".encode()
 
 
 def input_files(settings: Settings, files: Optional[Files]) -> Iterator[str]:

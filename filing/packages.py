@@ -15,7 +15,7 @@ import zipfile
 import zlib
 from abc import ABC, abstractmethod
 from contextlib import contextmanager
-from typing import Dict, Iterable, Iterator, List, Optional, Tuple
+from typing import IO, Dict, Iterable, Iterator, List, Optional, Tuple
 
 from .digests import Contents, contents_of_disk, digest_of, digests_of
 from .refusals import cannot_read, wrong
@@ -109,17 +109,18 @@ class Package(ABC):
 class ZipPackage(Package):
     """A package that is a ZIP file."""
 
-    def __init__(self, label: str, limit: int) -> None:
-        """Open a ZIP and check its entries.
+    def __init__(self, label: str, limit: int, file: Optional[IO[bytes]] = None) -> None:
+        """Open a ZIP, or take one that is open, and check its entries.
 
         Refuse one that unpacks to more bytes than the limit.
         """
         super().__init__(label)
         with damage_told(label):
-            self.file = open(label, "rb")
+            self.file: IO[bytes] = open(label, "rb") if file is None else file
             self.archive = zipfile.ZipFile(self.file)
-            size = os.fstat(self.file.fileno()).st_size
-            self.files = checked_entries(self.archive, size, label, limit)
+            self.size = os.fstat(self.file.fileno()).st_size
+            self.files = checked_entries(self.archive, self.size, label, limit)
+        self.unpacked = sum(it.file_size for it in self.archive.infolist())
         self.listing = Listing(self.files)
         self.find_root()
 
@@ -132,9 +133,12 @@ class ZipPackage(Package):
 
     def pieces(self, name: str) -> Iterator[bytes]:
         """Yield the unpacked bytes of an entry, piece by piece. Refuse damage in one line."""
-        entry = self.files[self.root + name]
+        return self.pieces_of(self.files[self.root + name], self.shown(name))
+
+    def pieces_of(self, entry: zipfile.ZipInfo, label: str) -> Iterator[bytes]:
+        """Yield the same of any entry, which lines call `label`."""
         read = 0
-        with damage_told(self.shown(name)):
+        with damage_told(label):
             with self.archive.open(entry) as file:
                 for piece in iter(lambda: file.read(PIECE), b""):
                     read += len(piece)
@@ -305,7 +309,12 @@ def open_package(label: str, limit: int) -> Optional[Package]:
             start = file.read(4)
     except OSError as error:
         raise cannot_read(label, error) from None
-    return ZipPackage(label, limit) if start in (b"PK\3\4", b"PK\5\6", b"PK\7\10") else None
+    return ZipPackage(label, limit) if is_zip(start) else None
+
+
+def is_zip(start: bytes) -> bool:
+    """Return whether a file that begins so is a ZIP."""
+    return start.startswith((b"PK\3\4", b"PK\5\6", b"PK\7\10"))
 
 
 @contextmanager

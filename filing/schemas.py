@@ -11,7 +11,7 @@ from typing import Deque, Dict, List, NamedTuple, Optional, Set, Tuple
 from xml.parsers import expat
 
 from .finding import Finder, Found
-from .markup import DEEPEST, XML_BASE, Content, Name, parse
+from .markup import A_REFERENCE, DEEPEST, XML_BASE, Content, Name, parse
 from .progress import Progress
 from .refusals import wrong
 from .urls import Place, joined
@@ -106,6 +106,9 @@ class TaxonomyFile(Content):
     def end(self, name: str) -> None:
         """Do nothing: the root's end goes to the content that it made."""
 
+    def elements(self) -> int:
+        return self.made.elements() if self.made else super().elements()
+
     def drop(self) -> None:
         super().drop()
         if self.made:
@@ -139,6 +142,7 @@ class Referring(Content):
         if key in self.asked:
             return
         self.asked.add(key)
+        self.started += A_REFERENCE
         how = f"{name.rpartition(' ')[2]}, line {self.line()}"
         place = joined(self.base(), reference.strip())
         self.reading.ask(Reference(place, self.label, how, self.adopts if includes else ""))
@@ -154,6 +158,9 @@ class LinkbaseFile(Referring):
     def __init__(self, file: TaxonomyFile, reading: Reading) -> None:
         super().__init__(file, reading)
         self.ended: List[str] = []
+
+    def elements(self) -> int:
+        return super().elements() + len(self.ended)
 
     def take(self, parser: expat.XMLParserType) -> None:
         super().take(parser)
@@ -174,6 +181,7 @@ class LinkbaseFile(Referring):
     def count_ended(self) -> None:
         """Take the elements that have ended off the depth, and refuse one that is too deep."""
         self.depth -= len(self.ended)
+        self.started += len(self.ended)
         self.ended.clear()
         if self.depth > DEEPEST:
             raise self.too_deep()
@@ -209,6 +217,7 @@ class SchemaFile(Referring):
         self.made: Dict[object, Element] = {}
 
     def start(self, name: str, attributes: Dict[str, str]) -> None:
+        self.started += 1
         depth = self.depth = self.depth + 1
         if depth > DEEPEST:
             raise self.too_deep()
@@ -329,7 +338,7 @@ class Reading:
         if found is None:
             return
         content = TaxonomyFile(found, adopts, self)
-        parse(progress.counted(self.finder.pieces(found)), content)
+        parse(progress.counted(self.finder.pieces(found)), content, self.finder.elements)
         if content.has_namespace():
             self.with_namespace.add(place.known())
 

@@ -81,6 +81,11 @@ class Stopping:
                 self.folders.pop()
 
 
+def temporary_place() -> str:
+    """Return the folder of temporary files. If TMPDIR is set, no other is tried."""
+    return os.path.abspath(os.environ.get("TMPDIR") or "/tmp")
+
+
 @contextmanager
 def temporary_folder(parent: str, name: str, stopping: Stopping) -> Iterator[str]:
     """Make a new folder, and remove it at every end."""

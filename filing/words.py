@@ -24,8 +24,8 @@ at the two plain files, which anyone can read.
 
 REPORT                  a report package (a ZIP or an unpacked folder), or a
                         metadata file
---taxonomy PACKAGE..    the taxonomy packages (ZIPs or folders), up to the next
-                        option
+--taxonomy PACKAGE..    the taxonomy packages (ZIPs, folders, or a ZIP of ZIPs),
+                        up to the next option
 --prepare FOLDER        only make FOLDER, which is new or empty: meta.json,
                         types.csv, and the report's tables and parameters
 --parameters            only print each parameter as CSV: its value, and where

@@ -37,12 +37,17 @@ def checked_entries(
         unpacked += entry.file_size
         if not entry.is_dir():
             files[name] = entry
+    check_unpacked(unpacked, size, label, limit)
+    refuse_files_that_are_folders(files, seen, label)
+    return files
+
+
+def check_unpacked(unpacked: int, size: int, label: str, limit: int) -> None:
+    """Refuse a ZIP of `size` bytes that unpacks to more than the limit or than its size allows."""
     if unpacked > limit:
         raise wrong(label, f"unpacks to {unpacked} bytes, more than {limit} (--unpacked-limit allows more)")
     if unpacked > SMALL_PACKAGE and unpacked > RATIO * size:
         raise wrong(label, f"unpacks to {unpacked} bytes from {size}")
-    refuse_files_that_are_folders(files, seen, label)
-    return files
 
 
 def refuse(label: str, name: str, fault: Optional[str]) -> None:

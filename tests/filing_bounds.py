@@ -145,7 +145,7 @@ def by_slashes(size: int) -> Files:
 
 def module_by_slashes() -> Files:
     """A module that extends itself by ever more slashes."""
-    module = {**json.loads(MODULE), "x": "y" * (1 << 20)}
+    module: Dict[str, Any] = {**json.loads(MODULE), "x": "y" * (1 << 20)}
     module["documentInfo"]["extends"] = [".//mod.json"]
     return {"reg/mod.json": json.dumps(module)}
 
@@ -164,7 +164,7 @@ def in_punycode() -> Files:
 
 def deep(size: int, start: str = "", name: str = "reg/mod.xsd") -> Files:
     """Elements inside of each other, without an end."""
-    front = start or schema("").replace("</xs:schema>", "")
+    front = start or SCHEMA_START
     return {name: repeated(b"<a>", size, front.encode(), noise=(b"<!--", b"-->"))}
 
 
@@ -175,6 +175,16 @@ def many_linkbases() -> Files:
         start, end = f"{LINKBASE}>".encode(), b"</link:linkbase>"
         files[f"reg/l{number}.xml"] = repeated(b"<a/>", 15 << 20, start, end)
     return files
+
+
+def many_elements(text: bytes, start: str, name: str = "reg/mod.xsd") -> Files:
+    """A file of 40 MB of very short elements, in a small ZIP."""
+    return {name: repeated(text, 40 << 20, start.encode(), noise=(b"<!--", b"-->"))}
+
+
+def one_file_by_many_paths() -> Files:
+    """A linkbase that refers to itself by ever other paths."""
+    return {"reg/mod.xsd": linked(loc(f"{it}/../mod.xsd") for it in range(300_000))}
 
 
 def linked(locs: Iterable[str], more: str = "") -> str:
@@ -199,7 +209,7 @@ def many_urls() -> Files:
 
 def many_missing() -> Files:
     """A linkbase that refers to many files of the standards, which no package has."""
-    return {"reg/mod.xsd": linked(loc(f"http://www.xbrl.org/{it}.xsd") for it in range(50_000))}
+    return {"reg/mod.xsd": linked(loc(f"http://www.xbrl.org/{it}.xsd") for it in range(20_000))}
 
 
 def many_starts() -> Files:
@@ -242,6 +252,8 @@ AGAIN = "is read again and again, by other URLs or for other namespaces"
 DEEP = "is nested more than 1000 levels deep (line 1)"
 VALUES = "has more than 5000000 values, with the JSON read before it"
 BROKEN_OFF = catalog("").replace("</catalog>", "")
+SCHEMA_START = schema("").replace("</xs:schema>", "")
+SHORT = "has more than 250000 elements of fewer than 16 bytes, with the XML read before it: "
 ATTACKS = (
     Attack("a module that extends itself", module_by_slashes, MODULE_IS + "extends itself"),
     Attack("a schema of 4 MB by slashes", lambda: by_slashes(4 << 20), SCHEMA_IS + AGAIN),
@@ -270,6 +282,28 @@ ATTACKS = (
         SCHEMA_IS + "is in an encoding that is not taken: punycode",
     ),
     Attack("24 linkbases of 16 MB of <a/>", many_linkbases, "f.zip: unpacks to 3"),
+    Attack(
+        "a catalog of <a/>",
+        lambda: many_elements(b"<a/>", BROKEN_OFF, "META-INF/catalog.xml"),
+        "f.zip/META-INF/catalog.xml: has more than 100000 elements, with the XML read before it: ",
+    ),
+    Attack("a schema of <a/>", lambda: many_elements(b"<a/>", SCHEMA_START), SCHEMA_IS + SHORT),
+    Attack(
+        "a linkbase of <a/>",
+        lambda: many_elements(b"<a/>", LINKBASE + ">"),
+        SCHEMA_IS + SHORT,
+    ),
+    Attack(
+        "a schema of prefixes",
+        lambda: many_elements(b'<a xmlns:b="c" xmlns:d="e"/>', SCHEMA_START),
+        SCHEMA_IS + SHORT,
+    ),
+    Attack(
+        "a schema of bases",
+        lambda: many_elements(b'<a xml:base="b/"/>', SCHEMA_START),
+        SCHEMA_IS + SHORT,
+    ),
+    Attack("one file by many paths", one_file_by_many_paths, SCHEMA_IS + SHORT),
     Attack("a schema for 400 namespaces", many_namespaces, "f.zip/reg/plain.xsd: " + AGAIN),
     Attack("many long URLs", many_urls, SCHEMA_IS + "asks for more files than are taken"),
     Attack("many missing files", many_missing, SCHEMA_IS + "asks for more than 1000 files"),
@@ -304,7 +338,7 @@ def many_concepts() -> Files:
 
 def many_texts() -> Files:
     """A module with far more commas and brackets in its texts than JSON may have values."""
-    module = {**json.loads(MODULE), "x": 'a,{["\\' * 2_000_000}
+    module: Dict[str, Any] = {**json.loads(MODULE), "x": 'a,{["\\' * 2_000_000}
     return {**GOOD, "reg/mod.json": json.dumps(module)}
 
 

@@ -1,17 +1,19 @@
 #!/usr/bin/env python3
 """Feeds xbrl-filing broken and hostile filings, made by chance from good ones.
 
-    tests/fuzz_filing.py PROGRAM [--seconds N] [--seed S] [--jobs J]
+    tests/fuzz_filing.py PROGRAM [--cases N] [--seconds N] [--seed S] [--jobs J]
     tests/fuzz_filing.py PROGRAM --seed S --case K [--keep FOLDER]
 
 PROGRAM is the built xbrl-json. Case K of a seed is the same on every machine with one version of
 Python. A failed case prints the command that shows it again; `--keep` leaves its files in a new
-folder. Without `--seconds` it takes a minute.
+folder. Without `--seconds` and `--cases` it judges 1,000 cases, about two minutes.
 
 Each case is a package or a folder of which ZIP, JSON, XML, CSV, names, links or pipes are changed.
 It must end with status 0, 1 or 3 and without a traceback, within 20 seconds of processor time and
-800 MB of memory. A refusal is one line. Nothing is written but what was asked for, no input is
-changed, and no temporary file is left. The last line counts. Linux is needed.
+800 MB of memory. Only seconds of the processor count, because a loaded machine makes a run wait;
+the slowest cases take 2 to 4 of them, so a machine of a fifth of the speed is enough. A refusal is
+one line. Nothing is written but what was asked for, no input is changed, and no temporary file is
+left. The line before the last names the slowest cases, and the last one counts. Linux is needed.
 """
 from __future__ import annotations
 
@@ -29,7 +31,7 @@ import zipfile
 from copy import deepcopy
 from pathlib import Path
 from random import Random
-from typing import Any, Callable, Dict, Iterator, List, NamedTuple, NoReturn, Optional, Tuple
+from typing import Any, Callable, Dict, Iterable, Iterator, List, NamedTuple, NoReturn, Optional, Tuple
 
 TOP = Path(__file__).resolve().parent.parent
 sys.path[:0] = [str(TOP), str(TOP / "tests")]
@@ -37,7 +39,10 @@ sys.path[:0] = [str(TOP), str(TOP / "tests")]
 from filing import command  # noqa: E402
 from filing_bounds import GOOD, HOST, LINKBASE, asks, catalog, loc, meta, rewrite, schema  # noqa: E402
 
-MOST_SECONDS = 20
+MOST_SECONDS = 20  # of the processor
+MOST_WAIT = 900  # seconds of the clock, after which a run hangs
+CASES, LONGEST_RUN = 1000, 3000  # without words for it: cases, and seconds for all of them
+SLOWEST = 3
 MOST_MEMORY = 800 << 20
 SECRET, MARK = "outside.csv", "4242424242"  # a file beside the package, which no run may read
 Files = Dict[str, bytes]
@@ -344,6 +349,13 @@ def zip_of(chance: Chance, path: Path, files: Files) -> None:
         path.write_bytes(zip_changed(chance, path.read_bytes()))
 
 
+def wrap(chance: Chance, path: Path) -> None:
+    """Make a ZIP the only package in another ZIP, or one of several."""
+    text = path.read_bytes()
+    names = chance.choice((["a.zip"], ["a.zip", "b/c.ZIP"], [".a.zip"], ["a.zip", "x.txt"]))
+    zip_of(chance, path, {it: text for it in names})
+
+
 def zip_changed(chance: Chance, data: bytes) -> bytes:
     """Change a header of a ZIP, or any of its bytes."""
     marks = [b"PK\1\2", b"PK\3\4", b"PK\5\6"]
@@ -434,11 +446,14 @@ def make_case(chance: Chance, folder: Path) -> Case:
     for name, part in parts.items():
         if chance.random() < 0.6:
             zip_of(chance, folder / name, part)
+            if chance.random() < 0.1:
+                wrap(chance, folder / name)
         else:
             (folder / name).mkdir()
             folder_of(chance, folder / name, part)
     words = ["r", "--taxonomy", "t"] if split else ["f"]
-    if chance.random() < 0.1 and not split and (folder / "f").is_dir():
+    alone = chance.random() < 0.1 and not split and (folder / "f").is_dir()
+    if alone and not any(it.is_fifo() for it in (folder / "f").rglob("*")):  # a pipe is waited for
         words = ["f/reports/report.json", "--taxonomy", "f"]
     if chance.random() < 0.05:
         (folder / "x").write_bytes(chance.choice((b"", b"PK\3\4", b"PK\5\6" + b"\0" * 18, b"{}")))
@@ -479,7 +494,7 @@ def run_case(case: Case, folder: Path, temporary: Path) -> Run:
         if child == 0:
             run_child(case, folder, temporary, said.fileno())
         signal.signal(signal.SIGALRM, lambda *_: os.killpg(child, signal.SIGKILL))
-        signal.alarm(3 * MOST_SECONDS)
+        signal.alarm(MOST_WAIT)
         _, status, used = os.wait4(child, 0)
         signal.alarm(0)
         said.seek(0)
@@ -538,8 +553,8 @@ def faults_of(case: Case, run: Run, before: Dict[str, Tuple[int, bytes]], folder
     return faults
 
 
-def judge(seed: int, number: int, keep: Optional[Path] = None) -> List[str]:
-    """Make a case, run it, and return what is wrong with its end."""
+def judge(seed: int, number: int, keep: Optional[Path] = None) -> Tuple[List[str], float]:
+    """Make a case, run it, and return what is wrong with its end, and its seconds."""
     chance = Random(f"{seed}/{number}")
     with tempfile.TemporaryDirectory(prefix="fuzz-") as made, tempfile.TemporaryDirectory() as other:
         folder, temporary = Path(made).resolve(), Path(other).resolve()
@@ -551,7 +566,7 @@ def judge(seed: int, number: int, keep: Optional[Path] = None) -> List[str]:
         run = run_case(case, folder, temporary)
         if keep is not None:
             print(f"status {run.status}, {run.seconds:.2f} s, {run.memory >> 20} MB\n{run.said}", end="")
-        return faults_of(case, run, before, folder, temporary)
+        return faults_of(case, run, before, folder, temporary), run.seconds
 
 
 def pipes(folder: str, names: List[str]) -> List[str]:
@@ -560,39 +575,47 @@ def pipes(folder: str, names: List[str]) -> List[str]:
     return [it for it, path in paths if not (os.path.isfile(path) or os.path.isdir(path) or os.path.islink(path))]
 
 
-def work(seed: int, first: int, step: int, seconds: float, told: int) -> None:
-    """Judge every `step`-th case from the first until the time ends, and print each fault."""
-    end, number = time.monotonic() + seconds, first
-    while time.monotonic() < end:
+def work(seed: int, numbers: Iterable[int], end: float, told: int) -> None:
+    """Judge cases until the time ends, and write a line on each."""
+    for number in numbers:
+        if time.monotonic() > end:
+            return
+        seconds = 0.0
         try:
-            faults = judge(seed, number)
+            faults, seconds = judge(seed, number)
         except Exception as error:
             faults = [f"the fuzzer itself: {type(error).__name__}: {error}"]
-        os.write(told, f"{number}\t{'; '.join(faults)}\n".encode(errors="replace"))
-        number += step
+        line = f"{number}\t{seconds}\t{'; '.join(faults)}\n"
+        os.write(told, line.encode(errors="replace"))
 
 
-def work_all(seed: int, seconds: float, jobs: int) -> Tuple[int, int]:
+def work_all(seed: int, cases: int, seconds: float, jobs: int) -> Tuple[int, int]:
     """Judge cases in several processes, print each failed one, and return how many were good."""
     reader, writer = os.pipe()
+    end = time.monotonic() + seconds
     for first in range(jobs):
         if os.fork() == 0:
             os.close(reader)
             try:
-                work(seed, first, jobs, seconds, writer)
+                work(seed, range(first, cases, jobs), end, writer)
             finally:
                 os._exit(0)
     os.close(writer)
     good = bad = 0
+    slowest: List[Tuple[float, str]] = []
     with open(reader, encoding="utf-8", errors="replace") as lines:
         for line in lines:
-            number, _, faults = line.rstrip("\n").partition("\t")
+            number, used, faults = line.rstrip("\n").split("\t", 2)
+            slowest = sorted([*slowest, (float(used), number)])[-SLOWEST:]
             good, bad = good + (not faults), bad + bool(faults)
             if faults:
                 again = f"tests/fuzz_filing.py {PROGRAM} --seed {seed} --case {number} --keep FOLDER"
                 print(f"FAILED case {number}: {faults}\n  {again}", flush=True)
     for _ in range(jobs):
         os.wait()
+    print("slowest:", ", ".join(f"case {it} {used:.1f} s" for used, it in reversed(slowest)))
+    if good + bad < cases and seconds == LONGEST_RUN:
+        print(f"the time ended after {good + bad} of {cases} cases")
     return good, bad
 
 
@@ -600,7 +623,8 @@ def main() -> None:
     """Read the command line, and judge one case or as many as the time allows."""
     parser = argparse.ArgumentParser(description=__doc__, formatter_class=argparse.RawTextHelpFormatter)
     parser.add_argument("program")
-    parser.add_argument("--seconds", type=float, default=60)
+    parser.add_argument("--cases", type=int)
+    parser.add_argument("--seconds", type=float)
     parser.add_argument("--seed", type=int, default=1)
     parser.add_argument("--jobs", type=int, default=min(4, len(os.sched_getaffinity(0))))
     parser.add_argument("--case", type=int)
@@ -609,10 +633,11 @@ def main() -> None:
     global PROGRAM
     PROGRAM = os.path.abspath(given.program)
     if given.case is not None:
-        faults = judge(given.seed, given.case, given.keep)
+        faults, _ = judge(given.seed, given.case, given.keep)
         print("; ".join(faults) or "as it must be")
         sys.exit(bool(faults))
-    good, bad = work_all(given.seed, given.seconds, given.jobs)
+    cases = given.cases or (CASES if given.seconds is None else sys.maxsize)
+    good, bad = work_all(given.seed, cases, given.seconds or LONGEST_RUN, given.jobs)
     print(f"over filings by chance, seed {given.seed}: {good} as they must be, {bad} not")
     sys.exit(1 if bad else 0)
 

@@ -1,0 +1,87 @@
+"""Taxonomy packages, which may be in one ZIP: supervisors publish several together."""
+
+from __future__ import annotations
+
+from contextlib import ExitStack
+from typing import IO, Iterator, List, Tuple
+
+from .catalog import CATALOG
+from .packages import Package, ZipPackage, is_zip, open_package
+from .refusals import cannot_write, wrong
+from .report import TAXONOMY_FILE
+from .stopping import temporary_place
+from .zip_entries import check_unpacked
+
+MOST_INSIDE = 200  # packages of one ZIP; each holds a file open
+
+
+def open_taxonomy(label: str, limit: int) -> List[Package]:
+    """Return the package at a path, or the packages of a ZIP that holds some and is none itself.
+
+    Refuse what is neither a ZIP nor a folder.
+    """
+    package = open_package(label, limit)
+    if package is None:
+        raise wrong(label, "is neither a ZIP nor a folder, so it is no taxonomy package")
+    if not isinstance(package, ZipPackage) or package.has(CATALOG) or package.has(TAXONOMY_FILE):
+        return [package]
+    with ExitStack() as at_end:
+        at_end.callback(package.close)
+        with ExitStack() as opened:
+            inside = packages_inside(package, limit, opened)
+            if any(it.has(CATALOG) for it in inside):
+                opened.pop_all()
+                return inside
+        at_end.pop_all()
+    return [package]
+
+
+def packages_inside(package: ZipPackage, limit: int, opened: ExitStack) -> List[Package]:
+    """Return the packages in a ZIP, which `opened` closes. Those inside of them are not looked for.
+
+    All together may unpack to as much as the ZIP itself.
+    """
+    found: List[Package] = []
+    unpacked = package.unpacked
+    for name, file in zips_inside(package):
+        opened.callback(file.close)
+        if len(found) == MOST_INSIDE:
+            raise wrong(package.label, f"holds more than {MOST_INSIDE} packages: give only some")
+        inner = ZipPackage(f"{package.label}/{name}", limit, file)
+        opened.callback(inner.close)
+        unpacked += inner.unpacked
+        check_unpacked(unpacked, package.size, package.label, limit)
+        found.append(inner)
+    return found
+
+
+def zips_inside(package: ZipPackage) -> Iterator[Tuple[str, IO[bytes]]]:
+    """Yield the names and the bytes of the ZIPs in a ZIP, in order."""
+    for name in sorted(package.files):
+        is_left = any(it.startswith((".", "~$")) or it == "__MACOSX" for it in name.split("/"))
+        if not is_left and name.lower().endswith(".zip"):
+            pieces = package.pieces_of(package.files[name], f"{package.label}/{name}")
+            first = next(pieces, b"")
+            if is_zip(first):
+                yield name, unpacked_file(first, pieces)
+
+
+def unpacked_file(first: bytes, pieces: Iterator[bytes]) -> IO[bytes]:
+    """Return a file without a name that holds some bytes. It is gone with the run.
+
+    Refuse a folder of temporary files that cannot be written.
+    """
+    import tempfile  # takes long, and is seldom needed
+
+    place = temporary_place()
+    with ExitStack() as opened:
+        try:
+            file = opened.enter_context(tempfile.TemporaryFile(dir=place))
+            file.write(first)
+            for piece in pieces:
+                file.write(piece)
+            file.flush()
+        except OSError as error:
+            raise cannot_write(place, error) from None
+        opened.pop_all()
+    return file
