@@ -45,7 +45,7 @@ def write_index(path: Optional[str], listed: Sequence[Listed]) -> None:
 
 def index(listed: Sequence[Listed], folder: str) -> str:
     """Return an index that will be in a folder."""
-    ordered = sorted(listed, key=lambda it: place_in_order(it.outcome.outcome))
+    ordered = sorted(listed, key=lambda it: (place_in_order(it), it.outcome.report))
     words = [it.outcome.outcome for it in ordered]
     counts = {it: words.count(it) for it in dict.fromkeys(words)}
     others = len(words) - counts.get(DONE, 0)
@@ -67,8 +67,9 @@ def index(listed: Sequence[Listed], folder: str) -> str:
     )
 
 
-def place_in_order(word: str) -> int:
-    """Return the place of an outcome in the list."""
+def place_in_order(it: Listed) -> int:
+    """Return the place of a report's outcome in the list."""
+    word = it.outcome.outcome
     return ORDER.index(word) if word in ORDER else len(ORDER)
 
 

@@ -15,6 +15,7 @@ from .page_style import MARK, POLICY, SCRIPT, STYLE
 from .page_text import markup, plain
 from .refused_faults import NAME as REFUSED_BY
 
+WHOLE_FILE = "(the whole file)"  # what `--explain` has for a place without a text
 NAME, CELL, LINE = 200, 400, 600  # characters of a name, a cell, a line that are shown
 COLOURS = {
     **dict.fromkeys(("refused", "failed"), " bad-word"),
@@ -84,7 +85,7 @@ def faults_part(content: Content, numbers: Dict[str, int]) -> Iterator[str]:
         yield f"<p>{first}</p>\n"
     if any(it.fault.row and not it.near for it in content.items):
         shown = sum(1 for it in content.items if it.near)
-        yield f"<p>{counted(shown, 'fault')} of them {'is' if shown == 1 else 'are'} shown with rows.</p>\n"
+        yield f"<p>Rows are shown for {counted(shown, 'fault')}.</p>\n"
     if len(content.items) > 1:
         yield filters(content.items, numbers)
     for at, item in enumerate(content.items, 1):
@@ -158,7 +159,7 @@ def found(item: Item) -> str:
     if fault.name == REFUSED_BY or is_shown:
         return ""
     text = f"<code>{markup(fault.cell, CELL)}</code>" if fault.cell else ""
-    if not text and len(item.said) > 1:
+    if not text and len(item.said) > 1 and item.said[1] != WHOLE_FILE:
         text = markup(item.said[1], LINE)
     return f"<p>Found: {text}{length_of(fault.cell)}</p>\n" if text else ""
 
@@ -221,7 +222,7 @@ def row(it: Row, columns: List[int], fault: Fault) -> str:
     is_bad = it.number == fault.row
     cells = "".join(cell(a, is_bad and fault.column == b) for a, b in zip(it.cells, columns))
     start = '<tr class="bad">' if is_bad and not fault.column else "<tr>"
-    return f'{start}<th scope="row">{it.line}</th><td>{it.number}</td>{cells}</tr>\n'
+    return f'{start}<th scope="row">{number_or_not(it.line)}</th><td>{it.number:,}</td>{cells}</tr>\n'
 
 
 def cell(text: Optional[str], is_bad: bool) -> str:

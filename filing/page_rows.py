@@ -17,6 +17,7 @@ WIDEST = 12  # columns that are shown; of a wider table, the first and those rou
 MORE = 8  # columns past the header that are shown of a row with more cells than it has
 LONGEST = 60  # characters of a cell
 MOST_COLUMNS = 4096  # as many as a template may have
+FAR = 1 << 20  # bytes between two rows, past which lines are not counted
 COUNTED = 100_000  # rows after the last fault of a table, which are gone through to count them
 
 Span = Tuple[int, int]  # where a record begins and ends
@@ -24,10 +25,10 @@ Cells = List[Optional[str]]  # None past the end of a record
 
 
 class Row(NamedTuple):
-    """A row as a page shows it, with the line at which it begins. Row 0 is the header."""
+    """A row as a page shows it, with the line at which it begins, if that is known."""
 
     number: int
-    line: int
+    line: Optional[int]
     cells: Cells
 
 
@@ -124,15 +125,18 @@ class Table:
         cells = chosen(self.cells(number, max(columns, default=0)), columns)
         return Row(number, self.line(number, fault), cells)
 
-    def line(self, number: int, fault: Fault) -> int:
+    def line(self, number: int, fault: Fault) -> Optional[int]:
         """Return the line at which a row begins, counted from the row with the fault.
 
-        For a fault of the header, count from the start of the file.
+        For a fault of the header, count from the start of the file. It is None if that is far.
         """
         known = int(fault.line) if fault.row and fault.line else 1
         here = self.spans[fault.row][0] if fault.row and fault.line else 0
         start = self.spans[number][0]
-        between = len(ONE_LINE_END.findall(self.data[min(start, here) : max(start, here)]))
+        first, last = min(start, here), max(start, here)
+        if last - first > FAR:
+            return None
+        between = len(ONE_LINE_END.findall(self.data[first:last]))
         return known + (between if start > here else -between)
 
 

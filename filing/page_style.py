@@ -102,13 +102,14 @@ SCRIPT = """
   const kinds = [...form.querySelectorAll("select")];
   const items = [...document.querySelectorAll("[data-item]")];
   const told = form.querySelector("output");
+  const count = (number) => number.toLocaleString("en");
   const show = () => {
     let shown = 0;
     for (const item of items) {
       item.hidden = !kinds.every((it) => !it.value || item.dataset[it.name] === it.value);
       shown += item.hidden ? 0 : 1;
     }
-    told.textContent = `${shown} of ${items.length} shown`;
+    told.textContent = `${count(shown)} of ${count(items.length)} shown`;
   };
   const follow = () => {
     const wanted = new URLSearchParams(location.hash.slice(1));
