@@ -203,7 +203,7 @@ def rows(at: int, item: Item, near: Near) -> str:
     lines = "".join(row(it, near.columns, fault) for it in near.rows)
     return (
         f'<div class="wide rows" tabindex="0" role="region" aria-label="Rows of fault {at}">\n'
-        f'<table>\n<caption>{file_of(item)}</caption>\n'
+        f"<table>\n<caption>{file_of(item)}</caption>\n"
         f'<thead><tr><th scope="col">Line</th><th scope="col">Row</th>{heads}</tr></thead>\n'
         f"<tbody>\n{lines}</tbody>\n</table>\n</div>\n"
     )
@@ -222,7 +222,8 @@ def row(it: Row, columns: List[int], fault: Fault) -> str:
     is_bad = it.number == fault.row
     cells = "".join(cell(a, is_bad and fault.column == b) for a, b in zip(it.cells, columns))
     start = '<tr class="bad">' if is_bad and not fault.column else "<tr>"
-    return f'{start}<th scope="row">{number_or_not(it.line)}</th><td>{it.number:,}</td>{cells}</tr>\n'
+    line = f'<th scope="row">{number_or_not(it.line)}</th><td>{it.number:,}</td>'
+    return f"{start}{line}{cells}</tr>\n"
 
 
 def cell(text: Optional[str], is_bad: bool) -> str:
@@ -279,7 +280,8 @@ def table_line(it: TableLine, faults: int, first: int) -> str:
     """Return a line of the list of tables, with a link to the table's first fault."""
     told = f'<a href="#f{first}">{counted(faults, "fault")}</a>' if faults else "none"
     return (
-        f'<tr><th scope="row">{markup(it.table, NAME)}</th><td class="path">{markup(it.file, LINE)}</td>'
+        f'<tr><th scope="row">{markup(it.table, NAME)}</th>'
+        f'<td class="path">{markup(it.file, LINE)}</td>'
         f'<td class="count">{number_or_not(it.rows)}</td>'
         f'<td class="count">{number_or_not(it.size)}</td><td>{told}</td></tr>\n'
     )

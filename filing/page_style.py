@@ -93,7 +93,7 @@ footer { margin-top: 3rem; padding-top: 1rem; padding-bottom: 2rem; color: var(-
   .fault { content-visibility: visible; } }
 """
 
-# The filters of a page. A part of the address behind `#` sets them: `#table=2&fault=40`.
+# The filters of a page. The end of the address sets them: `#table=2&fault=40`.
 SCRIPT = """
 "use strict";
 (() => {

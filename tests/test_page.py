@@ -49,6 +49,12 @@ PATIENCE = 600
 BROWSER = shutil.which("chromium") or shutil.which("chromium-browser")
 REPORTS = "reports"
 VOID = ("meta",)
+TITLE = re.compile(
+    r"(?:Table (.*?)(?:, row (\d+))?(?:, column (\d+))?|.*) (\w+) \((\d+)\)", re.DOTALL
+)
+FOREIGN = "cannot write (another file than a page is there)"
+INSIDE = "cannot write (it stands inside of a package that is an input of this run)"
+OUTPUT = "cannot write (it is another output of this run)"
 ALLOWED = set(
     "html head meta title style body header main section footer article a span h1 h2 h3 p dl dt dd"
     " form label select option button output div table caption thead tbody tr th td mark code i bdi"
@@ -133,7 +139,7 @@ def shown_faults(top: Element) -> List[Shown]:
 
 def shown_fault(it: Element) -> Shown:
     title = it.all("h3")[0].text()
-    found = re.fullmatch(r"(?:Table (.*?)(?:, row (\d+))?(?:, column (\d+))?|.*) (\w+) \((\d+)\)", title, re.S)
+    found = TITLE.fullmatch(title)
     assert found, title
     marks = [mark.text() for mark in it.all("mark")]
     captions = [part.text() for part in it.all("caption")]
@@ -224,7 +230,10 @@ class Case(unittest.TestCase):
         """Return the content of a page with some faults of one table."""
         self.edit("t.csv", "a,b\n" + "1,x\n" * faults)
         table = TableFile("t", "t.csv", str(self.tables / "t.csv"))
-        found = [Fault("t", it, 2, 40, "BadNumber", str(it + 1), "b", "x", "") for it in range(1, faults + 1)]
+        found = [
+            Fault("t", it, 2, 40, "BadNumber", str(it + 1), "b", "x", "")
+            for it in range(1, faults + 1)
+        ]
         bare = Content("Refused", "r", "", [], faults)
         return filled(bare, [table], found[:MOST], {})
 
@@ -301,10 +310,16 @@ class TestRefused(Case):
         faults = read_faults(str(self.folder / "f.csv"))
         self.assertEqual(len(faults), 2, done.stderr)
         first, second = self.check_agrees(faults)
-        self.assertEqual(first.lines, [["2", "1", "dp1", "1250000"], ["3", "2", "dp2", "8x"], ["4", "3", "dp3", "1.3142"]])
+        self.assertEqual(
+            first.lines,
+            [["2", "1", "dp1", "1250000"], ["3", "2", "dp2", "8x"], ["4", "3", "dp3", "1.3142"]],
+        )
         self.assertEqual(first.marked, "8x")
         self.assertEqual(second.lines[0], ["2", "1", "A, B\\x0aC", "demand", "1", "dom:Regular"])
-        self.assertEqual([it[:3] for it in second.lines[1:]], [["5", "2", "C-17"], ["6", "3", 'D "E"'], ["7", "4", "F"]])
+        self.assertEqual(
+            [it[:3] for it in second.lines[1:]],
+            [["5", "2", "C-17"], ["6", "3", 'D "E"'], ["7", "4", "F"]],
+        )
         self.assertEqual(second.marked, "x3")
         self.assertEqual(self.top().all("title")[0].text(), "Refused: report")
 
@@ -361,7 +376,9 @@ class TestRefused(Case):
         self.edit("l_01.csv", "datapoint,factValue\ndp1,1,200\ndp2,1\n")
         self.convert("--out", "o.json", status=1)
         (shown,) = shown_faults(self.top())
-        self.assertEqual(shown.lines, [["2", "1", "dp1", "1", "200"], ["3", "2", "dp2", "1", "(none)"]])
+        self.assertEqual(
+            shown.lines, [["2", "1", "dp1", "1", "200"], ["3", "2", "dp2", "1", "(none)"]]
+        )
 
     def test_refused_by_xbrl_filing_itself(self) -> None:
         """Shows the record Refused of the file of faults."""
@@ -405,7 +422,7 @@ HOSTILE = [
     "<script>document.title='run'</script>",
     "<img src=x onerror=\"document.title='run'\">",
     "</td></table><style>*{display:none}</style>",
-    "\"><svg onload=alert(1)>",
+    '"><svg onload=alert(1)>',
     "' & \" &amp; &#x3c;",
     "\u202eevil\u202c \u200b\u2066",
     "nul\0tab\tline\u2028nbsp\u00a0",
@@ -507,25 +524,22 @@ class TestWhere(Case):
     def test_not_over_another_file(self) -> None:
         """Leaves any other file as it is, and converts nothing."""
         self.page.write_text("<!DOCTYPE html>\nmine\n")
-        self.refused("page.html: cannot write (another file than a page is there)", "--page", "page.html", "--out", "o.json")
+        self.refused(f"page.html: {FOREIGN}", "--page", "page.html", "--out", "o.json")
         self.assertEqual(self.page.read_text(), "<!DOCTYPE html>\nmine\n")
         self.assertFalse((self.folder / "o.json").exists())
 
     def test_not_over_an_input_or_an_output(self) -> None:
         """Refuses files of the packages, the report, and the other outputs."""
         table = f"report/{REPORTS}/l_01.csv"
-        another = "cannot write (another file than a page is there)"
-        inside = "cannot write (it stands inside of a package that is an input of this run)"
-        output = "cannot write (it is another output of this run)"
-        self.refused(f"{table}: {another}", "--page", table)
-        self.refused(f"taxonomy/new.html: {inside}", "--page", "taxonomy/new.html")
+        self.refused(f"{table}: {FOREIGN}", "--page", table)
+        self.refused(f"taxonomy/new.html: {INSIDE}", "--page", "taxonomy/new.html")
         for words in (["--out", "x"], ["--faults=x"], ["--out", "y", "--whole", "--faults", "./x"]):
-            self.refused(f"x: {output}", "--page", "x", *words)
-        self.refused(f"o.json.new: {output}", "--page", "o.json.new", "--out", "o.json", "--whole")
+            self.refused(f"x: {OUTPUT}", "--page", "x", *words)
+        self.refused(f"o.json.new: {OUTPUT}", "--page", "o.json.new", "--out", "o.json", "--whole")
         self.refused("no/p: cannot write (there is no folder to put it in)", "--page", "no/p")
-        self.refused(f"report: {another}", "--page", "report")
+        self.refused(f"report: {FOREIGN}", "--page", "report")
         self.edit("l_01.csv", "")
-        self.refused(f"{table}: {inside}", "--page", table)
+        self.refused(f"{table}: {INSIDE}", "--page", table)
 
     def test_not_over_an_empty_table_of_a_plain_report(self) -> None:
         """Leaves a table that is empty as it is."""
@@ -540,7 +554,8 @@ class TestWhere(Case):
     def test_faults_in_a_pipe(self) -> None:
         """Refuses a file of faults that cannot be read again."""
         os.mkfifo(self.folder / "pipe")
-        self.refused("pipe: cannot read (a page needs its faults in a regular file)", "--page", "page.html", "--faults", "pipe")
+        line = "pipe: cannot read (a page needs its faults in a regular file)"
+        self.refused(line, "--page", "page.html", "--faults", "pipe")
 
     def test_unchanged_at_other_ends(self) -> None:
         """Leaves an earlier page at status 2 and 3."""
@@ -563,15 +578,17 @@ class TestWhere(Case):
 
     def test_words(self) -> None:
         """Refuses command lines in which a page means nothing."""
+        nothing = "nothing is converted, so '--page' means nothing"
         cases = {
             "--page needs a value": ["--page"],
             "--page stands twice": ["--page", "a", "--page=b"],
-            "with --parameters nothing is converted, so '--page' means nothing": ["--page", "a", "--parameters"],
-            "with --prepare nothing is converted, so '--page' means nothing": ["--page", "a", "--prepare", "b"],
+            f"with --parameters {nothing}": ["--page", "a", "--parameters"],
+            f"with --prepare {nothing}": ["--page", "a", "--prepare", "b"],
         }
         for line, words in cases.items():
             done = self.run_filing("report", "--taxonomy", "taxonomy", *words)
-            self.assertEqual((done.returncode, done.stderr), (2, f"xbrl-filing: {line}; try --help\n"))
+            wanted = (2, f"xbrl-filing: {line}; try --help\n")
+            self.assertEqual((done.returncode, done.stderr), wanted)
 
 
 class TestBounds(Case):
@@ -588,12 +605,13 @@ class TestBounds(Case):
     def test_ten_thousand_faults(self) -> None:
         """Shows the first ones, and how many there are."""
         text = page(self.content(MOST + 1))
-        self.check_safe(text)
-        self.assertIn("These are the first 10,000 of 10,001 faults.", read(text).text())
-        self.assertEqual(len(shown_faults(read(text))), MOST)
         self.assertLess(len(text), 12 << 20)
-        shown = sum(1 for it in shown_faults(read(text)) if it.lines)
-        self.assertIn(f"Rows are shown for {shown:,} faults.", read(text).text())
+        top = read(text)
+        self.assertIn("These are the first 10,000 of 10,001 faults.", top.text())
+        faults = shown_faults(top)
+        self.assertEqual(len(faults), MOST)
+        shown = sum(1 for it in faults if it.lines)
+        self.assertIn(f"Rows are shown for {shown:,} faults.", top.text())
         self.assertGreater(shown, 500)
 
     def test_the_file_of_faults(self) -> None:
@@ -635,7 +653,9 @@ class TestBounds(Case):
         for _ in range(300):
             quoting, letters = chance.choice(((csv.QUOTE_MINIMAL, ""), (csv.QUOTE_ALL, "\r\n")))
             letters += 'ab," \u00e9'
-            rows = [["k" + "".join(chance.choices(letters, k=at)) for at in range(3)] for _ in range(6)]
+            rows = [
+                ["k" + "".join(chance.choices(letters, k=at)) for at in range(3)] for _ in range(6)
+            ]
             end, text, lines = chance.choice(("\n", "\r\n", "\r", "\n\n")), "", []
             for row in rows:
                 lines.append(1 + len(re.findall(r"\r\n?|\n", text)))
@@ -681,7 +701,9 @@ class TestRemedies(unittest.TestCase):
         wanted = {int(it[1]): (row[1], row[-1]) for it, row in numbered if it and int(it[1]) < 50}
         self.assertEqual(REMEDIES, wanted)
         parts = re.findall(r"^### (\d+) \w+\n(.*?)(?=^##)", text, re.M | re.S)
-        self.assertEqual(FORMS, {int(a): [tuple(it) for it in self.rows_of(b)[1:]] for a, b in parts})
+        self.assertEqual(
+            FORMS, {int(a): [tuple(it) for it in self.rows_of(b)[1:]] for a, b in parts}
+        )
         self.assertEqual({it for it in REMEDIES if not REMEDIES[it][1]}, set(FORMS))
 
 
@@ -735,13 +757,17 @@ class TestMany(Case):
             text = (self.out / f"{name}.html").read_text()
             self.check_safe(text)
             titles[name] = read(text).all("title")[0].text()
-        self.assertEqual(titles, {"a": "Converted: in/a.zip", "b": "Refused: in/b.zip", "c": "Refused: in/c.zip"})
+        self.assertEqual(
+            titles, {"a": "Converted: in/a.zip", "b": "Refused: in/b.zip", "c": "Refused: in/c.zip"}
+        )
         title = read((self.out / "index.html").read_text()).all("title")[0].text()
         self.assertEqual(title, "Refused: 2 reports of 3")
         faults = read_faults(str(self.out / "b.faults.csv"))
         shown = shown_faults(read((self.out / "b.html").read_text()))
         self.assertEqual([it.table for it in shown], [it.table for it in faults])
-        self.assertIn("is damaged", shown_faults(read((self.out / "c.html").read_text()))[0].sentence)
+        self.assertIn(
+            "is damaged", shown_faults(read((self.out / "c.html").read_text()))[0].sentence
+        )
 
     def test_again(self) -> None:
         """Keeps what was done, unless the page is missing; removes a page that is out of date."""
@@ -771,9 +797,9 @@ class TestMany(Case):
         report = self.packed("a.zip")
         for path in ("out/a.html", "out/a.json", "o.csv"):
             line = self.run_many(report, "--", "--page", path, "--outcomes", "o.csv", status=3)
-            self.assertEqual(line, f"xbrl-filing: {path}: cannot write (it is another output of this run)\n")
+            self.assertEqual(line, f"xbrl-filing: {path}: {OUTPUT}\n")
         line = self.run_many(report, "--", "--page", report, status=3)
-        self.assertIn("another file than a page is there", line)
+        self.assertIn(FOREIGN, line)
         self.assertEqual(os.listdir(self.folder / "in"), ["a.zip"])
 
     def test_hostile_names(self) -> None:
@@ -813,14 +839,17 @@ class TestLooks(Case):
 
     def test_contrast(self) -> None:
         """Has a contrast of at least 4.5 between each text and its ground."""
-        light, dark = (dict(re.findall(r"--([\w-]+): (#\w{6})", it)) for it in STYLE.split("@media (prefers")[:2])
+        parts = STYLE.split("@media (prefers")
+        light, dark = (dict(re.findall(r"--([\w-]+): (#\w{6})", it)) for it in parts)
         self.assertEqual(set(light), set(dark))
-        pairs = [(it, ground) for it in ("ink", "soft", "link", "code") for ground in ("paper", "panel")]
+        inks = ("ink", "soft", "link", "code")
+        pairs = [(it, ground) for it in inks for ground in ("paper", "panel")]
         pairs += [(it, f"{it}-paper") for it in ("bad", "good", "wait")]
         pairs += [("code", "bad-paper"), ("ink", "bad-paper"), ("soft", "bad-paper")]
         for colours in (light, dark):
             for text, ground in pairs:
-                self.assertGreaterEqual(contrast(colours[text], colours[ground]), 4.5, (text, ground))
+                seen = contrast(colours[text], colours[ground])
+                self.assertGreaterEqual(seen, 4.5, (text, ground))
 
     def test_tables_have_captions_and_scopes(self) -> None:
         """Gives each table a caption, each header cell a scope, and each select a label."""
@@ -870,7 +899,8 @@ class TestBrowser(Case):
         """Shows the faults of a table or of a number, and the filters only with the script."""
         for name, cell in (("l_01", "x"), ("l_02", "")):
             header = (self.tables / f"{name}.csv").read_text().split("\n")[0]
-            self.edit(f"{name}.csv", f"{header}\n" + ("dp1,x\n" if cell else "A,term,y,dom:Watched,z\n"))
+            row = "dp1,x" if cell else "A,term,y,dom:Watched,z"
+            self.edit(f"{name}.csv", f"{header}\n{row}\n")
         self.convert("--out", "o.json", status=1)
         one, two = "Table l_01, row 1, column 2 BadNumber (40)", "Table l_02, row 1 Ragged (26)"
         cases = {"": [one, two], "#table=0": [one], "#table=1": [two], "#fault=40": [one]}
