@@ -18,7 +18,6 @@ MORE = 8  # columns past the header that are shown of a row with more cells than
 LONGEST = 60  # characters of a cell
 MOST_COLUMNS = 4096  # as many as a template may have
 FAR = 1 << 20  # bytes between two rows, past which lines are not counted
-COUNTED = 100_000  # rows after the last fault of a table, which are gone through to count them
 
 Span = Tuple[int, int]  # where a record begins and ends
 Cells = List[Optional[str]]  # None past the end of a record
@@ -48,9 +47,18 @@ class Budget:
 
     def __init__(self) -> None:
         self.bytes = 256 << 20
-        self.rows = 2_000_000
+        self.rows = 2_000_000  # to the last fault of each table
+        self.counted = 200_000  # rows after it, which only the count needs
         self.parsed = 1_000_000  # cells that are looked at
         self.shown = 20_000  # cells
+
+    def take_row(self, is_counted: bool) -> bool:
+        """Take a row. Return whether there was one left."""
+        if is_counted:
+            self.counted -= 1
+            return self.counted >= 0
+        self.rows -= 1
+        return self.rows >= 0
 
 
 class Reading(NamedTuple):
@@ -91,10 +99,9 @@ class Table:
         self.rows: Optional[int] = None
         self.spans: Dict[int, Span] = {}
         numbers = numbers_shown(faults)
-        last, number = max(numbers) + COUNTED, -1
+        last, number = max(numbers), -1
         for number, span in enumerate(all_spans(data)):
-            budget.rows -= 1
-            if number > last or budget.rows < 0:
+            if not budget.take_row(number > last):
                 break
             if number in numbers:
                 self.spans[number] = span

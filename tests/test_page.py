@@ -424,6 +424,7 @@ HOSTILE = [
     "</td></table><style>*{display:none}</style>",
     '"><svg onload=alert(1)>',
     "' & \" &amp; &#x3c;",
+    "\u00e9<script>document.title='run'</script><b>\u202e",
     "\u202eevil\u202c \u200b\u2066",
     "nul\0tab\tline\u2028nbsp\u00a0",
     "bytes \udcff\udc80",
@@ -680,6 +681,12 @@ class TestBounds(Case):
             setattr(budget, name, 100 if name in ("bytes", "rows") else -1)
             self.assertEqual(read_table(path, [fault], budget).near, [None], name)
         self.assertEqual(read_table(path, [fault], Budget()).rows, 1_000)
+        budget = Budget()
+        budget.counted = 98
+        self.assertEqual(read_table(path, [fault], budget).rows, None)
+        self.assertEqual(
+            read_table(path, [fault], budget).near[0], read_table(path, [fault], Budget()).near[0]
+        )
         self.assertEqual(read_table(str(self.folder), [fault], Budget()), (None, None, [None]))
         self.assertEqual(read_table("/dev/zero", [fault], Budget()), (None, None, [None]))
 
