@@ -38,6 +38,7 @@ from .outcomes import (
 )
 from .outputs import same_file, stands_in
 from .packages import FolderPackage
+from .page_index import Listed, check_index, write_index
 from .progress import Progress
 from .refusals import FILES, WORDS, Refusal, cannot_write, printable
 from .stopping import Stopped, Stopping, temporary_folder, temporary_place, woken_by_signals
@@ -85,6 +86,7 @@ def run_batch(
             finally:
                 progress.clear()
     crew.tell_total(time.monotonic() - begun)
+    write_index(batch.page, crew.listed)
     return status_of(crew.words)
 
 
@@ -126,6 +128,7 @@ def version_of(program: str) -> str:
 
 def make_folder(batch: Batch) -> None:
     """Make the folder of the run, if it does not exist; refuse one that has an input."""
+    check_index(batch)
     folder = os.path.realpath(batch.into)
     for label in (*batch.reports, *batch.settings.taxonomy):
         path = os.path.realpath(label)
@@ -163,6 +166,7 @@ class Crew:
         self.convert, self.progress, self.outcomes = convert, progress, outcomes
         self.running: Dict[int, Running] = {}
         self.words: Counted[str] = Counter()
+        self.listed: List[Listed] = []
         self.kept = 0
         self.began = self.shown = time.monotonic()
         self.stopped_by = ""  # why no more reports are begun
@@ -200,6 +204,7 @@ class Crew:
                 again=self.batch.again,
                 temporary=os.path.join(self.folder, str(number)),
                 memory_limit=self.batch.memory_limit,
+                has_page=self.batch.page is not None,
             )
 
     def begin(self, task: Task) -> None:
@@ -283,6 +288,8 @@ class Crew:
         elif outcome.outcome != BUSY and os.path.lexists(task.paths.outcome):
             write_outcome(task.paths.outcome, outcome)
         self.outcomes.add(outcome)
+        if task.has_page:
+            self.listed.append(Listed(outcome, task.paths.page))
         if outcome.outcome != DONE and not self.stopped_by:
             self.progress.clear()
             line = outcome.line.removeprefix("xbrl-filing: ").removeprefix(f"{outcome.report}: ")

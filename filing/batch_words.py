@@ -13,7 +13,7 @@ from .words import RUNS, Settings, misuse, read_words
 
 INTO = "--into"
 OF_MANY_WITH_VALUE = (
-    INTO, "--jobs", "--outcomes", "--time-limit", "--memory-limit"
+    INTO, "--jobs", "--outcomes", "--page", "--time-limit", "--memory-limit"
 )  # fmt: skip
 OF_MANY = (*OF_MANY_WITH_VALUE, "--again")
 # The run gives these to xbrl-json itself, for each report.
@@ -35,6 +35,7 @@ class Batch:
     into: str
     jobs: int
     outcomes: Optional[str]
+    page: Optional[str]  # the list of the reports; each of these has a page too
     again: bool
     time_limit: Optional[float]
     memory_limit: Optional[int]
@@ -63,6 +64,7 @@ def read_batch(words: List[str]) -> Batch:
         into=values[INTO],
         jobs=whole("--jobs", values, 1, MOST_JOBS) or min(processors(), MOST_JOBS),
         outcomes=values.get("--outcomes"),
+        page=values.get("--page"),
         again="--again" in values,
         time_limit=seconds("--time-limit", values),
         memory_limit=whole("--memory-limit", values, 1, 1 << 62),

@@ -25,6 +25,9 @@ from .nested import open_taxonomy
 from .origins import Origins
 from .outputs import claim_outputs, refuse_outputs
 from .packages import Package, open_package
+from .page_lines import KeptLines
+from .page_output import check_page
+from .page_run import ListPage, RunPage, write_refusal_page
 from .parameter_list import parameter_list
 from .parameters import check_parameters, check_references, require_parameters
 from .prefixes import Renaming, lost_prefixes
@@ -83,6 +86,7 @@ def attempt(words: List[str], program: str, progress: Progress, stopping: Stoppi
             return run(settings, program, progress, stopping), ""
         except Refusal as refusal:
             record_refusal(settings, refusal)
+            write_refusal_page(settings, refusal)
             raise
     except Refusal as refusal:
         return refusal.status, refusal.line
@@ -125,9 +129,11 @@ def run(settings: Settings, program: str, progress: Progress, stopping: Stopping
 
     With `--prepare` the files go into its folder, else into a temporary one. Return the status.
     """
+    check_page(settings)
     if settings.types is not None:
         with temporary_folder(temporary_place(), f"{NAME}-", stopping) as folder:
-            return tell_faults(settings.report, settings.types, folder, None, program, progress, stopping)
+            page = ListPage(settings, settings.report, {})
+            return tell_faults(settings.report, settings.types, folder, None, program, progress, stopping, page)
     open_packages = ExitStack()
     try:
         return run_opened(settings, open_packages, program, progress, stopping)
@@ -172,22 +178,25 @@ def convert(origins: Origins, files: Files, types: bytes, settings: Settings, pr
     With `--progress` xbrl-json writes to standard error itself, unless `--explain` is given too.
     """
     with temporary_folder(temporary_place(), f"{NAME}-", stopping) as folder:
-        lines = ConverterLines(origins, folder, write_files(folder, files, types, copy=False))
+        page = RunPage(settings, folder)
+        lines = KeptLines(origins, folder, write_files(folder, files, types, copy=False), page.is_explained)
         if settings.every_fault:
             below = os.path.join(folder, os.urandom(8).hex())
             os.mkdir(below)
-            return tell_faults(os.path.join(folder, META), os.path.join(folder, TYPES), below, lines, program, progress, stopping)
+            listed = ListPage(settings, os.path.join(folder, META), lines.names)
+            return tell_faults(listed.meta, os.path.join(folder, TYPES), below, lines, program, progress, stopping, listed)
         progress.clear()
-        words = [program, os.path.join(folder, META), "--types", os.path.join(folder, TYPES), *settings.rest]
-        heard = "--explain" in settings.rest or "--progress" not in settings.rest
-        status = run_program(words, stopping, lines.hear if heard and sys.stderr else None)
+        words = [program, os.path.join(folder, META), "--types", os.path.join(folder, TYPES), *page.words, *settings.rest]
+        heard = "--explain" in words or "--progress" not in settings.rest
+        status = run_program(words, stopping, lines.hear if heard and (sys.stderr or page.words) else None)
         more = lines.end()
         if more:
             tell(f"{NAME}: {printable(more)}")
+        page.write(status, lines, files)
         return status
 
 
-def tell_faults(meta: str, types: str, folder: str, lines: Optional[ConverterLines], program: str, progress: Progress, stopping: Stopping) -> int:
+def tell_faults(meta: str, types: str, folder: str, lines: Optional[ConverterLines], program: str, progress: Progress, stopping: Stopping, page: ListPage) -> int:
     """Print the faults of a report in plain form, and return status 1 if there are some.
 
     `folder` is empty, and is used to look for them. If xbrl-json cannot list faults, hand on its
@@ -201,9 +210,11 @@ def tell_faults(meta: str, types: str, folder: str, lines: Optional[ConverterLin
         hand_on(unread.said, lines)
         return unread.status
     progress.clear()
-    put_out(fault_list(it._replace(place=lines.place(it.place)) if lines else it for it in faults))
+    faults = [it._replace(place=lines.place(it.place)) if lines else it for it in faults]
+    put_out(fault_list(faults))
     for table in filter(search.cut.get, search.faults):
         tell(f"{NAME}: table {printable(table)}: {search.cut[table]}")
+    page.write(faults, search.cut)
     return WRONG if faults else 0
 
 

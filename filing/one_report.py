@@ -15,7 +15,10 @@ from typing import Callable, List, Optional, Tuple
 from .digests import digest_of
 from .outcomes import BUSY, FINAL, Outcome, read_outcome, write_outcome
 from .packages import open_package
+from .page_output import is_page
+from .page_run import write_refusal_page
 from .refusals import FILES, Refusal, cannot_write, printable
+from .words import Settings
 
 KEPT = "kept"  # the report was converted before
 BEGUN = "begun"  # the outcome word while a report is in hand
@@ -31,12 +34,18 @@ class Paths:
     faults: str
     log: str
     outcome: str
+    page: str
 
     @staticmethod
     def of(folder: str, name: str) -> Paths:
         """Return the paths for the report of this name."""
         front = os.path.join(folder, name)
-        return Paths(f"{front}.json", f"{front}.faults.csv", f"{front}.log", f"{front}.outcome")
+        endings = (".json", ".faults.csv", ".log", ".outcome", ".html")
+        return Paths(*(front + it for it in endings))
+
+    def all(self) -> Tuple[str, ...]:
+        """Return all of them."""
+        return self.document, self.faults, self.log, self.outcome, self.page
 
 
 @dataclass(frozen=True)
@@ -51,6 +60,7 @@ class Task:
     again: bool
     temporary: str  # a folder of its own, for temporary files
     memory_limit: Optional[int]
+    has_page: bool  # whether the report gets a page
 
 
 @dataclass
@@ -138,6 +148,8 @@ def work(task: Task, told: Told, pipe: int, convert: Convert) -> int:
     except Refusal as refusal:
         remove_earlier(task, "")
         os.write(2, f"xbrl-filing: {printable(refusal.line)}\n".encode())
+        if task.has_page:
+            write_refusal_page(page_settings(task), refusal)
         return refusal.status
     if is_kept(task, told.digest):
         told.word = KEPT
@@ -149,7 +161,15 @@ def work(task: Task, told: Told, pipe: int, convert: Convert) -> int:
     os.environ["TMPDIR"] = task.temporary
     paths = task.paths
     files = ["--out", paths.document, "--whole", "--faults", paths.faults]
+    files += ["--page", paths.page] if task.has_page else []
     return convert([task.report, *task.words, *files])
+
+
+def page_settings(task: Task) -> Settings:
+    """Return the options of a page of a report that cannot be opened."""
+    settings = Settings()
+    settings.report, settings.page = task.report, task.paths.page
+    return settings
 
 
 def open_log(path: str) -> int:
@@ -203,6 +223,8 @@ def is_kept(task: Task, digest: str) -> bool:
     outcome = read_outcome(task.paths.outcome)
     if outcome is None or outcome.digest != digest or outcome.outcome not in FINAL:
         return False
+    if task.has_page and not is_page(task.paths.page):
+        return False
     return not outcome.document or os.path.isfile(task.paths.document)
 
 
@@ -213,14 +235,15 @@ def remove_earlier(task: Task, digest: str) -> None:
     `FILE.new` is what a conversion leaves that is ended by force.
     """
     paths = task.paths
-    made = (paths.document, f"{paths.document}.new", paths.faults)
+    made = [paths.document, f"{paths.document}.new", paths.faults]
     if not os.path.lexists(paths.outcome):
-        foreign = [it for it in made if os.path.lexists(it)]
+        own = [*made, *([paths.page] if task.has_page else [])]
+        foreign = [it for it in own if os.path.lexists(it)]
         foreign += [paths.log] if os.path.getsize(paths.log) else []
         if foreign:
             raise cannot_write(foreign[0], "it is there, and no run over many reports made it")
     write_outcome(paths.outcome, Outcome(task.report, digest, FILES, BEGUN))
     os.ftruncate(2, 0)
-    for path in made:
+    for path in [*made, *([paths.page] if is_page(paths.page) else [])]:
         with suppress(FileNotFoundError):
             os.unlink(path)

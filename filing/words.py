@@ -34,6 +34,9 @@ REPORT                  a report package (a ZIP or an unpacked folder), or a
                         the form of --faults
 --types FILE            with --every-fault: the types table of META, a plain
                         report without packages
+--page FILE             write a page for a browser: the outcome, the tables, and
+                        each fault with the rows round it; with --into, FILE
+                        lists the reports, and each has NAME.html
 --cache FOLDER          keep there what was read from the taxonomy, for the
                         next filing of it
 --unpacked-limit BYTES  how much one ZIP may unpack to ({DEFAULT_LIMIT})
@@ -64,7 +67,7 @@ name another xbrl-json.
 OUTPUTS = ("--out", "--faults")
 WITH_VALUE = (*OUTPUTS, "--workers", "--ring", "--layout")
 WITHOUT_VALUE = ("--progress", "--explain", "--whole")
-OWN_WITH_VALUE = ("--prepare", "--cache", "--types", "--unpacked-limit")
+OWN_WITH_VALUE = ("--prepare", "--cache", "--types", "--page", "--unpacked-limit")
 OWN_WITHOUT_VALUE = ("--parameters", "--every-fault")
 # The options that are each a run of its own, in which nothing is converted.
 RUNS = ("--prepare", "--parameters", "--every-fault")
@@ -85,6 +88,7 @@ class Settings:
         self.every_fault = False
         self.types: Optional[str] = None
         self.cache: Optional[str] = None
+        self.page: Optional[str] = None
         self.limit = DEFAULT_LIMIT
         self.rest: List[str] = []
         self.given: Set[str] = set()  # the options of this program that are given
@@ -192,6 +196,8 @@ def checked(settings: Settings) -> Settings:
         beside = next((it for it in OF_PACKAGES if it in settings.given), None)
         if beside:
             raise misuse(f"--types is of a report without packages, so {beside} means nothing")
+    if runs and settings.page is not None and not settings.every_fault:
+        raise misuse(f"with {runs[0]} nothing is converted, so '--page' means nothing")
     if runs and settings.rest:
         raise misuse(f"with {runs[0]} nothing is converted, so '{settings.rest[0]}' means nothing")
     return settings

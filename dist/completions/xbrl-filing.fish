@@ -5,6 +5,7 @@ complete -c xbrl-filing -l prepare -x -a '(__fish_complete_directories)' -d 'Onl
 complete -c xbrl-filing -l parameters -d 'Only print each parameter as CSV'
 complete -c xbrl-filing -l every-fault -d 'Only print the first fault of every bad row, as CSV'
 complete -c xbrl-filing -l types -rF -d 'With --every-fault: the types table of META, a plain report without packages'
+complete -c xbrl-filing -l page -rF -d 'Write a page for a browser: the outcome, the tables, the faults'
 complete -c xbrl-filing -l cache -x -a '(__fish_complete_directories)' -d 'Keep there what was read from the taxonomy, for the next filing of it'
 complete -c xbrl-filing -l unpacked-limit -x -d 'How much one ZIP may unpack to'
 complete -c xbrl-filing -l into -x -a '(__fish_complete_directories)' -d 'Convert many reports, each in a process of its own'

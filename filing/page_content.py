@@ -1,0 +1,120 @@
+"""What a page shows of a report: its faults, the rows round them, and its tables."""
+
+from __future__ import annotations
+
+import mmap
+import os
+from itertools import groupby
+from typing import Dict, List, Mapping, NamedTuple, Optional, Sequence, Tuple
+
+from .every_fault import Fault
+from .metadata import objects
+from .page_rows import Budget, Near, all_spans, cells_of, read_table
+from .prepared import is_plain
+from .strict_json import Object
+
+MOST = 10_000  # faults of a page
+LONGEST = 2_000  # characters of a field of the file of faults that are kept
+
+
+class Item(NamedTuple):
+    """A fault, its table's file, the lines of `--explain` below it, and the rows round it."""
+
+    fault: Fault
+    file: str
+    said: Sequence[str]
+    near: Optional[Near]
+
+
+class TableLine(NamedTuple):
+    """A table of the report. What is not known is None."""
+
+    table: str
+    file: str
+    size: Optional[int]
+    rows: Optional[int]
+
+
+class Content(NamedTuple):
+    """What a page shows of a run over one report."""
+
+    word: str  # the outcome
+    report: str
+    document: str
+    notes: Sequence[str]
+    found: int  # how many faults the run has found: the page may have only the first
+    items: Sequence[Item] = ()
+    tables: Sequence[TableLine] = ()
+
+
+class TableFile(NamedTuple):
+    """A table, what the filing calls its file, and the path at which that can be read again."""
+
+    table: str
+    label: str
+    path: str
+
+
+def faults_of(path: str) -> Tuple[List[Fault], int]:
+    """Return the first faults of a file of `--faults`, and how many it has.
+
+    Each field is cut, so a cell of a gigabyte takes no memory. Raise OSError or ValueError if the
+    file cannot be read, or is not one of faults.
+    """
+    faults: List[Fault] = []
+    count = -1
+    with open(path, "rb") as file, mmap.mmap(file.fileno(), 0, access=mmap.ACCESS_READ) as data:
+        for count, span in enumerate(all_spans(data)):
+            if 0 < count <= MOST:
+                table, *numbers, name, line, header, cell, place = cells_of(data, span, 9, LONGEST)
+                row, column, number = map(int, numbers)
+                faults.append(Fault(table, row, column, number, name, line, header, cell, place))
+    return faults, max(count, 0)
+
+
+def tables_of(value: Object, folder: str, names: Mapping[str, str]) -> List[TableFile]:
+    """Return the tables of a metadata file in a folder, in the order of the document.
+
+    `names` has what the filing calls a file; without a name it is its path.
+    """
+    found = []
+    for table, it in objects(value, "tables"):
+        url = it.get("url")
+        if isinstance(url, str) and is_plain(url):
+            path = os.path.join(folder, *url.split("/"))
+            found.append(TableFile(table, names.get(url, path), path))
+    return sorted(found, key=lambda it: it.table.encode("utf-8", "surrogatepass"))
+
+
+def filled(
+    content: Content,
+    tables: Sequence[TableFile],
+    faults: Sequence[Fault],
+    said: Mapping[Fault, Sequence[str]],
+) -> Content:
+    """Return the content with faults, the rows round them, and the tables.
+
+    Tables with faults are read first. `said` has the lines of `--explain`.
+    """
+    budget, files = Budget(), {it.table: it for it in tables}
+    lines: Dict[str, TableLine] = {}
+    items: List[Item] = []
+    for table, group in groupby(faults, lambda it: it.table):
+        own = list(group)
+        near: List[Optional[Near]] = [None] * len(own)
+        if table in files:
+            lines[table], near = looked_at(files[table], own, budget)
+        file = files[table].label if table in files else ""
+        items += [Item(it, file, said.get(it, ()), rows) for it, rows in zip(own, near)]
+    for table, it in files.items():
+        if table not in lines:
+            lines[table], _ = looked_at(it, [], budget)
+    return content._replace(tables=[lines[table] for table in files], items=items)
+
+
+def looked_at(
+    it: TableFile, faults: Sequence[Fault], budget: Budget
+) -> Tuple[TableLine, List[Optional[Near]]]:
+    """Return a table's line, and the rows round each of its faults."""
+    read = read_table(it.path, faults, budget)
+    return TableLine(it.table, it.label, read.size, read.rows), read.near

@@ -1,0 +1,64 @@
+"""Texts of a filing as a page shows them: cut, escaped, hidden characters as codes.
+
+Whatever a stranger wrote into a report, a page has it only as text.
+"""
+
+from __future__ import annotations
+
+import re
+import unicodedata
+from html import escape
+from typing import Iterator, Tuple
+
+# Letters and marks that print as nothing. `str.isprintable` refuses the others, such as controls,
+# overrides of the direction and blanks that are not the keyboard's.
+BLANK = frozenset("\u034f\u115f\u1160\u17b4\u17b5\u180b\u180c\u180d\u2800\u3164\uffa0")
+SELECTORS = (range(0xFE00, 0xFE10), range(0xE0100, 0xE01F0))
+MOST_MARKS = 3  # more marks on one letter print over the lines above and below
+PLAIN = re.compile(r"[ -~]*")
+CUT = "\u2026"
+
+
+def cut(text: str, most: int) -> str:
+    """Return the first characters of a text, with a sign if more follow."""
+    return text if len(text) <= most else text[:most] + CUT
+
+
+def plain(text: str, most: int) -> str:
+    """Return a text for a title or an attribute."""
+    return escape("".join(it for it, _ in seen(cut(text, most))))
+
+
+def markup(text: str, most: int) -> str:
+    """Return a text for the body of a page, in which codes look unlike the text round them."""
+    short = cut(text, most)
+    if PLAIN.fullmatch(short):
+        return escape(short)
+    parts = (f"<i>{it}</i>" if is_code else escape(it) for it, is_code in seen(short))
+    return f"<bdi>{''.join(parts)}</bdi>"
+
+
+def seen(text: str) -> Iterator[Tuple[str, bool]]:
+    """Yield each letter, or its code if a reader would not see it, and whether it is a code."""
+    marks = 0
+    for letter in text:
+        marks = marks + 1 if unicodedata.category(letter) in ("Mn", "Me") else 0
+        is_code = marks > MOST_MARKS or is_hidden(letter)
+        yield code(letter) if is_code else letter, is_code
+
+
+def is_hidden(letter: str) -> bool:
+    """Return whether a letter prints as nothing, or is a control or a broken byte."""
+    if not letter.isprintable() or letter in BLANK:
+        return True
+    return any(ord(letter) in it for it in SELECTORS)
+
+
+def code(letter: str) -> str:
+    """Return the code of a letter as xbrl-json writes it: `\\x09`, `\\u202e`."""
+    number = ord(letter)
+    if 0xDC80 <= number <= 0xDCFF:  # a byte that is not UTF-8
+        return f"\\x{number - 0xDC00:02x}"
+    if number < 0x80:
+        return f"\\x{number:02x}"
+    return f"\\u{number:04x}" if number < 0x10000 else f"\\U{number:08x}"
