@@ -158,7 +158,7 @@ fn rings_and_claims_without_memory(rt: HostRuntime) {
 }
 
 const TABLES: &[Trial] = &[
-    (Call::Resolves, ROOM, 10),
+    (Call::Resolves, ROOM, 20),
     (Call::ReadsTable(false), 4 * ROOM, 50),
     (Call::ReadsTable(true), 4 * ROOM, 50),
 ];
