@@ -51,7 +51,7 @@ const LONG_SLEEP: u64 = 16;
 struct Parkers {
     feed: Parker,
     drain: Parker,
-    /// The feed is woken when at most so many items are left in the ring.
+    /// The feed is woken when at most this number of items is left in the ring.
     few: AtomicUsize,
 }
 
