@@ -83,7 +83,7 @@ impl GroupCounts {
         Ok(())
     }
 
-    /// Counts the identifiers of a set, too.
+    /// Counts the identifiers of a set, in addition to those that were counted.
     pub(crate) fn count_all(&mut self, ids: &IndexSet<RowId>) {
         for id in ids.as_slice() {
             let _ = self.is_full(id);

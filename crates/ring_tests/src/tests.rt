@@ -219,12 +219,69 @@ fn a_later_table_waits_for_room(rt: HostRuntime) {
     assert!(rt; waits);
 }
 
-/// Puts a block at the feed's turn, and tries again while the ring is full.
-fn put_waiting<T: Wait>(rt: &T, feed: &mut Feed, block: Block) -> bool {
+/// Puts a block, or does so if fewer than four wait.
+fn put_one(feed: &mut Feed, block: Block, are_few: bool) -> Result<(), Block> {
+    if are_few {
+        feed.put_below(block, 4)
+    } else {
+        feed.put(block)
+    }
+}
+
+/// Returns whether the feed takes a block while fewer than four wait.
+fn puts_below(alloc: Global, feed: &mut Feed) -> bool {
+    match block(alloc) {
+        Ok(block) => put_one(feed, block, true).is_ok(),
+        Err(_) => false,
+    }
+}
+
+/// Waits for room in a feed's ring, and counts 1 before and 1 after.
+fn room_counted<T: Wait>(rt: &T, feed: &Feed, count: &AtomicUsize) {
+    count.fetch_add(1, Ordering::SeqCst);
+    feed.wait(rt);
+    count.fetch_add(1, Ordering::SeqCst);
+}
+
+/// Returns whether the other thread continues once three of four blocks are taken.
+fn leaves_few(drain: &mut Drain, count: &AtomicUsize) -> bool {
+    let begins = comes_to(count, 1);
+    begins && gives(drain) && gives(drain) && gives(drain) && comes_to(count, 2)
+}
+
+/// Returns whether a feed that found four blocks, as many as may wait, continues once one is left.
+fn waits_for_few<T: Threads + Wait + Sync>(rt: &T, alloc: Global, rings: Rings) -> bool {
+    let (mut feed, mut drain) = rings.own;
+    let mut put = 0;
+    while put < 4 && puts_below(alloc, &mut feed) {
+        put += 1;
+    }
+    let is_full = !puts_below(alloc, &mut feed);
+    let count = &AtomicUsize::new(0);
+    let drain = &mut drain;
+    let (continues, ()) = thread::join(
+        rt,
+        move || leaves_few(drain, count),
+        move || room_counted(rt, &feed, count),
+    );
+    put == 4 && is_full && continues
+}
+
+#[test]
+fn a_feed_waits_until_few_are_left(rt: HostRuntime) {
+    let waits = match open_three(rt.alloc(), 8, 8) {
+        Ok(rings) => waits_for_few(&rt, rt.alloc(), rings),
+        Err(_) => false,
+    };
+    assert!(rt; waits);
+}
+
+/// Puts a block at the feed's turn, and tries again while there is no room.
+fn put_waiting<T: Wait>(rt: &T, feed: &mut Feed, block: Block, are_few: bool) -> bool {
     let mut block = block;
     for _ in 0..TURNS {
         feed.wait_for_turn(rt);
-        match feed.put(block) {
+        match put_one(feed, block, are_few) {
             Ok(()) => return true,
             Err(back) => block = back,
         }
@@ -248,13 +305,13 @@ fn close_waiting<T: Wait>(rt: &T, feed: Feed) -> bool {
 }
 
 /// Sends a table of many blocks, and returns whether all were sent.
-fn send_table<T: Wait>(rt: &T, alloc: Global, feed: Feed) -> bool {
+fn send_table<T: Wait>(rt: &T, alloc: Global, feed: Feed, are_few: bool) -> bool {
     let mut feed = feed;
     for _ in 0..BLOCKS {
         let Ok(block) = block(alloc) else {
             return false;
         };
-        if !put_waiting(rt, &mut feed, block) {
+        if !put_waiting(rt, &mut feed, block, are_few) {
             return false;
         }
     }
@@ -311,8 +368,13 @@ fn a_room_comes_back(rt: HostRuntime) {
     assert!(rt; comes);
 }
 
-/// Returns whether two workers send three tables through these rings, each of one block.
-fn send_three<T: Threads + Wait + Sync>(rt: &T, alloc: Global, rings: Rings) -> bool {
+/// Returns whether two workers send three tables through these rings.
+fn send_three<T: Threads + Wait + Sync>(
+    rt: &T,
+    alloc: Global,
+    rings: Rings,
+    are_few: bool,
+) -> bool {
     let Rings {
         own: (first, mut first_drain),
         next: (second, mut second_drain),
@@ -329,8 +391,10 @@ fn send_three<T: Threads + Wait + Sync>(rt: &T, alloc: Global, rings: Rings) -> 
         move || {
             thread::join(
                 rt,
-                move || send_table(rt, alloc, first) && send_table(rt, alloc, third),
-                move || send_table(rt, alloc, second),
+                move || {
+                    send_table(rt, alloc, first, are_few) && send_table(rt, alloc, third, are_few)
+                },
+                move || send_table(rt, alloc, second, are_few),
             )
         },
     );
@@ -340,7 +404,16 @@ fn send_three<T: Threads + Wait + Sync>(rt: &T, alloc: Global, rings: Rings) -> 
 #[test]
 fn three_tables_by_two_workers(rt: HostRuntime) {
     let are_sent = match open_three(rt.alloc(), 1, 1) {
-        Ok(rings) => send_three(&rt, rt.alloc(), rings),
+        Ok(rings) => send_three(&rt, rt.alloc(), rings, false),
+        Err(_) => false,
+    };
+    assert!(rt; are_sent);
+}
+
+#[test]
+fn three_tables_of_which_few_blocks_wait(rt: HostRuntime) {
+    let are_sent = match open_three(rt.alloc(), 8, 1) {
+        Ok(rings) => send_three(&rt, rt.alloc(), rings, true),
         Err(_) => false,
     };
     assert!(rt; are_sent);

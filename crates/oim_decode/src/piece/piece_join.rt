@@ -9,7 +9,9 @@ use crate::piece::piece_answer::PieceAnswer;
 use crate::piece::piece_blocks::blocks_of;
 use crate::piece::piece_rows::PieceRows;
 use oim_json::Block;
-use oim_rows::{RowId, RowIds, TableFault, TableHeader, TableKind, fault_at_place, whole_fault};
+use oim_rows::{
+    RowId, RowIds, SpareIds, TableFault, TableHeader, TableKind, fault_at_place, whole_fault,
+};
 use std::alloc::{AllocError, Global};
 use std::marker::Model;
 
@@ -93,6 +95,21 @@ impl PieceJoin {
             alloc,
             ids: RowIds::new(alloc),
         }
+    }
+
+    /// Moves the identifiers of the joined pieces to the memory that another table left, if that is
+    /// larger.
+    pub fn move_ids(&mut self, spare: SpareIds)
+        ensures { self.new ≡ self.old }
+    {
+        self.ids.move_to(spare);
+    }
+
+    /// Ends the join, and returns the memory of its identifiers for another table, if it is worth
+    /// keeping.
+    pub fn into_spare_ids(self) -> Option<SpareIds> {
+        let PieceJoin { alloc: _, ids } = self;
+        ids.into_spare()
     }
 
     /// Joins the table's next piece, whose first row has number `first`.
