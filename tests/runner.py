@@ -7,7 +7,8 @@ process of its own, so one that crashes or hangs hides no other. The scripts of 
 by themselves, run next to them. With -k only tests run whose full name has one of the names, or
 matches it as a pattern with `*`.
 
-A test that fails is printed when its module ends, and once more at the end, with its cause. The
+A test that fails is printed when its module ends, and once more at the end, with its cause. A
+module that ends early is a failure, which names the test that ran then. The
 last line is `N passed, M failed`. N counts tests, and in a test with sub-tests each of these. The
 status is 0 only if some tests passed and none failed.
 """
@@ -32,11 +33,19 @@ from typing import Any, NamedTuple
 TOP = Path(__file__).resolve().parent.parent
 
 # Scripts that count by themselves, the longest first: they start before the modules.
-SCRIPTS = ["filing.py", "every_fault.py", "filing_bounds.py", "fuzz_filing.py", "fault_table.py"]
+SCRIPTS = ["filing_bounds.py", "fuzz_filing.py", "fault_table.py"]
 # The modules that take the longest start first.
-LONGEST = ["tests.test_refused", "tests.test_shipped", "tests.test_stress", "tests.test_run"]
+LONGEST = [
+    "tests.test_refused",
+    "tests.test_filing_size",
+    "tests.test_every_fault_rows",
+    "tests.test_stress",
+    "tests.test_run",
+]
 # Seconds after which a module is stopped: many times what the longest takes.
 LIMIT = 3_600
+# A test that takes as many seconds is named with its time.
+SLOW = 10
 COUNTED = re.compile(r": (\d+) [a-z ]+, (\d+) not$")
 
 # A test that failed: its name and the text of its failure.
@@ -44,29 +53,42 @@ Failure = tuple[str, str]
 
 
 class Told(NamedTuple):
-    """What a module or script gave: counts, failures, tests that were left out, and seconds."""
+    """What a module or script gave: counts, failures, tests that were left out or slow, seconds."""
 
     name: str
     passed: int
     failures: list[Failure]
     skipped: list[Failure]
+    slow: list[tuple[str, float]] = []
     seconds: float = 0.0
 
 
 class Result(unittest.TestResult):
     """Counts the tests of a module, and each sub-test of one that has some."""
 
-    def __init__(self) -> None:
+    def __init__(self, running: Path) -> None:
+        """Begins to count; the file `running` gets the name of each test as it starts."""
         super().__init__()
+        self.running = running
         self.passed = 0
         self.told: list[Failure] = []
+        self.slow: list[tuple[str, float]] = []
         self.parted: str | None = None
         self.depth = 0
+        self.since = 0.0
 
     def startTest(self, test: Any) -> None:
         """Begins a test, which has no sub-tests yet."""
         super().startTest(test)
-        self.parted, self.depth = None, 0
+        self.running.write_text(test.id(), encoding="utf-8")
+        self.parted, self.depth, self.since = None, 0, time.monotonic()
+
+    def stopTest(self, test: Any) -> None:
+        """Ends a test, and keeps its time if it was slow."""
+        super().stopTest(test)
+        took = time.monotonic() - self.since
+        if took >= SLOW:
+            self.slow.append((test.id(), took))
 
     def addSubTest(self, test: Any, subtest: Any, err: Any) -> None:
         """Counts a sub-test, unless it had some itself."""
@@ -112,10 +134,11 @@ def run_here(module: str, into: str, patterns: list[str]) -> None:
     loader = unittest.TestLoader()
     if patterns:
         loader.testNamePatterns = [it if "*" in it else f"*{it}*" for it in patterns]
-    result = Result()
+    result = Result(Path(into).with_suffix(".running"))
     loader.loadTestsFromName(module).run(result)
     skipped = [(test.id(), why) for test, why in result.skipped]
-    Path(into).write_text(json.dumps([result.passed, result.told, skipped]), encoding="utf-8")
+    told = [result.passed, result.told, skipped, result.slow]
+    Path(into).write_text(json.dumps(told), encoding="utf-8")
 
 
 def last_lines(output: bytes) -> str:
@@ -153,9 +176,12 @@ def run_module(module: str, patterns: list[str]) -> Told:
         words = ["-m", "tests.runner", "--module", module, str(into)]
         status, output = ran([*words, *(f"-k{it}" for it in patterns)])
         if status != 0 or not into.exists():
-            return Told(module, 0, [(module, f"{end_of(status)}\n{last_lines(output)}")], [])
-        passed, failures, skipped = json.loads(into.read_text(encoding="utf-8"))
-    return Told(module, passed, [(a, b) for a, b in failures], [(a, b) for a, b in skipped])
+            running = into.with_suffix(".running")
+            test = f", in {running.read_text(encoding='utf-8')}" if running.exists() else ""
+            return Told(module, 0, [(module, f"{last_lines(output)}\n{end_of(status)}{test}")], [])
+        passed, *lists = json.loads(into.read_text(encoding="utf-8"))
+    failures, skipped, slow = ([(a, b) for a, b in pairs] for pairs in lists)
+    return Told(module, passed, failures, skipped, slow)
 
 
 def run_script(name: str, program: str) -> Told:
@@ -191,6 +217,8 @@ def tell(it: Told) -> None:
         print(f"FAILED {name}\n{why[:4_000].rstrip()}\n")
     for name, why in it.skipped:
         print(f"left out: {name}: {why}")
+    for name, seconds in it.slow:
+        print(f"slow: {name}: {seconds:.0f} s")
     if it.passed or it.failures:
         print(f"{it.name}: {it.passed} passed, {len(it.failures)} failed, {it.seconds:.0f} s")
     sys.stdout.flush()

@@ -124,20 +124,21 @@ class TestRun(TreeTest):
         broken, ended, counts = self.last(done, 3)
         self.assertEqual((done.status, counts), (1, "7 passed, 2 failed"))
         self.assertIn("test_broken: ZeroDivisionError: division by zero", broken)
-        self.assertEqual(ended, "FAILED tests.test_killed: it ended by signal 9")
+        test = "tests.test_killed.TestThis.test_parts"
+        self.assertEqual(ended, f"FAILED tests.test_killed: it ended by signal 9, in {test}")
 
     def test_scripts(self) -> None:
         """Adds the counts of scripts that count by themselves."""
         print_counts = "print('over filings: 5 as they must be, 1 not')\nraise SystemExit(1)\n"
-        self.module("filing.py", "print('FAILED one: why')\n" + print_counts)
-        self.module("every_fault.py", "raise OSError('no space')\n")
+        self.module("filing_bounds.py", "print('FAILED one: why')\n" + print_counts)
+        self.module("fuzz_filing.py", "raise OSError('no space')\n")
         self.module("fault_table.py", "print('a table: 4 as they must be, 0 not')\n")
         done = self.runs()
         self.assertEqual(
             self.last(done, 3),
             [
-                "FAILED tests/every_fault.py: OSError: no space",
-                "FAILED tests/filing.py: one: why",
+                "FAILED tests/filing_bounds.py: one: why",
+                "FAILED tests/fuzz_filing.py: OSError: no space",
                 "9 passed, 2 failed",
             ],
         )
@@ -146,12 +147,12 @@ class TestRun(TreeTest):
         """Runs only the tests that -k chooses, by a part of the name or a pattern."""
         self.module("test_this.py", PASSES)
         self.module("test_that.py", FAILS)
-        self.module("filing.py", "raise SystemExit(1)\n")
+        self.module("fault_table.py", "raise SystemExit(1)\n")
         for words, counts in (
             (["-k", "TestThis.test_program"], "1 passed, 0 failed"),
             (["-ktest_right", "-k", "test_program"], "2 passed, 0 failed"),
             (["-k", "*that*right"], "1 passed, 0 failed"),
-            (["-k", "filing.py"], "0 passed, 1 failed"),
+            (["-k", "fault_table.py"], "0 passed, 1 failed"),
         ):
             with self.subTest(words=words):
                 self.assertEqual(self.last(self.runs(*words), 1), [counts])
