@@ -207,7 +207,7 @@ class TestFilesOfOtherReports(FilingTest):
 
 
 def stands_above(file: str, place: str) -> str:
-    """Returns the line of a file that stands above the folder of the report."""
+    """Returns the line of a file above the folder of the report."""
     return (
         f"{file}: is not read: it stands above '{place}', the folder of the report, in which tables"
         " are looked for"
@@ -334,7 +334,7 @@ class TestRuns(FilingTest):
             )
 
     def test_links_above_the_report(self) -> None:
-        """Links and folders that stand above the report."""
+        """Links and folders above the report."""
         folder = self.folder
         write(
             folder,
