@@ -120,7 +120,7 @@ MERGED: dict[str, Any] = {
 }
 
 
-# A schema beside the module, and the types table of a taxonomy that only reads it.
+# A schema in a folder of its own, and the types table of a taxonomy that only reads it.
 LEAF = {"reg/d/leaf.xsd": schema(item("A"))}
 ONE = records("A,text")
 

@@ -40,7 +40,7 @@ Made = dict[str, bytes]
 def run(words: Iterable[object], folder: Path) -> tuple[int, str]:
     """Runs in this process, which is much faster, and returns status and standard error.
 
-    The run must not reach xbrl-json. Warnings, which `unittest` turns on, are no lines of it.
+    The run must not reach xbrl-json. Warnings, which `unittest` turns on, are left out.
     """
     before, err = os.getcwd(), io.StringIO()
     os.chdir(folder)

@@ -49,7 +49,7 @@ WIDEST, WIDEST_HELP, LONGEST_README = 100, 80, 150
 WITH_COMMANDS = ("README.md", "docs/MANUAL.md")
 LANGUAGES = ("console", "sh", "text")
 SKIPPED = {".git", ".ci", "out", "target", "__pycache__", "vendor"}
-SECONDS = 60
+SECONDS = 600
 
 # What is not written here, and what is written instead. Inline code is cut out before.
 DIALECT: List[Tuple[str, str]] = [

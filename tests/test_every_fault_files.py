@@ -256,13 +256,13 @@ class TestFiles(EveryFaultTest):
             self.case(
                 f"then {record}", self.faults_of(at, program=program), (1, [first, wanted], "")
             )
-        for end, wanted in (("exit 2", 2), ("exit 3", 3), ("exit 7", 7), ("kill -9 $$", 137)):
+        for end, status in (("exit 2", 2), ("exit 3", 3), ("exit 7", 7), ("kill -9 $$", 137)):
             for begun in ("", 'if ((first)); then real "$@" 2>/dev/null; exit; fi\n'):
                 program = fake(
                     folder / "fake", f"{begun}echo one >&2; sleep 0.1; printf two >&2; {end}\n"
                 )
                 self.case(
-                    f"{end} {begun}", self.faults_of(at, program=program), (wanted, [], "one\ntwo")
+                    f"{end} {begun}", self.faults_of(at, program=program), (status, [], "one\ntwo")
                 )
 
     def test_where_it_cannot_write(self) -> None:

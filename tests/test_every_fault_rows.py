@@ -10,11 +10,12 @@ import json
 import os
 import random
 import subprocess
+from collections.abc import Iterator
 from typing import NamedTuple
 
 from tests.every_fault import EG, EveryFaultTest, report
-from tests.filings import FILING
-from tests.harness import PATIENCE, PROGRAM
+from tests.filings import FILING, Case, FilingTest, Made, cases
+from tests.harness import PATIENCE, PROGRAM, for_each
 
 
 class Row(NamedTuple):
@@ -92,28 +93,43 @@ def made(dice: random.Random) -> tuple[bytes, list[tuple[str, str, str, str]]]:
     return text + dice.choice([b"", dice.choice(ends)]), wanted
 
 
+# The tables of a report, each with its text and with row, column, number and line of its faults.
+Tables = dict[str, tuple[bytes, list[tuple[str, str, str, str]]]]
+
+
+def listed(name: str, tables: Tables) -> Case:
+    """Returns the case of a report of these tables, of which all faults are listed."""
+    wanted = [(table, *fault) for table, (_, faults) in tables.items() for fault in faults]
+
+    def seen(test: FilingTest) -> Made:
+        assert isinstance(test, EveryFaultTest)
+        report(test.folder / "r", {table: text for table, (text, _) in tables.items()})
+        status, records, err = test.faults_of(test.folder / "r")
+        found = [
+            (table, row, column, number, line)
+            for table, row, column, number, _, line, *_ in records
+        ]
+        test.case(name, (status, found, err), (1 if wanted else 0, wanted, ""))
+        return {}
+
+    return Case(name, seen)
+
+
+def tables_of_all_kinds() -> Iterator[Case]:
+    """Tables put together at random: each fault at its row, its column and its line."""
+    dice = random.Random(20261129)
+    for number in range(60):
+        tables = {name: made(dice) for name in ("a", "b", "c")[: dice.randrange(1, 4)]}
+        yield listed(f"tables {number}", tables)
+
+
+@for_each(cases(tables_of_all_kinds()))
+class TestTablesOfAllKinds(EveryFaultTest):
+    """The cases of `tables_of_all_kinds`."""
+
+
 class TestRows(EveryFaultTest):
     """Checks which faults of rows are listed."""
-
-    def test_tables_of_all_kinds(self) -> None:
-        """Tables put together at random: each fault at its row, its column and its line."""
-        folder = self.folder
-        dice = random.Random(20261129)
-        for number in range(60):
-            tables = {name: made(dice) for name in ("a", "b", "c")[: dice.randrange(1, 4)]}
-            at = folder / str(number)
-            report(at, {name: text for name, (text, _) in tables.items()})
-            status, records, err = self.faults_of(at)
-            wanted = [
-                (name, row, column, number, line)
-                for name, (_, faults) in tables.items()
-                for row, column, number, line in faults
-            ]
-            seen = [
-                (table, row, column, number, line)
-                for table, row, column, number, _, line, *_ in records
-            ]
-            self.case(f"tables {number}", (status, seen, err), (1 if wanted else 0, wanted, ""))
 
     def test_fields_of_a_record(self) -> None:
         """Checks all nine fields, and the cell of a row after one that was removed."""

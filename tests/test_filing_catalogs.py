@@ -548,7 +548,7 @@ class TestPlacesThatAreRefused(FilingTest):
 
 
 def schemas_of_the_report() -> Iterator[Case]:
-    """Schemas that stand in the package of the report."""
+    """Schemas in the package of the report."""
     own = {
         **REPORT,
         "reports/report.json": meta(

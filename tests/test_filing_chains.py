@@ -1,4 +1,4 @@
-"""Tests files that extend files, files that are no metadata, and keys that occur twice."""
+"""Tests files that extend files, other files instead of metadata, and keys that occur twice."""
 from __future__ import annotations
 
 import json

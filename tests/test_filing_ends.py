@@ -244,7 +244,9 @@ class TestRuns(FilingTest):
         done.send_signal(signal.SIGTERM)
         done.communicate(timeout=PATIENCE)
         blocked = lambda: signal.pthread_sigmask(signal.SIG_BLOCK, {signal.SIGCHLD})
-        seen = start(["r", "--taxonomy", "t"], folder, env=settings, preexec_fn=blocked, timeout=PATIENCE)
+        seen = start(
+            ["r", "--taxonomy", "t"], folder, env=settings, preexec_fn=blocked, timeout=PATIENCE
+        )
         self.case(
             "a caller that has blocked the end of children",
             (seen[0], os.listdir(temporary)),
@@ -408,7 +410,11 @@ class TestRuns(FilingTest):
         ):
             (copy / "filing/command.py").write_text(raised + "\n")
             done = subprocess.run(
-                [copy / "xbrl-filing", "r"], cwd=folder, capture_output=True, text=True, timeout=PATIENCE
+                [copy / "xbrl-filing", "r"],
+                cwd=folder,
+                capture_output=True,
+                text=True,
+                timeout=PATIENCE,
             )
             self.case(
                 f"{raised}, as it starts",

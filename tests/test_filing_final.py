@@ -119,7 +119,7 @@ class TestFinalParts(FilingTest):
 
 
 def final_in_several_files() -> Iterator[Case]:
-    """Files below, beside and above one that declares a part final."""
+    """Files below, next to and above one that declares a part final."""
     top, low = FIRST, SECOND
     below = {
         **TAXONOMY,

@@ -92,16 +92,16 @@ def joining() -> Iterator[Case]:
         line,
         **both({"tableTemplates": {"p": {}}}, {"tableTemplates": templates}),
     )
-    one, two = {
-        "columns": {"x": {"dimensions": {"unit": "a:b", "concept": "eg:Cash"}}},
-        "decimals": 0,
-    }, {"decimals": 0, "columns": {"x": {"dimensions": {"concept": "eg:Cash", "unit": "a:b"}}}}
+    names = {"unit": "a:b", "concept": "eg:Cash"}
+    turned = dict(reversed(names.items()))
+    in_order: dict[str, Any] = {"columns": {"x": {"dimensions": names}}, "decimals": 0}
+    other_order: dict[str, Any] = {"decimals": 0, "columns": {"x": {"dimensions": turned}}}
     yield makes(
         "the order of members does not count",
-        parts={"tableTemplates/p": one},
+        parts={"tableTemplates/p": in_order},
         **both(
-            {"tableTemplates": {"p": one}, "tables": tables},
-            {"tableTemplates": {"p": two, "q": {"columns": {}}}},
+            {"tableTemplates": {"p": in_order}, "tables": tables},
+            {"tableTemplates": {"p": other_order, "q": {"columns": {}}}},
         ),
     )
     for a, b in ((0, 0.0), (1, True), (0, "0"), (0, None), (None, 0)):
@@ -409,7 +409,11 @@ class TestRuns(FilingTest):
     def test_shapes_that_are_left(self) -> None:
         """Checks that a wrong shape inside a part is merged unchanged and left to the converter."""
         folder = self.folder
-        column = lambda **more: {"t": {"columns": {"c": more}}}
+
+        def column(**more: Any) -> dict[str, Any]:
+            """Returns templates with one column."""
+            return {"t": {"columns": {"c": more}}}
+
         for number, wrong_part in enumerate(
             (
                 *(
@@ -462,8 +466,10 @@ class TestRuns(FilingTest):
                 {"parameterURL": []},
             )
         ):
-            info = {"namespaces": {"eg": EG, "m": "http://mem/", "odd": 1, "list": []}}
-            whole = {"tables": {"t": {"url": "t.csv"}}, **wrong_part}
+            info: dict[str, Any] = {
+                "namespaces": {"eg": EG, "m": "http://mem/", "odd": 1, "list": []}
+            }
+            whole: dict[str, Any] = {"tables": {"t": {"url": "t.csv"}}, **wrong_part}
             for own in (info, {**info, "namespaces": {**info["namespaces"], "n": "http://other/"}}):
                 above = {
                     "extends": ["low.json"],

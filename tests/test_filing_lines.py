@@ -510,7 +510,11 @@ class TestRuns(FilingTest):
         self.case("nobody hears", done.returncode, 5)
         with open("/dev/full", "wb") as full:
             done = subprocess.run(
-                [FILING, "r", "--taxonomy", "t0"], cwd=folder, env=settings, stderr=full, timeout=PATIENCE
+                [FILING, "r", "--taxonomy", "t0"],
+                cwd=folder,
+                env=settings,
+                stderr=full,
+                timeout=PATIENCE,
             )
         self.case("what cannot be handed on", done.returncode, 5)
 

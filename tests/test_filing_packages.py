@@ -101,7 +101,7 @@ class TestFormsOfReports(FilingTest):
 
 
 def files_beside_the_report() -> Iterator[Case]:
-    """What else is in a package beside its report."""
+    """What else is in the package of a report."""
     other = {
         "reports/other.json": '{"documentInfo":{"documentType":"https://xbrl.org/2021/xbrl-json"}}',
         "reports/list.json": "[1]",
@@ -425,7 +425,7 @@ class TestRuns(FilingTest):
             (folder / path).write_bytes(kept)
 
     def test_links_that_stay_inside(self) -> None:
-        """A name with a slash behind it, and links that lead to no other place."""
+        """A name with a slash after it, and links that lead to no other place."""
         folder = self.folder
         write(folder / "outside", {"secret.csv": "cash\n9\n"})
         write(folder / "r", REPORT)

@@ -9,7 +9,17 @@ import subprocess
 from collections.abc import Iterator
 from typing import Any
 
-from tests.filing_samples import INFO, MODULE, REPORT, TAXONOMY, TEMPLATE, filed_with, meta, pack
+from tests.filing_samples import (
+    INFO,
+    MODULE,
+    REPORT,
+    TABLES,
+    TAXONOMY,
+    TEMPLATE,
+    filed_with,
+    meta,
+    pack,
+)
 from tests.filings import Case, FILING, FilingTest, cases, listing, makes, start, stops
 from tests.harness import PATIENCE, for_each, write
 
@@ -61,7 +71,7 @@ def parameters_in_other_letters() -> Iterator[Case]:
     """
     for form in ("folder", "zip"):
         for side in ("", "@start", "@end"):
-            parts = {"dimensions": {"period": f"$refPeriod{side}"}}
+            parts: dict[str, Any] = {"dimensions": {"period": f"$refPeriod{side}"}}
             yield stops(
                 f"a period by another name {side}, {form}",
                 other_letters("refperiod", "refPeriod"),
@@ -74,7 +84,7 @@ def parameters_in_other_letters() -> Iterator[Case]:
                 form=form,
                 **filed("refPeriod", **parts),
             )
-    for name, parts in {
+    levels: dict[str, dict[str, Any]] = {
         "the report's decimals": {"decimals": "$places"},
         "a template's dimensions": {
             "tableTemplates": {"t": {**LEVEL, "dimensions": {"unit": "$places"}}}
@@ -82,13 +92,14 @@ def parameters_in_other_letters() -> Iterator[Case]:
         "a column's decimals": at_column(decimals="$places"),
         "a group's decimals": in_group(decimals="$places"),
         "a group's dimensions": in_group(dimensions={"eg:Region": "$places"}),
-    }.items():
+    }
+    for name, parts in levels.items():
         yield stops(
             f"{name} by another name", other_letters("Places", "places"), **filed("Places", **parts)
         )
         yield makes(f"{name} by its name", parts=parts, **filed("places", **parts))
         yield makes(f"{name}, and no such parameter", parts=parts, **filed("place", **parts))
-    unit = {"dimensions": {"unit": "$unit"}}
+    unit: dict[str, Any] = {"dimensions": {"unit": "$unit"}}
     own = filed("a", **unit, parameters={"Unit": "x"})
     yield stops(
         "a parameter of the metadata", other_letters("Unit", "unit", "t0/reg/mod.json"), **own
@@ -104,8 +115,8 @@ class TestParametersInOtherLetters(FilingTest):
 
 def what_is_no_parameter_in_other_letters() -> Iterator[Case]:
     """What only seems to be a parameter in other letters."""
-    unit, tables = {"dimensions": {"unit": "$unit"}}, {"t": {"url": "t.csv"}}
-    for name, given, parts in (
+    unit: dict[str, Any] = {"dimensions": {"unit": "$unit"}}
+    no_parameters: list[tuple[str, str, dict[str, Any]]] = [
         ("both names are there", "Unit", {**unit, "parameters": {"unit": "x"}}),
         ("the other one is used too", "Unit", {**unit, "decimals": "$Unit"}),
         ("a column has the name", "region", {"dimensions": {"eg:Region": "$Region"}}),
@@ -119,12 +130,13 @@ def what_is_no_parameter_in_other_letters() -> Iterator[Case]:
         ),
         ("the header is no parameter", "a", {"dimensions": {"unit": "$Name"}}),
         ("no parameters", "a", {**unit, "parameterURL": "q.csv"}),
-    ):
+    ]
+    for name, given, parts in no_parameters:
         inputs = filed(given, **parts)
         if "parameterURL" in parts:
             inputs["report"].pop("reports/p.csv")
             inputs["report"]["reports/q.csv"] = "name,value\n"
-        yield makes(f"no parameter in other letters: {name}", parts={"tables": tables}, **inputs)
+        yield makes(f"no parameter in other letters: {name}", parts={"tables": TABLES}, **inputs)
     broken = filed("Unit", **unit)
     broken["report"]["reports/p.csv"] = b"name,value\n\n\xff\xfe,\nUnit\nunit,1,2\n" + b'"'
     yield makes("a parameters file that is the converter's fault", parts=unit, **broken)
@@ -151,7 +163,7 @@ def parameters_of_each_fact() -> Iterator[Case]:
 
     for form in ("folder", "zip", "file"):
         for period in ("$refPeriod", "$refPeriod@start", "$refPeriod@end"):
-            of_all = {
+            of_all: dict[str, Any] = {
                 "dimensions": {"entity": "$entityID", "period": period, "unit": "$unit"},
                 "decimals": "$places",
             }
@@ -191,7 +203,7 @@ def parameters_of_each_fact() -> Iterator[Case]:
                     form=form,
                     **filed_with(f"{less}{name},#none\n", **of_all),
                 )
-        own = {"parameters": {"refPeriod": "2025"}}
+        own: dict[str, Any] = {"parameters": {"refPeriod": "2025"}}
         for where, more in (
             ("the metadata", own),
             ("the table", {"tables": {"t": {"url": "t.csv", **own}}}),
@@ -202,14 +214,14 @@ def parameters_of_each_fact() -> Iterator[Case]:
                 form=form,
                 **filed_with(header, dimensions={"period": "$refPeriod"}, **more),
             )
-    period = {"dimensions": {"period": "$refPeriod"}}
+    by_period: dict[str, Any] = {"dimensions": {"period": "$refPeriod"}}
     yield stops(
-        "an empty parameters file", told("period", "refPeriod"), **filed_with(header, **period)
+        "an empty parameters file", told("period", "refPeriod"), **filed_with(header, **by_period)
     )
     yield stops(
         "a parameter of the metadata that is empty",
         told("period", "refPeriod"),
-        **filed_with(header, parameters={"refPeriod": ""}, **period),
+        **filed_with(header, parameters={"refPeriod": ""}, **by_period),
     )
     module = [
         {
@@ -222,7 +234,7 @@ def parameters_of_each_fact() -> Iterator[Case]:
     yield stops(
         "no parameters file", told("entity", "entityID", "r/reports/report.json"), taxonomies=module
     )
-    two = {
+    two: dict[str, dict[str, Any]] = {
         "t": {"url": "t.csv", "parameters": {"refPeriod": "2025"}},
         "u": {"url": "u.csv", "template": "t"},
     }
@@ -230,13 +242,13 @@ def parameters_of_each_fact() -> Iterator[Case]:
     yield stops(
         "the parameter of another table",
         told("period", "refPeriod", table="u"),
-        **filed_with(header, there, tables=two, **period),
+        **filed_with(header, there, tables=two, **by_period),
     )
     two["u"]["optional"] = True
     yield makes(
         "a table that is not filed",
         parts={"tables": {"t": two["t"]}},
-        **filed_with(header, tables=two, **period),
+        **filed_with(header, tables=two, **by_period),
     )
 
 
@@ -253,7 +265,8 @@ def facts_that_do_without_a_parameter() -> Iterator[Case]:
         " no period"
     )
     line = f"r/reports/p.csv: has no value for the parameter 'refPeriod', {said}"
-    given, left, bare = {"dimensions": {"period": "2025"}}, {"dimensions": {"unit": "eg:a"}}, {}
+    given, left = {"dimensions": {"period": "2025"}}, {"dimensions": {"unit": "eg:a"}}
+    bare: dict[str, Any] = {}
 
     def grouped(*groups: Any, **column: Any) -> dict[str, Any]:
         """A template whose column of facts takes these property groups."""
@@ -292,7 +305,7 @@ def facts_that_do_without_a_parameter() -> Iterator[Case]:
         ("groups beside a column's own", grouped(bare, dimensions=own), False),
         ("a template that is not there", None, False),
     ):
-        parts = {
+        parts: dict[str, Any] = {
             "tableTemplates": {"t": template} if template else {"u": TEMPLATE},
             "dimensions": {"period": "$refPeriod"},
         }
@@ -415,7 +428,7 @@ class TestRuns(FilingTest):
         that nothing uses.
         """
         module, file = "t0/reg/mod.json", "r/reports/p.csv"
-        columns = {
+        columns: dict[str, Any] = {
             "k": {
                 "propertyGroups": {"g": {"dimensions": {"unit": "$unit"}, "decimals": "$places"}}
             },
@@ -430,11 +443,14 @@ class TestRuns(FilingTest):
             },
             "note": {},
         }
-        of_all = {
+        of_all: dict[str, Any] = {
             "dimensions": {"entity": "$entityID", "period": "$refPeriod@end"},
             "decimals": "$places",
         }
-        parts = {"tableTemplates": {"t": {"columns": columns, "decimals": "$note"}}, **of_all}
+        parts: dict[str, Any] = {
+            "tableTemplates": {"t": {"columns": columns, "decimals": "$note"}},
+            **of_all,
+        }
         group = f"{module}: tableTemplates.t.columns.k.propertyGroups.g"
         for form in ("folder", "zip"):
             given = filed_with(
@@ -471,7 +487,7 @@ class TestRuns(FilingTest):
                 self.listed(column, form),
                 (0, rows, ""),
             )
-            two = {
+            two: dict[str, dict[str, Any]] = {
                 "t": {"columns": columns},
                 "u": {"columns": {"cash": {}, "entityID": {}, "refPeriod": {}, "places": {}}},
             }

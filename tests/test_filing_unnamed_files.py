@@ -5,8 +5,19 @@ import os
 import shutil
 import subprocess
 from collections.abc import Callable, Iterator
+from typing import Any
 
-from tests.filing_samples import INFO, MERGED, REPORT, TAXONOMY, TEMPLATE, deeper, meta, pack
+from tests.filing_samples import (
+    INFO,
+    MERGED,
+    REPORT,
+    TAXONOMY,
+    TEMPLATE,
+    Files,
+    deeper,
+    meta,
+    pack,
+)
 from tests.filings import Case, FilingTest, cases, makes, run, start, stops
 from tests.harness import for_each, write
 
@@ -14,9 +25,7 @@ OPTIONAL = {
     "t": {"url": "t.csv", "optional": True},
     "u": {"url": "sub/u.csv", "template": "t", "optional": True},
 }
-
-
-MAY_BE_MISSING = {
+MAY_BE_MISSING: dict[str, Any] = {
     "taxonomies": [
         {
             **TAXONOMY,
@@ -26,14 +35,8 @@ MAY_BE_MISSING = {
         }
     ]
 }
-
-
 BARE = {"reports/report.json": REPORT["reports/report.json"], "reports/p.csv": "name,value\n"}
-
-
 NOT_READ = "is not read: no table of the joined metadata has this url (names are compared exactly)"
-
-
 ROWS = "cash\n1\n"
 
 
@@ -204,7 +207,7 @@ class TestFilesOfOtherReports(FilingTest):
 
 
 def stands_above(file: str, place: str) -> str:
-    """Returns the line of a file that stands above the folder of the report."""
+    """Returns the line of a file above the folder of the report."""
     return (
         f"{file}: is not read: it stands above '{place}', the folder of the report, in which tables"
         " are looked for"
@@ -217,7 +220,7 @@ def files_above_the_report() -> Iterator[Case]:
     Above and next to these nothing is read.
     """
     optional = {"t": {"url": "t.csv", "optional": True}}
-    inputs = {
+    inputs: dict[str, Any] = {
         "taxonomies": [
             {
                 **TAXONOMY,
@@ -331,7 +334,7 @@ class TestRuns(FilingTest):
             )
 
     def test_links_above_the_report(self) -> None:
-        """Links and folders that stand above the report."""
+        """Links and folders above the report."""
         folder = self.folder
         write(
             folder,
@@ -389,36 +392,38 @@ class TestRuns(FilingTest):
                 os.chdir("d")
             os.chdir(before)
 
-        def linked(name: str, target: str) -> Callable[[], None]:
-            """Returns what makes a link in the folder of the reports."""
-            return lambda: (place / name).symlink_to(target)
+        def linked(name: str, target: str, more: Files | None = None) -> Callable[[], None]:
+            """Returns what makes a link in the folder of the reports, after it wrote files."""
 
-        def of_a_linked_folder() -> None:
-            """Replaces the folder of the reports by a link to another folder."""
-            write(
-                folder,
-                {"r/data/t.csv": "cash\n2\n", "r/data/report.json": REPORT["reports/report.json"]},
-            )
+            def make() -> None:
+                write(folder, more or {})
+                (place / name).symlink_to(target)
+
+            return make
+
+        def moved_beside() -> None:
+            """Gives the table another name, and makes a link of its own."""
+            (place / "t.csv").rename(place / "real.csv")
+            (place / "t.csv").symlink_to("real.csv")
+
+        def of_a_linked_folder(more: Files | None = None) -> None:
+            """Replaces the folder of the reports by a link to another folder, with more files."""
+            report = {
+                "r/data/t.csv": "cash\n2\n",
+                "r/data/report.json": BARE["reports/report.json"],
+            }
+            write(folder, {**report, **(more or {})})
             shutil.rmtree(place)
             place.symlink_to("data")
 
         for name, make in {
             "a link to a table": linked("T.csv", "t.csv"),
             "a hard link to a table": lambda: os.link(place / "t.csv", place / "T.csv"),
-            "a table by a link to a file beside it": lambda: (
-                (place / "t.csv").rename(place / "real.csv"),
-                (place / "t.csv").symlink_to("real.csv"),
-            ),
+            "a table by a link to a file beside it": moved_beside,
             "a link that leads nowhere": linked("T.csv", "none.csv"),
-            "a link to itself": lambda: (
-                write(folder, {"r/reports/a/x": ""}),
-                linked("a/T.csv", "T.csv")(),
-            ),
+            "a link to itself": linked("a/T.csv", "T.csv", {"r/reports/a/x": ""}),
             "a folder": lambda: (place / "T.csv").mkdir(),
-            "a link to a folder of others": lambda: (
-                write(folder, {"r/other/T.csv": "x"}),
-                (place / "other").symlink_to("../other"),
-            ),
+            "a link to a folder of others": linked("other", "../other", {"r/other/T.csv": "x"}),
             "a folder that leads to itself": linked("d", "."),
             "a pipe": lambda: os.mkfifo(place / "T.csv"),
             "deep folders": deep,
@@ -426,14 +431,8 @@ class TestRuns(FilingTest):
         }.items():
             self.case(f"no file that was forgotten: {name}", seen(make), (0, ""))
         for name, make in {
-            "a link to a file that is no table": lambda: (
-                write(folder, {"r/u.csv": "x"}),
-                (place / "T.csv").symlink_to("../u.csv"),
-            ),
-            "a folder by a link": lambda: (
-                of_a_linked_folder(),
-                write(folder, {"r/data/T.csv": "x"}),
-            ),
+            "a link to a file that is no table": linked("T.csv", "../u.csv", {"r/u.csv": "x"}),
+            "a folder by a link": lambda: of_a_linked_folder({"r/data/T.csv": "x"}),
             "below deep folders": lambda: (
                 write(folder, {"r/reports/" + "d/" * 200 + "T.csv": "x"})
             ),

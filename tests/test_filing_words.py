@@ -140,7 +140,9 @@ class TestRuns(FilingTest):
         folder = self.folder
         write_packages(folder)
         usage = "; try --help\n"
-        version = subprocess.run([PROGRAM, "--version"], capture_output=True, timeout=PATIENCE).stdout
+        version = subprocess.run(
+            [PROGRAM, "--version"], capture_output=True, timeout=PATIENCE
+        ).stdout
         self.case("--version", start(["--version"], folder), (0, version, ""))
         self.case("-h is --help", start(["-h"], folder), start(["--help"], folder))
         help_text = start(["--help"], folder)[1]

@@ -1,10 +1,7 @@
-#!/usr/bin/env python3
 """Tests what `--cache` keeps of a module: a filing is the same with it, and without.
 
-    tests/test_kept_module.py [TEST..]
-
 Made-up filings are prepared without a cache, with an empty one, and with what that one then has:
-the files, the lines and the statuses must be the same. Needs Linux and Python 3.9 or later.
+the files, the lines and the statuses must be the same.
 """
 
 from __future__ import annotations
@@ -14,49 +11,26 @@ import io
 import json
 import os
 import subprocess
-import sys
-import tempfile
 import threading
 import time
-import unittest
-import zipfile
 from pathlib import Path
-from typing import Any, Dict, List, Mapping, Optional, Tuple, Union
+from typing import Any, Dict, List, Tuple, Union
 from unittest import mock
 
-TOP = Path(__file__).resolve().parent.parent
-sys.path.insert(0, str(TOP))
+from filing import cache_room, command
+from tests.filing_samples import CSV, EG, EXPLICIT, HOST, catalog, item, pack, rewrite, schema
+from tests.harness import PROGRAM, TOP, TestCase, bytes_of
 
-from filing import cache_room, command  # noqa: E402
-
-HOST = "http://reg.example/"
-CSV = "https://xbrl.org/2021/xbrl-csv"
-EG = "http://reg.example/eg"
-XS = "http://www.w3.org/2001/XMLSchema"
-XBRLI = "http://www.xbrl.org/2003/instance"
 Files = Dict[str, Union[str, Dict[str, Any]]]
 
-
-def item(name: str, kind: str = "string") -> str:
-    """Return the element of a concept."""
-    head = f'<xs:element name="{name}" type="xbrli:{kind}ItemType"'
-    return f'{head} substitutionGroup="xbrli:item"/>'
-
-
 ELEMENTS = (
-    item("Cash", "monetary")
+    item("Cash", "xbrli:monetaryItemType")
     + item("Note")
-    + '<xs:element name="Region" substitutionGroup="xbrldt:dimensionItem" abstract="true"/>'
+    + EXPLICIT
     + '<xs:element name="Pair" substitutionGroup="xbrli:tuple"/>'
 )
-SCHEMA = (
-    f'<xs:schema xmlns:xs="{XS}" xmlns:xbrli="{XBRLI}" xmlns:xbrldt="http://xbrl.org/2005/xbrldt"'
-    f' xmlns:eg="{EG}" targetNamespace="{EG}">{ELEMENTS}</xs:schema>'
-)
-CATALOG = (
-    '<catalog xmlns="urn:oasis:names:tc:entity:xmlns:xml:catalog">'
-    f'<rewriteURI uriStartString="{HOST}" rewritePrefix="../reg/"/></catalog>'
-)
+SCHEMA = schema(ELEMENTS)
+CATALOG = catalog(rewrite())
 
 
 def meta(info: Dict[str, Any], **parts: Any) -> Dict[str, Any]:
@@ -104,19 +78,16 @@ TAXONOMY: Files = {"META-INF/catalog.xml": CATALOG, "reg/m.json": MODULE, "reg/m
 
 def packed(path: Path, files: Files) -> None:
     """Write a ZIP with these files; a value is written as JSON."""
-    with zipfile.ZipFile(path, "w") as archive:
-        for name, content in files.items():
-            text = content if isinstance(content, str) else json.dumps(content)
-            archive.writestr(name, text)
+    pack(path, {name: bytes_of(content) for name, content in files.items()})
 
 
-class Case(unittest.TestCase):
-    """A scratch folder for filings."""
+class Case(TestCase):
+    """A scratch folder for filings, with the path of a cache."""
+
+    cache: Path
 
     def setUp(self) -> None:
-        scratch = tempfile.TemporaryDirectory()
-        self.addCleanup(scratch.cleanup)
-        self.folder = Path(scratch.name).resolve()
+        super().setUp()
         self.cache = self.folder / "cache"
 
     def prepared(self, name: str, *more: str) -> Tuple[int, str, Dict[str, bytes], int]:
@@ -351,7 +322,7 @@ class TestTheEntry(Case):
             done = subprocess.run(
                 [str(TOP / "xbrl-filing"), *words],
                 cwd=self.folder,
-                env={**os.environ, "XBRL_JSON": program()},
+                env={**os.environ, "XBRL_JSON": PROGRAM},
                 capture_output=True,
                 text=True,
                 check=False,
@@ -360,21 +331,3 @@ class TestTheEntry(Case):
         self.assertIn("t.zip/reg/m.json: /", said[0][1])
         self.assertEqual(said[0], said[1])
         self.assertEqual(said[0], said[2])
-
-
-def program() -> str:
-    return os.path.abspath(os.environ.get("XBRL_JSON") or TOP / "dist/xbrl-json")
-
-
-def main(words: List[str]) -> int:
-    """Run the tests, and print the line that tests/run reads."""
-    if words and os.path.isfile(words[0]):
-        os.environ["XBRL_JSON"] = os.path.abspath(words.pop(0))
-    ran = unittest.main(argv=["test_kept_module.py", *words], exit=False, warnings="ignore")
-    bad = len(ran.result.failures) + len(ran.result.errors)
-    print(f"what is kept of a module: {ran.result.testsRun - bad} as they must be, {bad} not")
-    return 1 if bad else 0
-
-
-if __name__ == "__main__":
-    sys.exit(main(sys.argv[1:]))

@@ -8,7 +8,7 @@ import threading
 import time
 
 from tests.edges import WORDS, EdgeTest, table_fault
-from tests.harness import PROGRAM
+from tests.harness import PATIENCE, PROGRAM
 
 LINE = "xbrl-json: {} of {} tables, {:.1f} of {:.1f} MB read, {:.1f} MB written\n"
 # With a pipe the program does not know how many bytes there are.
@@ -43,9 +43,10 @@ class TestProgress(EdgeTest):
         self.assertEqual((seen.status, seen.err), (1, said))
 
     def feed(self, ends: threading.Event) -> None:
-        """Makes t1 a pipe that gets a row every tenth of a second, for two minutes at most.
+        """Makes t1 a pipe that gets a row every tenth of a second, until it is told to end.
 
-        The program prints a line only when it has read or written something.
+        The program prints a line only when it has read or written something. If it prints none, the
+        pipe ends by itself after PATIENCE, and the test fails without one.
         """
         pipe = self.folder / "t1.csv"
         pipe.unlink()
@@ -54,7 +55,7 @@ class TestProgress(EdgeTest):
         def write() -> None:
             with open(pipe, "w") as out:
                 out.write("cash\n")
-                for _ in range(1_200):
+                for _ in range(10 * PATIENCE):
                     out.write("1\n")
                     out.flush()
                     if ends.wait(0.1):
@@ -70,7 +71,6 @@ class TestProgress(EdgeTest):
         command = [PROGRAM, *WORDS, "--progress"]
         none = subprocess.DEVNULL
         seen = b""
-        since = time.monotonic()
         with subprocess.Popen(command, cwd=self.folder, stdin=none, stdout=none, stderr=theirs):
             os.close(theirs)
             while True:
@@ -81,7 +81,7 @@ class TestProgress(EdgeTest):
                 if seen.count(b"\r") > 4:
                     ends.set()
         os.close(ours)
-        self.assertLess(time.monotonic() - since, 110)
+        self.assertTrue(ends.is_set(), "no lines while the pipe was fed")
         said = seen.decode()
         line = r"(\rxbrl-json: \d of 3 tables, 0\.0( of 0\.0)? MB read, 0\.0 MB written)+\r\n"
         self.assertRegex(said, rf"\A{line}\Z")
@@ -101,7 +101,6 @@ class TestProgress(EdgeTest):
             rest = run.stderr.read().decode().splitlines(keepends=True)
         self.assertEqual(first, ENDLESS.format(2, 3))
         self.assertGreaterEqual(took, 9.5)
-        self.assertLess(took, 110)
         self.assertEqual(rest[-1:], [ENDLESS.format(3, 3)])
         self.assertEqual((run.returncode, set(rest[:-1]) - {first}), (0, set()))
 

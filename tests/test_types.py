@@ -1,6 +1,6 @@
 """Checks the types of filing/, the library's Python package and the tests, if mypy is installed.
 
-The settings are those of pyproject.toml. Other versions of mypy may find more, so they are left out.
+The settings are those of pyproject.toml. Other versions of mypy are left out: they may find more.
 """
 from __future__ import annotations
 
@@ -33,7 +33,7 @@ class TestTypes(TestCase):
     def check_types(self, *words: str) -> None:
         """Runs mypy at the top, with these words."""
         given = ["mypy", "--cache-dir", str(self.folder / "cache"), *words]
-        done = subprocess.run(given, cwd=TOP, capture_output=True, text=True, timeout=PATIENCE)
+        done = subprocess.run(given, cwd=TOP, capture_output=True, text=True, timeout=5 * PATIENCE)
         self.assertEqual(done.returncode, 0, f"{done.stdout}\n{done.stderr}"[-4000:])
 
     def test_sources_and_tests(self) -> None:
