@@ -24,7 +24,7 @@ def refuse_outputs(settings: Settings, packages: List[Package], files: Optional[
 
     `files` is None before they are known, so that the packages are checked earlier.
     """
-    outputs = list(settings.outputs()) + [it for it in (settings.prepare, settings.cache, settings.page) if it is not None]
+    outputs = list(settings.outputs()) + [it for it in (settings.prepare, settings.cache) if it is not None]
     folders = {it.top for it in packages if isinstance(it, FolderPackage)}
     inputs = [os.path.realpath(it) for it in input_files(settings, files)]
     for output in outputs:

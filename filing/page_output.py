@@ -5,7 +5,7 @@ from __future__ import annotations
 import os
 from typing import Iterable, Optional
 
-from .outputs import same_file
+from .outputs import same_file, stands_in
 from .page_style import MARK
 from .refusals import FILES, Refusal, cannot_write
 from .refused_faults import write_whole
@@ -42,9 +42,16 @@ def check_place(path: str, to_make: str = "") -> None:
 
 
 def check_inputs(path: str, inputs: Iterable[str]) -> None:
-    """Refuse a page that is a file which the run reads, by any name. It may be an empty table."""
-    if any(same_file(path, it) for it in inputs):
-        raise cannot_write(path, "it is an input of this run")
+    """Refuse a page that is a file which the run reads, by any name, or is in a folder of one.
+
+    Such a file may be an empty table.
+    """
+    own = os.path.realpath(path)
+    for it in inputs:
+        if same_file(own, it):
+            raise cannot_write(path, "it is an input of this run")
+        if stands_in(own, os.path.realpath(it)):
+            raise cannot_write(path, "it stands inside of a package that is an input of this run")
 
 
 def is_free(path: str) -> bool:

@@ -129,6 +129,7 @@ class Table:
         return Near(columns, chosen(self.header, columns), rows)
 
     def row(self, number: int, columns: List[int], fault: Fault) -> Row:
+        """Return a row as it is shown for a fault."""
         cells = chosen(self.cells(number, max(columns, default=0)), columns)
         return Row(number, self.line(number, fault), cells)
 

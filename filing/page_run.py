@@ -10,7 +10,7 @@ from .every_fault import Fault
 from .page_content import MOST, Content, Item, TableFile, faults_of, filled, tables_of
 from .page_lines import KeptLines
 from .page_markup import page
-from .page_output import check_inputs, check_page, write_page
+from .page_output import check_inputs, write_page
 from .prepared import Files
 from .refusals import FILES, WRONG, Refusal, printable
 from .refused_faults import NAME
@@ -97,7 +97,6 @@ def write_refusal_page(settings: Settings, refusal: Refusal) -> None:
     """Write the page of a report that xbrl-filing itself refuses."""
     if settings.page is None or refusal.status != WRONG:
         return
-    check_page(settings)
     why, file = printable(refusal.what), printable(refusal.file)
     items = [Item(Fault("", 0, 0, 0, NAME, "", "", why, file), "", (), None)]
     notes = ["The filing is refused before its tables are read."]

@@ -541,6 +541,9 @@ class TestWhere(Case):
         self.refused(f"report: {FOREIGN}", "--page", "report")
         self.edit("l_01.csv", "")
         self.refused(f"{table}: {INSIDE}", "--page", table)
+        self.edit("report.json", "no JSON")
+        self.refused(f"taxonomy/new.html: {INSIDE}", "--page", "taxonomy/new.html")
+        self.assertEqual(os.listdir(self.folder / "taxonomy"), os.listdir(EXAMPLE / "taxonomy"))
 
     def test_not_over_an_empty_table_of_a_plain_report(self) -> None:
         """Leaves a table that is empty as it is."""
