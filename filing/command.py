@@ -132,7 +132,8 @@ def run(settings: Settings, program: str, progress: Progress, stopping: Stopping
     try:
         return run_opened(settings, open_packages, program, progress, stopping)
     finally:
-        open_packages.close()
+        with stopping.held():
+            open_packages.close()
 
 
 def run_opened(
@@ -147,7 +148,8 @@ def run_opened(
     for package in packages:
         open_packages.callback(package.close)
     refuse_outputs(settings, packages, None)
-    claim_outputs(settings, open_packages)
+    with stopping.held():
+        claim_outputs(settings, open_packages)
     place = None if settings.prepare is None else place_of(settings.prepare)
     if settings.parameters:
         return tell_parameters(report, packages, progress)
