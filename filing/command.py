@@ -18,7 +18,7 @@ from .every_fault import Converter, Search, Unread, fault_list
 from .final import check_final
 from .finding import Finder, Found
 from .kept_module import Joined, ModuleCache
-from .kinds import REASONS, Kinds, kinds_of
+from .kinds import MONETARY, REASONS, Kinds, kind_of, kinds_of
 from .lost_cells import refuse_lost_cells
 from .metadata import check_parts, merge
 from .nested import open_taxonomy
@@ -43,6 +43,7 @@ from .stopping import (
     temporary_place,
 )
 from .types_table import types_table
+from .units import unitless, warning
 from .words import HELP, Settings, asked, read_words
 
 NAME = "xbrl-filing"
@@ -186,6 +187,8 @@ def convert(origins: Origins, files: Files, types: bytes, settings: Settings, pr
         more = lines.end()
         if more:
             tell(f"{NAME}: {printable(more)}")
+        if status == 0 and files.unitless:
+            tell(f"{NAME}: {printable(warning(files.unitless))}")
         return status
 
 
@@ -301,6 +304,8 @@ def join_anew(
     check_references(merged, files)
     require_parameters(merged, files)
     refuse_lost_cells(merged, lost, files, lambda name: kind_of(name, namespaces, kinds))
+    found = unitless(merged.value, lambda name: kind_of(name, namespaces, kinds) == MONETARY)
+    files.unitless = [it for name in sorted(found) for it in found[name]]
     return origins, files, types_table(kinds, namespaces.values())
 
 
@@ -328,12 +333,6 @@ def read_kinds(chain: Chain, finder: Finder, packages: List[Package], settings: 
         if key_of(taxonomy, urls) == key:  # what was changed while it was read is not kept
             cache.store(key, kinds)
     return kinds
-
-
-def kind_of(name: str, namespaces: Dict[str, str], kinds: Kinds) -> Optional[str]:
-    """Return the kind of a QName of the metadata, or None."""
-    prefix, _, local = name.partition(":")
-    return kinds.get(namespaces.get(prefix, ""), {}).get(local)
 
 
 def refuse_impossible_concepts(origins: Origins, namespaces: Dict[str, str], kinds: Kinds) -> None:

@@ -23,7 +23,7 @@ from .chain import Chain, Metadata, read_metadata
 from .digests import digest_of
 from .final import final_parts
 from .finding import Found
-from .kinds import REASONS, Kinds
+from .kinds import MONETARY, REASONS, Kinds, kind_of
 from .lost_cells import mention_lost
 from .metadata import Merged, Path, objects
 from .origins import Origins
@@ -40,6 +40,7 @@ from .prepared import Files
 from .refusals import Refusal
 from .strict_json import Json, Object, Values
 from .types_table import types_table
+from .units import unitless
 
 # What a report must leave to its module, at its top and in `documentInfo`.
 OF_THE_MODULE = ("tableTemplates", "tables", "dimensions", "decimals", "links")
@@ -66,6 +67,7 @@ class Module:
     final: List[str]  # the parts to which a report may add nothing
     faulty: List[str]  # templates that name what the taxonomy does not have
     lost: Dict[str, str]  # the prefixes that are replaced
+    unitless: Dict[str, List[str]]  # what `units.unitless` returns
     types: Block
     templates: Dict[str, Block]
 
@@ -160,6 +162,8 @@ class ModuleCache:
                 for name in used_templates:
                     merged.texts[name] = read_block(file, start, module.templates[name])
                 types = read_block(file, start, module.types)
+                found = {name: module.unitless.get(name, []) for name in used_templates}
+                files.unitless = [it for name in sorted(found) for it in found[name]]
         except (OSError, ValueError, LookupError, TypeError, RecursionError, Refusal):
             return None
         used(self.path())
@@ -195,6 +199,10 @@ class ModuleCache:
         if faulty is None or not isinstance(merged.value.get("tableTemplates", {}), dict):
             return
         module_files = list(chain)[1:]
+
+        def is_monetary(name: str) -> bool:
+            return kind_of(name, namespaces, kinds) == MONETARY
+
         blocks: List[bytes] = []
         place = 0
 
@@ -210,6 +218,7 @@ class ModuleCache:
             "final": sorted({part for it in module_files for part in final_parts(it)}),
             "faulty": sorted(faulty),
             "lost": renaming.lost,
+            "unitless": unitless(merged.value, is_monetary),
             "types": block(types_table(kinds, namespaces.values())),
             "templates": {name: block(compact(it)) for name, it in templates.items()},
         }
@@ -245,16 +254,14 @@ def faulty_templates(
 
     None if one is at the metadata's top, so that all reports would be refused.
     """
-    paths: List[Path] = []
 
-    def kind_of(name: str) -> Optional[str]:
-        prefix, _, local = name.partition(":")
-        return kinds.get(namespaces.get(prefix, ""), {}).get(local)
+    def kind(name: str) -> Optional[str]:
+        return kind_of(name, namespaces, kinds)
 
-    paths += [path for concept, path in merged.concepts() if REASONS.get(kind_of(concept) or "")]
+    paths = [path for concept, path in merged.concepts() if REASONS.get(kind(concept) or "")]
     if "taxonomy" in merged.value["documentInfo"]:
         for dimension, path in merged.taxonomy_dimensions():
-            if kind_of(dimension) not in ("explicit", "typed"):
+            if kind(dimension) not in ("explicit", "typed"):
                 paths.append(path)
     if any(it[0] != "tableTemplates" for it in paths):
         return None
