@@ -26,13 +26,13 @@ from .finding import Found
 from .kinds import MONETARY, REASONS, Kinds, kind_of
 from .lost_cells import mention_lost
 from .metadata import Merged, Path, objects
+from .named import Named, names_of, reference
 from .origins import Origins
 from .packages import Package
 from .parameters import (
     OF_EACH_FACT,
     check_parameters,
     check_references,
-    reference,
     require_parameters,
 )
 from .prefixes import Renaming
@@ -152,7 +152,7 @@ class ModuleCache:
                 files.require_parameters()
                 files.refuse_unread()
                 check_parameters(merged, Renaming(module.lost, lambda _: False), files)
-                check_references(merged, files)
+                check_references(merged, files, names_of(merged.value).references)
                 require_parameters(merged, files)
                 if mention_lost(files, module.lost):
                     return None
@@ -188,6 +188,7 @@ class ModuleCache:
         self,
         chain: Chain,
         merged: Merged,
+        named: Named,
         renaming: Renaming,
         namespaces: Dict[str, str],
         kinds: Kinds,
@@ -195,7 +196,8 @@ class ModuleCache:
         """Write the entry of a module that was just merged, before anything is left out of it."""
         if self.key is None or os.path.exists(self.path()):
             return
-        faulty = faulty_templates(merged, namespaces, kinds)
+        has_taxonomy = "taxonomy" in merged.value["documentInfo"]
+        faulty = faulty_templates(named, has_taxonomy, namespaces, kinds)
         if faulty is None or not isinstance(merged.value.get("tableTemplates", {}), dict):
             return
         module_files = list(chain)[1:]
@@ -248,7 +250,7 @@ def is_plain_report(own: Metadata) -> bool:
 
 
 def faulty_templates(
-    merged: Merged, namespaces: Dict[str, str], kinds: Kinds
+    named: Named, has_taxonomy: bool, namespaces: Dict[str, str], kinds: Kinds
 ) -> Optional[Set[str]]:
     """Return the templates with a concept or a dimension that would be refused.
 
@@ -258,14 +260,11 @@ def faulty_templates(
     def kind(name: str) -> Optional[str]:
         return kind_of(name, namespaces, kinds)
 
-    paths = [path for concept, path in merged.concepts() if REASONS.get(kind(concept) or "")]
-    if "taxonomy" in merged.value["documentInfo"]:
-        for dimension, path in merged.taxonomy_dimensions():
-            if kind(dimension) not in ("explicit", "typed"):
-                paths.append(path)
-    if any(it[0] != "tableTemplates" for it in paths):
-        return None
-    return {it[1] for it in paths}
+    found = {template for it, template in named.concepts if REASONS.get(kind(it) or "")}
+    if has_taxonomy:
+        known = ("explicit", "typed")
+        found |= {template for it, template in named.dimensions if kind(it) not in known}
+    return None if None in found else {it for it in found if it is not None}
 
 
 def sketch(template: Json) -> Json:
