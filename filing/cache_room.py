@@ -2,13 +2,13 @@
 
 from __future__ import annotations
 
-import fcntl
 import os
 import re
 import time
 from contextlib import contextmanager, suppress
 from typing import Iterator, List, Tuple
 
+from .locks import locked, write_aside
 from .refusals import cannot_write
 
 LIMIT = 2 << 30  # bytes; a large module takes 70 MB
@@ -34,13 +34,7 @@ def store(path: str, pieces: List[bytes]) -> None:
     aside = f"{path}.{os.urandom(8).hex()}"
     try:
         os.makedirs(folder, exist_ok=True)
-        try:
-            with open(aside, "xb") as file:
-                file.writelines(pieces)
-            os.replace(aside, path)
-        finally:
-            if os.path.lexists(aside):
-                os.unlink(aside)
+        write_aside(path, aside, pieces)
     except OSError as error:
         raise cannot_write(folder, error) from None
     trim(folder, os.path.basename(path))
@@ -80,20 +74,9 @@ def claimed(folder: str) -> Iterator[None]:
         lock = os.open(folder, os.O_RDONLY | os.O_CLOEXEC)
     try:
         until = time.monotonic() + LONGEST_WAIT
-        while lock >= 0 and not is_locked(lock) and time.monotonic() < until:
+        while lock >= 0 and not locked(lock) and time.monotonic() < until:
             time.sleep(LOOKS_EVERY)
         yield
     finally:
         if lock >= 0:
             os.close(lock)
-
-
-def is_locked(lock: int) -> bool:
-    """Lock a folder if no other run has; return whether there is nothing to wait for."""
-    try:
-        fcntl.flock(lock, fcntl.LOCK_EX | fcntl.LOCK_NB)
-    except BlockingIOError:
-        return False
-    except OSError:
-        return True
-    return True

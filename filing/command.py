@@ -18,9 +18,10 @@ from .every_fault import Converter, Search, Unread, fault_list
 from .final import check_final
 from .finding import Finder, Found
 from .kept_module import Joined, ModuleCache
-from .kinds import REASONS, Kinds, kinds_of
+from .kinds import MONETARY, REASONS, Kinds, kind_of, kinds_of
 from .lost_cells import refuse_lost_cells
 from .metadata import check_parts, merge
+from .named import Places, names_of
 from .nested import open_taxonomy
 from .origins import Origins
 from .outputs import claim_outputs, refuse_outputs
@@ -46,6 +47,7 @@ from .stopping import (
     temporary_place,
 )
 from .types_table import types_table
+from .units import unitless, warning
 from .words import HELP, Settings, asked, read_words
 
 NAME = "xbrl-filing"
@@ -138,7 +140,8 @@ def run(settings: Settings, program: str, progress: Progress, stopping: Stopping
     try:
         return run_opened(settings, open_packages, program, progress, stopping)
     finally:
-        open_packages.close()
+        with stopping.held():
+            open_packages.close()
 
 
 def run_opened(
@@ -153,7 +156,8 @@ def run_opened(
     for package in packages:
         open_packages.callback(package.close)
     refuse_outputs(settings, packages, None)
-    claim_outputs(settings, open_packages)
+    with stopping.held():
+        claim_outputs(settings, open_packages)
     place = None if settings.prepare is None else place_of(settings.prepare)
     if settings.parameters:
         return tell_parameters(report, packages, progress)
@@ -192,6 +196,8 @@ def convert(origins: Origins, files: Files, types: bytes, settings: Settings, pr
         more = lines.end()
         if more:
             tell(f"{NAME}: {printable(more)}")
+        if status == 0 and files.unitless:
+            tell(f"{NAME}: {printable(warning(files.unitless))}")
         page.write(status, lines, files)
         return status
 
@@ -298,18 +304,22 @@ def join_anew(
     renaming = Renaming(lost, lambda name: kind_of(name, namespaces, kinds) == "explicit")
     merged = merge(chain, renaming)
     origins = Origins(merged, chain, renaming)
+    named = names_of(merged.value)
     if module is not None:
-        module.keep(chain, merged, renaming, namespaces, kinds)
+        module.keep(chain, merged, named, renaming, namespaces, kinds)
     files = Files(report, merged)
     files.leave_out_absent()
-    refuse_impossible_concepts(origins, namespaces, kinds)
-    refuse_unknown_dimensions(origins, namespaces, kinds)
+    named = named.used_by(merged.value.get("tableTemplates", {}))
+    refuse_impossible_concepts(origins, named.concepts, namespaces, kinds)
+    refuse_unknown_dimensions(origins, named.dimensions, namespaces, kinds)
     files.require_parameters()
     files.refuse_unread()
     check_parameters(merged, renaming, files)
-    check_references(merged, files)
+    check_references(merged, files, named.references)
     require_parameters(merged, files)
     refuse_lost_cells(merged, lost, files, lambda name: kind_of(name, namespaces, kinds))
+    found = unitless(merged.value, lambda name: kind_of(name, namespaces, kinds) == MONETARY)
+    files.unitless = [it for name in sorted(found) for it in found[name]]
     return origins, files, types_table(kinds, namespaces.values())
 
 
@@ -339,29 +349,27 @@ def read_kinds(chain: Chain, finder: Finder, packages: List[Package], settings: 
     return kinds
 
 
-def kind_of(name: str, namespaces: Dict[str, str], kinds: Kinds) -> Optional[str]:
-    """Return the kind of a QName of the metadata, or None."""
-    prefix, _, local = name.partition(":")
-    return kinds.get(namespaces.get(prefix, ""), {}).get(local)
-
-
-def refuse_impossible_concepts(origins: Origins, namespaces: Dict[str, str], kinds: Kinds) -> None:
+def refuse_impossible_concepts(
+    origins: Origins, concepts: Places, namespaces: Dict[str, str], kinds: Kinds
+) -> None:
     """Refuse metadata that names a concept which the types table cannot have."""
-    for concept, path in origins.merged.concepts():
+    for (concept, _), path in concepts.items():
         reason = REASONS.get(kind_of(concept, namespaces, kinds) or "")
         if reason:
             label, there = origins.own_path(path)
             raise wrong(label, f"names the concept '{concept}', which {reason} ({'.'.join(there)})")
 
 
-def refuse_unknown_dimensions(origins: Origins, namespaces: Dict[str, str], kinds: Kinds) -> None:
+def refuse_unknown_dimensions(
+    origins: Origins, dimensions: Places, namespaces: Dict[str, str], kinds: Kinds
+) -> None:
     """Refuse metadata that names a dimension which the taxonomy does not have.
 
     xbrl-json would refuse it too, but without its name. See Dimensions 1.0, section 2.
     """
     if "taxonomy" not in origins.merged.value["documentInfo"]:
         return
-    for dimension, path in origins.merged.taxonomy_dimensions():
+    for (dimension, _), path in dimensions.items():
         if kind_of(dimension, namespaces, kinds) not in ("explicit", "typed"):
             known = dimension.partition(":")[0] in namespaces
             reason = "which no schema that the taxonomy reaches has as one" if known else "whose prefix is not among 'namespaces'"

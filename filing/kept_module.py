@@ -23,16 +23,16 @@ from .chain import Chain, Metadata, read_metadata
 from .digests import digest_of
 from .final import final_parts
 from .finding import Found
-from .kinds import REASONS, Kinds
+from .kinds import MONETARY, REASONS, Kinds, kind_of
 from .lost_cells import mention_lost
 from .metadata import Merged, Path, objects
+from .named import Named, names_of, reference
 from .origins import Origins
 from .packages import Package
 from .parameters import (
     OF_EACH_FACT,
     check_parameters,
     check_references,
-    reference,
     require_parameters,
 )
 from .prefixes import Renaming
@@ -40,6 +40,7 @@ from .prepared import Files
 from .refusals import Refusal
 from .strict_json import Json, Object, Values
 from .types_table import types_table
+from .units import unitless
 
 # What a report must leave to its module, at its top and in `documentInfo`.
 OF_THE_MODULE = ("tableTemplates", "tables", "dimensions", "decimals", "links")
@@ -66,6 +67,7 @@ class Module:
     final: List[str]  # the parts to which a report may add nothing
     faulty: List[str]  # templates that name what the taxonomy does not have
     lost: Dict[str, str]  # the prefixes that are replaced
+    unitless: Dict[str, List[str]]  # what `units.unitless` returns
     types: Block
     templates: Dict[str, Block]
 
@@ -150,7 +152,7 @@ class ModuleCache:
                 files.require_parameters()
                 files.refuse_unread()
                 check_parameters(merged, Renaming(module.lost, lambda _: False), files)
-                check_references(merged, files)
+                check_references(merged, files, names_of(merged.value).references)
                 require_parameters(merged, files)
                 if mention_lost(files, module.lost):
                     return None
@@ -160,6 +162,8 @@ class ModuleCache:
                 for name in used_templates:
                     merged.texts[name] = read_block(file, start, module.templates[name])
                 types = read_block(file, start, module.types)
+                found = {name: module.unitless.get(name, []) for name in used_templates}
+                files.unitless = [it for name in sorted(found) for it in found[name]]
         except (OSError, ValueError, LookupError, TypeError, RecursionError, Refusal):
             return None
         used(self.path())
@@ -184,6 +188,7 @@ class ModuleCache:
         self,
         chain: Chain,
         merged: Merged,
+        named: Named,
         renaming: Renaming,
         namespaces: Dict[str, str],
         kinds: Kinds,
@@ -191,10 +196,15 @@ class ModuleCache:
         """Write the entry of a module that was just merged, before anything is left out of it."""
         if self.key is None or os.path.exists(self.path()):
             return
-        faulty = faulty_templates(merged, namespaces, kinds)
+        has_taxonomy = "taxonomy" in merged.value["documentInfo"]
+        faulty = faulty_templates(named, has_taxonomy, namespaces, kinds)
         if faulty is None or not isinstance(merged.value.get("tableTemplates", {}), dict):
             return
         module_files = list(chain)[1:]
+
+        def is_monetary(name: str) -> bool:
+            return kind_of(name, namespaces, kinds) == MONETARY
+
         blocks: List[bytes] = []
         place = 0
 
@@ -210,6 +220,7 @@ class ModuleCache:
             "final": sorted({part for it in module_files for part in final_parts(it)}),
             "faulty": sorted(faulty),
             "lost": renaming.lost,
+            "unitless": unitless(merged.value, is_monetary),
             "types": block(types_table(kinds, namespaces.values())),
             "templates": {name: block(compact(it)) for name, it in templates.items()},
         }
@@ -239,26 +250,21 @@ def is_plain_report(own: Metadata) -> bool:
 
 
 def faulty_templates(
-    merged: Merged, namespaces: Dict[str, str], kinds: Kinds
+    named: Named, has_taxonomy: bool, namespaces: Dict[str, str], kinds: Kinds
 ) -> Optional[Set[str]]:
     """Return the templates with a concept or a dimension that would be refused.
 
     None if one is at the metadata's top, so that all reports would be refused.
     """
-    paths: List[Path] = []
 
-    def kind_of(name: str) -> Optional[str]:
-        prefix, _, local = name.partition(":")
-        return kinds.get(namespaces.get(prefix, ""), {}).get(local)
+    def kind(name: str) -> Optional[str]:
+        return kind_of(name, namespaces, kinds)
 
-    paths += [path for concept, path in merged.concepts() if REASONS.get(kind_of(concept) or "")]
-    if "taxonomy" in merged.value["documentInfo"]:
-        for dimension, path in merged.taxonomy_dimensions():
-            if kind_of(dimension) not in ("explicit", "typed"):
-                paths.append(path)
-    if any(it[0] != "tableTemplates" for it in paths):
-        return None
-    return {it[1] for it in paths}
+    found = {template for it, template in named.concepts if REASONS.get(kind(it) or "")}
+    if has_taxonomy:
+        known = ("explicit", "typed")
+        found |= {template for it, template in named.dimensions if kind(it) not in known}
+    return None if None in found else {it for it in found if it is not None}
 
 
 def sketch(template: Json) -> Json:

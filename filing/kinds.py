@@ -17,6 +17,7 @@ NUMERIC_REGISTRY = REGISTRY + "numeric"
 
 # What no fact can have, though metadata may name it: a refusal has the words of `REASONS`.
 TUPLE, FRACTION, UNKNOWN = "!tuple", "!fraction", "!unknown"
+MONETARY = "monetary"  # a kind of its own here, because its facts need a unit
 REASONS = {
     TUPLE: "is a tuple, which no table can have",
     FRACTION: "is a fraction, which xBRL-JSON cannot have",
@@ -34,7 +35,8 @@ def item_types(word: str, names: str) -> Dict[str, str]:
 
 # XBRL 2.1, section 5.1.1.3.
 INSTANCE_TYPES = {
-    **item_types("decimal", "decimal monetary shares pure"),
+    **item_types("decimal", "decimal shares pure"),
+    **item_types(MONETARY, "monetary"),
     **item_types("integer", "integer nonPositiveInteger negativeInteger nonNegativeInteger positiveInteger long int short byte"),
     **item_types("integer", "unsignedLong unsignedInt unsignedShort unsignedByte"),
     **item_types("double", "float double"),
@@ -53,7 +55,8 @@ REGISTRY_TYPES = {
     **item_types("text", "textBlock escaped xml xmlNodes"),
     **item_types("decimal", "percent perShare area volume mass weight energy power length memory force frequency pressure temperature"),
     **item_types("decimal", "voltage electricCurrent electricCharge planeAngle ghgEmissions insolation irradiance speed flow massFlow"),
-    **item_types("decimal", "noDecimalsMonetary nonNegativeMonetary nonNegativeNoDecimalsMonetary monetaryPerLength monetaryPerArea"),
+    **item_types(MONETARY, "noDecimalsMonetary nonNegativeMonetary nonNegativeNoDecimalsMonetary"),
+    **item_types("decimal", "monetaryPerLength monetaryPerArea"),
     **item_types("decimal", "monetaryPerVolume monetaryPerDuration monetaryPerEnergy monetaryPerMass energyPerMonetary"),
     **item_types("decimal", "ghgEmissionsPerMonetary volumePerMonetary perUnit"),
 }
@@ -67,8 +70,13 @@ ENUMERATIONS = {
     ("http://xbrl.org/2020/extensible-enumerations-2.0", "enumerationSetItemType"): "other",
 }
 
-# A word of the types table, or one of `REASONS`, by namespace and name.
+# A word of the types table, MONETARY, or one of `REASONS`, by namespace and name.
 Kinds = Dict[str, Dict[str, str]]
+
+
+def table_word(kind: str) -> Optional[str]:
+    """Return the word of the types table for a kind; None for what no fact can have."""
+    return None if kind.startswith("!") else "decimal" if kind == MONETARY else kind
 
 
 def known_word(name: Name) -> Optional[str]:
@@ -176,3 +184,9 @@ def kinds_of(declared: Declared) -> Kinds:
         if kinds:
             found[namespace] = kinds
     return found
+
+
+def kind_of(name: str, namespaces: Dict[str, str], kinds: Kinds) -> Optional[str]:
+    """Return the kind of a QName of the metadata, or None."""
+    prefix, _, local = name.partition(":")
+    return kinds.get(namespaces.get(prefix, ""), {}).get(local)

@@ -7,7 +7,7 @@ from typing import Dict, List, Optional, Sequence
 
 from .command import run
 from .finding import Finder
-from .kinds import kinds_of
+from .kinds import kinds_of, table_word
 from .nested import open_taxonomy
 from .packages import Beside, Package
 from .progress import Progress
@@ -47,10 +47,13 @@ def kinds(packages: Sequence[str], entries: Sequence[str]) -> Dict[str, Dict[str
         finder = Finder(Beside("entry points"), taxonomy)
         asked = [Reference(Place(it), "entry points", "entry", "") for it in entries]
         found = kinds_of(read_schemas(asked, finder, silent()))
-    return {
-        namespace: {name: word for name, word in words.items() if not word.startswith("!")}
-        for namespace, words in found.items()
-    }
+    return {namespace: words_of(kinds) for namespace, kinds in found.items()}
+
+
+def words_of(kinds: Dict[str, str]) -> Dict[str, str]:
+    """Return the words of the types table for the kinds that have one."""
+    words = ((name, table_word(kind)) for name, kind in kinds.items())
+    return {name: word for name, word in words if word is not None}
 
 
 def silent() -> Progress:

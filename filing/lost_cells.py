@@ -15,8 +15,8 @@ from itertools import chain
 from typing import Callable, Dict, Iterable, Iterator, List, Optional, Set, Tuple
 
 from .metadata import Merged, objects
+from .named import reference
 from .packages import LARGEST_TEXT
-from .parameters import reference
 from .prepared import Files
 from .refusals import wrong
 from .strict_json import Json, Object

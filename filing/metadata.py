@@ -73,22 +73,6 @@ class Merged:
             else:
                 self.put(("tables", name, member), value, label)
 
-    def concepts(self) -> Iterator[Tuple[str, Path]]:
-        """Yield each concept that is named by a literal, and where."""
-        for path, level in levels(self.value):
-            dimensions = level.get("dimensions")
-            concept = dimensions.get("concept") if isinstance(dimensions, dict) else None
-            if isinstance(concept, str):
-                yield concept, path + ("dimensions", "concept")
-
-    def taxonomy_dimensions(self) -> Iterator[Tuple[str, Path]]:
-        """Yield each dimension of the taxonomy that is named, and where."""
-        for path, level in levels(self.value):
-            dimensions = level.get("dimensions")
-            for name in dimensions if isinstance(dimensions, dict) else ():
-                if ":" in name:
-                    yield name, path + ("dimensions", name)
-
     def text(self) -> bytes:
         """Return the file's bytes: compact, with members in the order of their names."""
         return (json.dumps(self.value, ensure_ascii=False, sort_keys=True, separators=(",", ":")) + "\n").encode()

@@ -2,7 +2,6 @@
 
 from __future__ import annotations
 
-import fcntl
 import json
 import os
 import resource
@@ -13,6 +12,7 @@ from dataclasses import dataclass
 from typing import Callable, List, Optional, Tuple
 
 from .digests import digest_of
+from .locks import locked
 from .outcomes import BUSY, FINAL, Outcome, read_outcome, write_outcome
 from .packages import open_package
 from .page_output import is_page
@@ -138,7 +138,7 @@ def work(task: Task, told: Told, pipe: int, convert: Convert) -> int:
     take_streams(open_log(task.paths.log))
     if task.memory_limit is not None:
         resource.setrlimit(resource.RLIMIT_DATA, (task.memory_limit, task.memory_limit))
-    if not claim(2):
+    if not locked(2):  # the log, which the report's processes hold open to their end
         told.word = BUSY
         told.line = f"xbrl-filing: {task.report}: another run has it in hand"
         told.write(pipe)
@@ -187,21 +187,6 @@ def take_streams(log: int) -> None:
     os.dup2(nothing, 1)
     os.dup2(log, 2)
     sys.stderr = open(2, "w", encoding="utf-8", errors="backslashreplace", closefd=False)
-
-
-def claim(log: int) -> bool:
-    """Return whether no other run has this report in hand.
-
-    The lock is on the log, which the report's processes hold open to their end. A file system
-    without locks has no such check.
-    """
-    try:
-        fcntl.flock(log, fcntl.LOCK_EX | fcntl.LOCK_NB)
-    except BlockingIOError:
-        return False
-    except OSError:
-        return True
-    return True
 
 
 def digest_of_report(task: Task) -> str:

@@ -11,6 +11,7 @@ from dataclasses import asdict, dataclass, fields, replace
 from typing import Dict, Iterable, List, Optional, Tuple
 
 from .csv_text import record, records
+from .locks import write_aside
 from .refusals import FILES, WRONG, cannot_write
 
 # The outcome words. A report with one of the first two is not converted again.
@@ -74,13 +75,7 @@ def write_outcome(path: str, outcome: Outcome) -> None:
     folder, name = os.path.split(path)
     aside = os.path.join(folder, f".{name}.{os.urandom(8).hex()}")
     try:
-        try:
-            with open(aside, "x", encoding="utf-8") as file:
-                file.write(outcome.json())
-            os.replace(aside, path)
-        finally:
-            if os.path.lexists(aside):
-                os.unlink(aside)
+        write_aside(path, aside, [outcome.json().encode()])
     except OSError as error:
         raise cannot_write(path, error) from None
 

@@ -5,17 +5,17 @@
 
 from __future__ import annotations
 
-import errno
 import os
-import socket
 import stat
 from contextlib import ExitStack
 from typing import Iterator, List, Optional
 
 from .digests import digest_of
+from .locks import lock_by_name, locked
 from .packages import FolderPackage, Package
 from .prepared import Files
 from .refusals import cannot_write
+from .stopping import temporary_place
 from .words import Settings
 
 
@@ -43,35 +43,26 @@ def refuse_outputs(settings: Settings, packages: List[Package], files: Optional[
 def claim_outputs(settings: Settings, opened: ExitStack) -> None:
     """Claim the files that xbrl-json is to write until `opened` is closed.
 
-    Refuse one that another run on this machine has claimed: both would write into it.
+    Refuse one that another run has claimed, because both would write into it. A file that does not
+    exist yet is claimed by its path. Pipes and devices are not claimed.
     """
-    keys = {key: output for output in settings.outputs() for key in keys_of(output)}
-    for key, output in keys.items():
-        claim = socket.socket(socket.AF_UNIX)
-        opened.callback(claim.close)
-        try:
-            claim.bind(b"\0xbrl-filing/" + digest_of(key).hex().encode())
-        except OSError as error:
-            if error.errno == errno.EADDRINUSE:
-                raise cannot_write(output, "another run writes it") from None
-            continue  # a system without names for sockets that are no files
-        claim.set_inheritable(True)  # xbrl-json holds it if this program ends by force
+    for path, output in {os.path.realpath(it): it for it in settings.outputs()}.items():
+        if os.path.exists(path) and not os.path.isfile(path):
+            continue
+        name = f"xbrl-filing-{digest_of(os.fsencode(path)).hex()}.lock"
+        if not (lock_by_name(os.path.join(temporary_place(), name), opened) and lock_there(path, opened)):
+            raise cannot_write(output, "another run writes it")
 
 
-def keys_of(output: str) -> Iterator[bytes]:
-    """Yield what a file that may be written is known by: its path, and the file that is there.
-
-    Yield nothing for a pipe or a device, which several runs may write.
-    """
-    path = os.path.realpath(output)
+def lock_there(path: str, opened: ExitStack) -> bool:
+    """Lock a file that exists, and return whether no other run holds it."""
     try:
-        known = os.stat(path)
+        file = os.open(path, os.O_RDONLY)
     except OSError:
-        yield os.fsencode(path)
-        return
-    if stat.S_ISREG(known.st_mode):
-        yield os.fsencode(path)
-        yield f"{known.st_dev}/{known.st_ino}".encode()
+        return True
+    opened.callback(os.close, file)
+    os.set_inheritable(file, True)
+    return locked(file)
 
 
 def input_files(settings: Settings, files: Optional[Files]) -> Iterator[str]:

@@ -8,18 +8,17 @@ from __future__ import annotations
 
 import csv
 import io
-import re
 from itertools import islice
 from typing import Dict, Iterator, List, Optional, Tuple
 
 from .metadata import Merged, Path, levels, objects
+from .named import Places, reference
 from .packages import LARGEST_TEXT
 from .prefixes import Renaming
 from .prepared import Files
 from .refusals import wrong
 from .strict_json import Json, Object
 
-SIDE = re.compile(r"@(?:start|end)\Z")
 OF_EACH_FACT = ("entity", "period")  # what no fact of a filing does without
 ROW_NUMBER = "rowNumber"  # a reference that needs no parameter
 MOST_RECORDS = 65536  # of a parameters file that xbrl-json takes
@@ -36,10 +35,14 @@ def check_parameters(merged: Merged, renaming: Renaming, files: Files) -> None:
             raise wrong(label, f"the parameter '{name}' has the prefix '{prefix}', whose namespace has the prefix '{stands}' here: write '{stands}' ({text})")
 
 
-def check_references(merged: Merged, files: Files) -> None:
-    """Refuse an unused parameter that differs only in capitals from one that a template needs."""
+def check_references(merged: Merged, files: Files, named: Places) -> None:
+    """Refuse an unused parameter that differs only in capitals from one that a template needs.
+
+    `named` are the references of the metadata.
+    """
     given = {name: label for name, _, label in (*parameters_of_metadata(merged), *parameters_of_file(files))}
-    named = dict.fromkeys(references(merged)) if given else {}
+    if not given:
+        return
     used = {name for name, _ in named}
     spelt = {name.lower(): name for name in given if name not in used}
     columns = {name: columns_of(template) for name, template in objects(merged.value, "tableTemplates")}
@@ -125,15 +128,6 @@ def template_without(name: str, owner: Optional[str], columns: Dict[str, Object]
     return None if name == ROW_NUMBER else next((it for it in (columns if owner is None else [owner]) if name not in columns[it]), None)
 
 
-def references(merged: Merged) -> Iterator[Tuple[str, Optional[str]]]:
-    """Yield each name that is referred to, and the template that refers.
-
-    The template is None for the report's own level, which all templates have.
-    """
-    for name, path in placed_references(merged):
-        yield name, path[1] if path[0] == "tableTemplates" else None
-
-
 def placed_references(merged: Merged) -> Iterator[Tuple[str, Path]]:
     """Yield each name that `dimensions` and `decimals` refer to, and where.
 
@@ -148,16 +142,6 @@ def placed_references(merged: Merged) -> Iterator[Tuple[str, Path]]:
         name = reference("decimals", level.get("decimals"))
         if name is not None:
             yield name, (*path, "decimals")
-
-
-def reference(key: str, text: Json) -> Optional[str]:
-    """Return the name of the column or parameter to which a text refers, or None.
-
-    `key` is the dimension whose text it is.
-    """
-    if not isinstance(text, str) or not text.startswith("$") or text.startswith("$$"):
-        return None
-    return SIDE.sub("", text[1:]) if key == "period" else text[1:]
 
 
 def parameters_of_metadata(merged: Merged) -> Iterator[Tuple[str, str, str]]:

@@ -57,6 +57,7 @@ class Files:
         self.tables: Set[str] = {it["url"] for it in tables if isinstance(it, dict) and is_plain(it.get("url"))}
         parameters = merged.value.get("parameterURL")
         self.parameters: Optional[str] = parameters if is_plain(parameters) else None
+        self.unitless: List[str] = []  # monetary concepts whose facts have no unit
 
     def all(self) -> List[str]:
         return sorted(self.tables | ({self.parameters} if self.parameters is not None else set()))

@@ -4,7 +4,7 @@ from __future__ import annotations
 
 from typing import Iterable, List
 
-from .kinds import Kinds
+from .kinds import Kinds, table_word
 
 HEADER = "namespace,name,type2\n"
 
@@ -17,8 +17,8 @@ def types_table(kinds: Kinds, namespaces: Iterable[str]) -> bytes:
     lines: List[str] = [HEADER]
     for namespace in sorted(set(namespaces)):
         front = quoted(namespace)
-        words = kinds.get(namespace, {})
-        lines += [f"{front},{name},{words[name]}\n" for name in sorted(words) if not words[name].startswith("!")]
+        words = {name: table_word(kind) for name, kind in kinds.get(namespace, {}).items()}
+        lines += [f"{front},{name},{words[name]}\n" for name in sorted(words) if words[name]]
     return "".join(lines).encode()
 
 

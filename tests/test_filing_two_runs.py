@@ -35,7 +35,15 @@ class TwoRuns(unittest.TestCase):
         played = self.folder / "played"
         played.write_text(PLAYED)
         played.chmod(0o755)
-        self.env = {**os.environ, "REAL": PROGRAM, "XBRL_JSON": str(played), "HELD": ""}
+        self.temporary = self.folder / "tmp"
+        self.temporary.mkdir()
+        self.env = {
+            **os.environ,
+            "REAL": PROGRAM,
+            "XBRL_JSON": str(played),
+            "HELD": "",
+            "TMPDIR": str(self.temporary),
+        }
 
     def start(self, words: List[str]) -> subprocess.Popen[bytes]:
         """Start a run that waits, and return once it has begun to convert."""
@@ -90,6 +98,16 @@ class TwoRuns(unittest.TestCase):
         self.assertEqual(first.wait(SOON), 0)
         self.assertEqual(out.read_bytes(), (self.folder / "other.json").read_bytes())
         self.assertEqual(self.run_beside(["--out", "out.json"]).returncode, 0)
+        self.assertEqual(list(self.temporary.iterdir()), [])
+
+    def test_other_temporary_folder(self) -> None:
+        """A file that exists is claimed from runs with another folder of temporary files, too."""
+        (self.folder / "out.json").write_text("before\n")
+        first = self.start(["--out", "out.json"])
+        self.env["TMPDIR"] = str(self.folder)
+        self.refused(["--out", "out.json"], "out.json")
+        (self.folder / "go").touch()
+        self.assertEqual(first.wait(SOON), 0)
 
     def test_end_by_force(self) -> None:
         """The file stays claimed while xbrl-json writes, also if the run itself is killed."""
