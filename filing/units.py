@@ -1,7 +1,7 @@
-"""Monetary facts without a unit, as far as the metadata alone tells.
+"""Monetary facts without a unit, as far as the metadata tells.
 
 A fact without a unit is a pure number (xBRL-CSV 1.0, `unit`). For an amount of money that is never
-meant, but it is no fault of the standard: so a line warns, and the document is written.
+meant, but the standard allows it: so a line warns, and the document is written.
 """
 
 from __future__ import annotations

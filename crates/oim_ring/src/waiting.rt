@@ -125,9 +125,8 @@ impl FeedWaiting {
         }
     }
 
-    /// Notes that a block was sent, that `waiting` blocks wait, and that `most` may. Wakes the drain
-    /// if they are three quarters of them. A drain that is not woken finds the blocks after its
-    /// sleep.
+    /// Notes that a block was sent, and that `waiting` of at most `most` blocks wait. If these are
+    /// three quarters, wakes the drain. A drain that is not woken finds them after its sleep.
     pub(crate) fn tell_of(&mut self, waiting: usize, most: usize) {
         if waiting >= most - most / 4 {
             self.wake();
