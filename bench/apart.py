@@ -1,17 +1,19 @@
 #!/usr/bin/env python3
-"""Compares a run with four workers to four programs that share nothing.
+"""Compares a run with four workers to four programs that share nothing, and to one worker.
 
     bench/apart.py PROGRAM [PLAIN] [--megabytes 48] [--rounds 11] [--real-time]
 
 PROGRAM is the program's file, PLAIN that of plain Rust (`plain`), if there is one. The first line
 is what the machine can give: four programs of one worker, each on a quarter of a report, at once.
-The others are whole reports of the same shape and size: one table, eight, eight of which one has
-40 % of the bytes, one with identifiers, and tables of 200 columns. Each is made by `generate.py`
+The second is the same for rows with identifiers. The others are whole reports of the same size: one
+table, eight, eight of which one has 40 % of the bytes, one and eight with identifiers, and tables
+of 200 columns. Two lines are held to one processor and to two. Each report is made by `generate.py`
 and written to /dev/null, unless a file is named.
 
 A line has the median and the least of the rounds, which take turns, both also as a multiple of the
-line that it is compared with; processor seconds; and the largest memory of one further run. With
---real-time each run has real-time priority, which needs a privilege and keeps other work away.
+line that it is compared with; the medians of processor seconds, of sleeps, of preemptions and of
+page faults; and the largest memory of one further run. The runs have the ordinary scheduler. With
+--real-time each has real-time priority, which needs a privilege and keeps other work away.
 Needs Linux, GNU time (/usr/bin/time) and Python 3.9 or later.
 """
 from __future__ import annotations
@@ -24,24 +26,36 @@ import sys
 import tempfile
 import time
 from pathlib import Path
-from typing import Dict, List, NamedTuple, Optional
+from typing import Callable, Dict, List, NamedTuple, Optional
 
 HERE = Path(__file__).resolve().parent
 
 
 class Line(NamedTuple):
-    """What is run at once, where its output goes, and the line that it is compared with."""
+    """What is run at once, where its output goes, and the line that it is compared with.
+
+    The runs are held to that number of processors. With 0 they may use all.
+    """
 
     commands: List[List[str]]
     output: str
     by: Optional[str]
+    processors: int = 0
 
 
 class Seen(NamedTuple):
-    """The seconds of clock and of processor of a round."""
+    """The seconds of clock and of processor of a round, its switches and its page faults."""
 
     clock: float
     processor: float
+    sleeps: int
+    preemptions: int
+    faults: int
+
+
+def absolute(path: str) -> str:
+    """Returns the absolute path of a file."""
+    return os.path.abspath(path)
 
 
 def generate(folder: Path, megabytes: float, *words: str) -> List[str]:
@@ -53,20 +67,27 @@ def generate(folder: Path, megabytes: float, *words: str) -> List[str]:
 def lines_of(program: str, plain: Optional[str], folder: Path, megabytes: float) -> Dict[str, Line]:
     """The lines of the table, by their names."""
     quarters = [generate(folder / f"quarter{i}", megabytes / 4, "--tables", "2") for i in range(4)]
+    named_quarters = [generate(folder / f"named{i}", megabytes / 4, "--tables", "2", "--row-ids") for i in range(4)]
     one = generate(folder / "one", megabytes, "--tables", "1")
     eight = generate(folder / "eight", megabytes)
     unequal = generate(folder / "unequal", megabytes, "--largest", "40")
     named = generate(folder / "named", megabytes, "--tables", "1", "--row-ids")
+    all_named = generate(folder / "all_named", megabytes, "--row-ids")
     wide = generate(folder / "wide", megabytes / 2, "--shape", "wide")
-    four = "four programs of one worker"
+    four, four_named, alone = "four programs of one worker", "the same with identifiers", "eight with identifiers, one worker"
     document, copy = str(folder / "document.json"), str(folder / "copy.json")
     lines = {
         four: Line([[program, *it, "--workers", "1"] for it in quarters], os.devnull, None),
+        four_named: Line([[program, *it, "--workers", "1"] for it in named_quarters], os.devnull, None),
         "one table": Line([[program, *one]], os.devnull, four),
         "eight tables": Line([[program, *eight]], os.devnull, four),
         "eight, one with 40 %": Line([[program, *unequal]], os.devnull, four),
         "eight, 64 workers": Line([[program, *eight, "--workers", "64"]], os.devnull, "eight tables"),
         "one with identifiers": Line([[program, *named]], os.devnull, "one table"),
+        alone: Line([[program, *all_named, "--workers", "1"]], os.devnull, None),
+        "eight with identifiers": Line([[program, *all_named]], os.devnull, four_named),
+        "eight with identifiers, two processors": Line([[program, *all_named]], os.devnull, alone, 2),
+        "eight with identifiers, one processor": Line([[program, *all_named]], os.devnull, alone, 1),
         "200 columns": Line([[program, *wide]], os.devnull, None),
         "one table, to a file": Line([[program, *one]], document, None),
         "the same by `dd bs=64k`": Line([["dd", f"if={document}", f"of={copy}", "bs=64k", "status=none"]], os.devnull, None),
@@ -79,19 +100,35 @@ def lines_of(program: str, plain: Optional[str], folder: Path, megabytes: float)
     return lines
 
 
+def before_start(processors: int, is_real_time: bool) -> Callable[[], None]:
+    """Returns what a run does before its program starts."""
+    held = sorted(os.sched_getaffinity(0))[-processors:]
+
+    def first() -> None:
+        if processors:
+            os.sched_setaffinity(0, held)
+        if is_real_time:
+            os.sched_setscheduler(0, os.SCHED_FIFO, os.sched_param(10))
+
+    return first
+
+
 def run(line: Line, is_real_time: bool) -> Seen:
     """One round of a line."""
-    first = (lambda: os.sched_setscheduler(0, os.SCHED_FIFO, os.sched_param(10))) if is_real_time else None
-    used = 0.0
+    first = before_start(line.processors, is_real_time)
+    used, sleeps, preemptions, faults = 0.0, 0, 0, 0
     with open(line.output, "wb") as output:
         begin = time.perf_counter()
         runs = [subprocess.Popen(it, stdin=subprocess.DEVNULL, stdout=output, preexec_fn=first) for it in line.commands]
         for it in runs:
             _, status, usage = os.wait4(it.pid, 0)
             if status:
-                sys.exit(f"{' '.join(it.args)}: status {os.waitstatus_to_exitcode(status)}")
+                sys.exit(f"{' '.join(map(str, line.commands))}: status {os.waitstatus_to_exitcode(status)}")
             used += usage.ru_utime + usage.ru_stime
-        return Seen(time.perf_counter() - begin, used)
+            sleeps += usage.ru_nvcsw
+            preemptions += usage.ru_nivcsw
+            faults += usage.ru_minflt + usage.ru_majflt
+        return Seen(time.perf_counter() - begin, used, sleeps, preemptions, faults)
 
 
 def memory(line: Line) -> float:
@@ -102,16 +139,31 @@ def memory(line: Line) -> float:
     most = 0
     for command in line.commands:
         with tempfile.NamedTemporaryFile("r") as report, open(line.output, "wb") as output:
-            subprocess.run(["/usr/bin/time", "--quiet", "-o", report.name, "-f", "%M", *command], stdin=subprocess.DEVNULL, stdout=output, check=True)
+            words = ["/usr/bin/time", "--quiet", "-o", report.name, "-f", "%M", *command]
+            subprocess.run(words, stdin=subprocess.DEVNULL, stdout=output, preexec_fn=before_start(line.processors, False), check=True)
             most += int(report.read())
     return most * 1024 / 1e6
+
+
+def table(lines: Dict[str, Line], seen: Dict[str, List[Seen]], most: Dict[str, float]) -> None:
+    """Prints the table of all lines."""
+    median = {it: statistics.median(one.clock for one in all) for it, all in seen.items()}
+    least = {it: min(one.clock for one in all) for it, all in seen.items()}
+    print("| Run | median s | least s | measured by | times, of medians | of the least | processor s | sleeps | preemptions | page faults | MB |")
+    print("|---|---|---|---|---|---|---|---|---|---|---|")
+    for it, line in lines.items():
+        times = f"{line.by} | {median[it] / median[line.by]:.2f} | {least[it] / least[line.by]:.2f}" if line.by else "| | "
+        processor = statistics.median(one.processor for one in seen[it])
+        counts = zip(*((one.sleeps, one.preemptions, one.faults) for one in seen[it]))
+        switches = " | ".join(f"{statistics.median(all):.0f}" for all in counts)
+        print(f"| {it} | {median[it]:.4f} | {least[it]:.4f} | {times} | {processor:.3f} | {switches} | {most[it]:.0f} |")
 
 
 def main() -> None:
     """Makes the reports, measures, and prints the table."""
     parser = argparse.ArgumentParser(description=__doc__, formatter_class=argparse.RawDescriptionHelpFormatter)
-    parser.add_argument("program", type=os.path.abspath)
-    parser.add_argument("plain", type=os.path.abspath, nargs="?")
+    parser.add_argument("program", type=absolute)
+    parser.add_argument("plain", type=absolute, nargs="?")
     parser.add_argument("--megabytes", type=float, default=48.0)
     parser.add_argument("--rounds", type=int, default=11)
     parser.add_argument("--real-time", action="store_true")
@@ -129,13 +181,8 @@ def main() -> None:
                 if at:
                     seen[it].append(found)
         most = {it: memory(line) for it, line in lines.items()}
-    median = {it: statistics.median(one.clock for one in all) for it, all in seen.items()}
-    least = {it: min(one.clock for one in all) for it, all in seen.items()}
     print(f"{options.megabytes:g} MB of CSV (200 columns: half of that), {len(os.sched_getaffinity(0))} processors, {options.rounds} rounds\n")
-    print("| Run | median s | least s | measured by | times, of medians | of the least | processor s | MB |\n|---|---|---|---|---|---|---|---|")
-    for it, line in lines.items():
-        times = f"{line.by} | {median[it] / median[line.by]:.2f} | {least[it] / least[line.by]:.2f}" if line.by else "| | "
-        print(f"| {it} | {median[it]:.4f} | {least[it]:.4f} | {times} | {statistics.median(one.processor for one in seen[it]):.3f} | {most[it]:.0f} |")
+    table(lines, seen, most)
 
 
 if __name__ == "__main__":

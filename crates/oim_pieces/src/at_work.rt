@@ -1,17 +1,32 @@
 //! How the pieces of tables are distributed to threads.
 //!
-//! Not proved: the counts. They decide which thread decodes a piece, and no result depends on them.
+//! Not proved: the counts, and what memory is kept. They decide which thread decodes a piece and
+//! where identifiers lie, and no result depends on them.
 
+use oim_rows::SpareIds;
+use std::sync::Mutex;
 use std::sync::atomic::{AtomicUsize, Ordering};
 use std::thread::{Threads, available_parallelism};
 
 /// How many pieces of a table are under way for each thread that decodes them, so that no thread
 /// waits for its next piece.
-const PIECES_EACH: usize = 2;
+const PIECES_EACH: usize = 3;
 
 /// The most threads that decode pieces of one table at once, however many workers and processors
 /// there are.
 const MOST_AT_WORK: usize = 8;
+
+/// The most blocks of a table that wait for the writer, for each thread that decodes its pieces.
+/// More would only take fresh memory, whose first use is expensive; with fewer the writer is woken
+/// more often.
+const WAITING_EACH: usize = 12;
+
+/// The most blocks of a table that wait for the writer if one thread decodes its pieces.
+const WAITING_ALONE: usize = 32;
+
+/// How often a helper thread looks for a piece again before it sleeps. Waking it would cost its
+/// worker more than that, and all others wait for the worker.
+const LOOKS: usize = 50;
 
 /// How many processors to assume if the system gives no count.
 const SOME_PROCESSORS: usize = 4;
@@ -27,6 +42,8 @@ pub struct AtWork {
     size: usize,
     // The count of processors, once it was read; 0 before.
     processors: AtomicUsize,
+    // The memory of a table's row identifiers, for the next table that is written.
+    spare_ids: Mutex<Option<SpareIds>>,
 }
 
 impl AtWork {
@@ -38,6 +55,7 @@ impl AtWork {
             workers,
             size,
             processors: AtomicUsize::new(0),
+            spare_ids: Mutex::new(None),
         }
     }
 
@@ -46,9 +64,46 @@ impl AtWork {
         self.size
     }
 
-    /// Returns whether there is one worker only, which no other can help.
-    pub(crate) fn is_alone(&self) -> bool {
-        self.workers < 2
+    /// Returns whether no other thread can help a worker: there is one worker, or one processor.
+    pub(crate) fn is_alone<T: Threads>(&self, rt: &T) -> bool {
+        self.workers < 2 || self.processors(rt) < 2
+    }
+
+    /// Returns how often a helper thread looks for a piece again before it sleeps. On two
+    /// processors it would only keep one of them from its worker or from the writer.
+    pub(crate) fn looks(&self) -> usize {
+        if self.known_processors() > 2 {
+            LOOKS
+        } else {
+            0
+        }
+    }
+
+    /// Returns how many blocks of a table may wait for the writer.
+    pub fn most_waiting(&self) -> usize {
+        match self.known_processors().min(self.workers) {
+            0 | 1 => WAITING_ALONE,
+            count => count.min(MOST_AT_WORK) * WAITING_EACH,
+        }
+    }
+
+    /// Takes the memory that the identifiers of another table left, if it is kept.
+    pub(crate) fn take_spare_ids(&self) -> Option<SpareIds> {
+        self.spare_ids.try_lock()?.take()
+    }
+
+    /// Keeps the memory of a table's identifiers for one other table, and drops that of an earlier
+    /// table. Keeps the larger one.
+    pub(crate) fn keep_spare_ids(&self, spare: SpareIds) {
+        if let Some(mut kept) = self.spare_ids.try_lock() {
+            let is_larger = match &*kept {
+                Some(other) => other.capacity() < spare.capacity(),
+                None => true,
+            };
+            if is_larger {
+                *kept = Some(spare);
+            }
+        }
     }
 
     /// Records that a worker or a thread is at work, even if no place is free.
@@ -67,15 +122,24 @@ impl AtWork {
         self.busy.load(Ordering::SeqCst) < self.places()
     }
 
-    /// Returns how many threads may be at work: as many as workers, and one more because the worker
-    /// that starts a thread may wait for its answer.
+    /// Returns how many threads may be at work: as many as workers, or as processors if these are
+    /// fewer, and one more because the worker that starts a thread may wait for its answer.
     fn places(&self) -> usize {
-        self.workers.saturating_add(1)
+        let count = match self.known_processors() {
+            0 => self.workers,
+            known => known.min(self.workers),
+        };
+        count.saturating_add(1)
+    }
+
+    /// Returns the number of processors, or 0 before it was read.
+    fn known_processors(&self) -> usize {
+        self.processors.load(Ordering::SeqCst)
     }
 
     /// Returns the number of processors.
     fn processors<T: Threads>(&self, rt: &T) -> usize {
-        let known = self.processors.load(Ordering::SeqCst);
+        let known = self.known_processors();
         if known > 0 {
             return known;
         }
@@ -87,10 +151,10 @@ impl AtWork {
         count
     }
 
-    /// Returns how many threads may decode pieces of a table at once: its worker and at least one
-    /// helper thread. More than there are processors would only take memory.
+    /// Returns how many threads may decode pieces of a table at once: its worker, and helper
+    /// threads while there are more processors. More threads would only take memory.
     fn most_at_work<T: Threads>(&self, rt: &T) -> usize {
-        self.processors(rt).min(self.workers).clamp(2, MOST_AT_WORK)
+        self.processors(rt).min(self.workers).clamp(1, MOST_AT_WORK)
     }
 
     /// Returns how many pieces of a table may be under way at once.

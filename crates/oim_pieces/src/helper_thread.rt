@@ -13,6 +13,7 @@ use crossbeam_channel::TryRecvError;
 use oim_decode::PieceDecoder;
 use std::marker::Model;
 use std::sync::Wait;
+use std::thread;
 
 /// Where a helper thread works: its end of the queue, its spare vectors, and its number.
 #[derive(Drop)]
@@ -125,8 +126,26 @@ impl<'a> HelperThread<'a> {
     }
 }
 
-/// Returns the next job. If none is queued, gives the thread's place back and waits; after the wait
-/// the thread counts as at work even if no place is free.
+/// Looks for a job again for a while, and lets other threads run meanwhile.
+fn look_again<'a, T: Wait>(
+    rt: &T,
+    at_work: &AtWork,
+    share: &mut PieceQueueEnd<'a>,
+) -> Option<Job<'a>>
+    ensures same { share.new ≡ share.old }
+    ensures job { IfSome result (λ job. IfSome share.old (λ a. IsReadBy a.header.value job)) }
+{
+    for _ in 0..at_work.looks() {
+        thread::yield_now();
+        if let Ok(job) = share.look(rt) {
+            return Some(job);
+        }
+    }
+    None
+}
+
+/// Returns the next job. If none is queued, looks again for a while. Then it gives the thread's
+/// place back and waits; after the wait the thread counts as at work even if no place is free.
 ///
 /// Returns `None` once the queue is closed. The place is then given back.
 fn next_of<'a, T: Wait>(rt: &T, at_work: &AtWork, share: &mut PieceQueueEnd<'a>) -> Option<Job<'a>>
@@ -140,6 +159,9 @@ fn next_of<'a, T: Wait>(rt: &T, at_work: &AtWork, share: &mut PieceQueueEnd<'a>)
             return None;
         }
         Err(TryRecvError::Empty) => {}
+    }
+    if let Some(job) = look_again(rt, at_work, share) {
+        return Some(job);
     }
     at_work.give_back();
     let job = share.take(rt)?;

@@ -47,6 +47,8 @@ pub(crate) struct PiecesUnderWay<'a, R: Read + Drop> {
     is_wanted: bool,
     // Whether the vectors that return now are from this table's blocks.
     are_own: bool,
+    // Whether memory for the identifiers was asked for.
+    has_asked: bool,
 }
 
 impl<'a, R: Read + Drop> Model for PiecesUnderWay<'a, R> {
@@ -142,6 +144,7 @@ impl<'a, R: Read + Drop> PiecesUnderWay<'a, R> {
                 has_given: false,
                 is_wanted: false,
                 are_own: false,
+                has_asked: false,
             }),
             Err(fault) => Err(fault),
         }
@@ -209,14 +212,20 @@ impl<'a, R: Read + Drop> PiecesUnderWay<'a, R> {
         }
     }
 
-    /// Records whether the writer has reached the table. It counts only if other threads can help.
+    /// Records whether the writer has reached the table.
     ///
     /// The vectors that are kept between the first call with true and the second are from other
-    /// tables' blocks, because they returned earlier.
+    /// tables' blocks, because they returned earlier. At the first one, the table before has left
+    /// the memory of its identifiers.
     pub(crate) fn want(&mut self, is_wanted: bool)
         ensures { self.new ≡ self.old }
     {
-        let is_wanted = is_wanted && !self.threads.is_alone();
+        if is_wanted && !self.has_asked {
+            self.has_asked = true;
+            if let Some(spare) = self.threads.take_spare_ids() {
+                self.join.move_ids(spare);
+            }
+        }
         self.are_own = self.is_wanted && is_wanted;
         self.is_wanted = is_wanted;
     }
@@ -259,9 +268,8 @@ impl<'a, R: Read + Drop> PiecesUnderWay<'a, R> {
         let Some(piece) = self.cutter.cut() else {
             return false;
         };
-        let under_way = self
-            .threads
-            .send_or_decode(scope, rt, piece.staying(!self.is_wanted));
+        let stays = !self.is_wanted || self.threads.is_alone(rt);
+        let under_way = self.threads.send_or_decode(scope, rt, piece.staying(stays));
         self.under_way.push_back_reserved(under_way);
         true
     }
@@ -311,6 +319,24 @@ impl<'a, R: Read + Drop> PiecesUnderWay<'a, R> {
         match self.cutter.over() {
             Some(end) => end,
             None => Some(whole_fault(self.cutter.table(), TableKind::Memory)),
+        }
+    }
+
+    /// Drops the pieces and the threads, and leaves the memory of the identifiers to those of
+    /// another table.
+    pub(crate) fn leave(self) {
+        let PiecesUnderWay {
+            cutter: _,
+            threads,
+            join,
+            under_way: _,
+            has_given: _,
+            is_wanted: _,
+            are_own: _,
+            has_asked: _,
+        } = self;
+        if let Some(spare) = join.into_spare_ids() {
+            threads.keep_spare_ids(spare);
         }
     }
 

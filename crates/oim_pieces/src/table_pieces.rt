@@ -188,6 +188,16 @@ impl<'a, R: Read + Drop> TablePieces<'a, R> {
         self.pieces_under_way.free_spares(rt)
     }
 
+    /// Drops the table, and leaves the memory of its row identifiers to those of another table.
+    pub fn leave(self) {
+        let TablePieces {
+            alloc: _,
+            pieces_under_way,
+            settled: _,
+        } = self;
+        pieces_under_way.leave();
+    }
+
     /// Returns the facts of a joined piece, and settles the table if the piece has a fault.
     fn give<T: Wait>(
         &mut self,

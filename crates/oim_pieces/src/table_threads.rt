@@ -24,7 +24,7 @@ use crate::piece_under_way::PieceUnderWay;
 use keyed::Giver;
 use oim_decode::{FirstRecords, PieceAnswer, PieceDecoder};
 use oim_report::Report;
-use oim_rows::{TableFault, TableHeader};
+use oim_rows::{SpareIds, TableFault, TableHeader};
 use std::alloc::Global;
 use std::marker::Model;
 use std::sync::Wait;
@@ -177,14 +177,27 @@ impl<'a> TableThreads<'a> {
         self.mine.header()
     }
 
-    /// Returns whether the run has one worker only, so that no other thread can help.
-    pub(crate) fn is_alone(&self) -> bool {
-        self.at_work.is_alone()
+    /// Returns whether no other thread can help: the run has one worker only, or the machine one
+    /// processor.
+    pub(crate) fn is_alone<T: Threads>(&self, rt: &T) -> bool {
+        self.at_work.is_alone(rt)
+    }
+
+    /// Takes the memory that the identifiers of another table left, if this table's rows have
+    /// identifiers of their own.
+    pub(crate) fn take_spare_ids(&self) -> Option<SpareIds> {
+        self.header().id_place()?;
+        self.at_work.take_spare_ids()
+    }
+
+    /// Keeps the memory of this table's identifiers for another table.
+    pub(crate) fn keep_spare_ids(&self, spare: SpareIds) {
+        self.at_work.keep_spare_ids(spare);
     }
 
     /// Returns whether one more piece may be under way in addition to `count`.
     pub(crate) fn may_have<T: Threads>(&self, rt: &T, count: usize, is_wanted: bool) -> bool {
-        let most = if is_wanted {
+        let most = if is_wanted && !self.is_alone(rt) {
             self.at_work.window(rt)
         } else {
             FEW_UNDER_WAY
