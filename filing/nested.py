@@ -16,7 +16,7 @@ MOST_INSIDE = 200  # packages of one ZIP; each holds a file open
 
 
 def open_taxonomy(label: str, limit: int) -> List[Package]:
-    """Return the package at a path, or the packages in a ZIP that is not one itself.
+    """Return the package at a path, or the packages in a ZIP that is not a package itself.
 
     Refuse what is neither a ZIP nor a folder.
     """

@@ -1,7 +1,7 @@
-"""Monetary facts without a unit, as far as the metadata tells.
+"""Monetary facts without a unit, as far as the metadata shows them.
 
-A fact without a unit is a pure number (xBRL-CSV 1.0, `unit`). For an amount of money that is never
-meant, but the standard allows it: so a line warns, and the document is written.
+A fact without a unit is a pure number (xBRL-CSV 1.0, `unit`), which an amount of money never is.
+The standard allows it, so the document is written, and a line warns.
 """
 
 from __future__ import annotations

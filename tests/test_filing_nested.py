@@ -103,7 +103,7 @@ class Nested(unittest.TestCase):
 
     def test_names_in_lines(self) -> None:
         """Lines name a file by the ZIP, the package in it and its path there."""
-        broken = {**TAXONOMY, CATALOG: BROKEN_OFF}
+        broken: Files = {**TAXONOMY, CATALOG: BROKEN_OFF}
         line = f"all.zip/in/a.zip/{CATALOG}: is not well-formed XML: no element found (line 1)"
         self.refused({"in/a.zip": zip_of(broken)}, line)
         cut = zip_of(TAXONOMY)[:-40]
