@@ -44,7 +44,7 @@ IMPL = re.compile(r"(?:unsafe )?impl(?:<.*?>(?= ))? (?:(\w+).*? for )?&?(?:'\w+ 
 # ghost values that it gives its trait.
 GHOST = re.compile(r"\s+ghost (\w+) = \{")
 TRAIT = re.compile(r"^pub trait (\w+).*?^\}", re.M | re.S)
-GIVEN = re.compile(r"^pub use (?:[\w:]+::)?(\{[^}]*\}|\w+);", re.M)
+GIVEN = re.compile(r"^pub (?:mod |use (?:[\w:]+::)?)(\{[^}]*\}|\w+);", re.M)
 
 # A file of definitions: its crate, and its name, which begins with `state/` if it is there.
 Room = tuple[str, str]

@@ -6,8 +6,8 @@
 Each name must be in one of the crates public_calls, conversion_tests and run_tests, which compile
 and run. The page of each library must show a call of it, word for word.
 
-The libraries are those of the program in crates.txt. Their names are those of `pub use` in their
-src/lib.rt. The call of a page is the lines between ``` in its first comment.
+The libraries are those of the program in crates.txt. Their names are those of `pub use` and
+`pub mod` in their src/lib.rt. The call of a page is the lines between ``` in its first comment.
 """
 from __future__ import annotations
 
@@ -18,7 +18,7 @@ from pathlib import Path
 from crates import crates_below
 
 TOP = Path(__file__).resolve().parent.parent
-GIVEN = re.compile(r"^pub use ([\w:]+::)?(\{[^}]*\}|\w+);", re.M)
+GIVEN = re.compile(r"^pub (?:mod |use (?:[\w:]+::)?)(\{[^}]*\}|\w+);", re.M)
 # The crates of calls: of the libraries below oim_pieces and oim_places; of keyed, oim_pieces and
 # oim_convert; and of the others.
 CALLERS = "public_calls", "conversion_tests", "run_tests"
@@ -28,7 +28,7 @@ ELSEWHERE = {"start_crew", "join_crew"}
 
 def names_of(page: str) -> set[str]:
     """The names that a page gives."""
-    return {name for _, names in GIVEN.findall(page) for name in re.findall(r"\w+", names)}
+    return {name for names in GIVEN.findall(page) for name in re.findall(r"\w+", names)}
 
 
 def calls_of(page: str) -> list[str]:
