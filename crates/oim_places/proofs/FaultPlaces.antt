@@ -133,6 +133,14 @@ records_found known before path report f found a (Ok (Some x)) some is same has 
     (subst (λ o. IfSome o (λ a. FoundAt known path (HasRecordOf report f a))) some has) h c
     (subst (λ k. HoldsAt k path (λ bytes. IsLineOf f.row bytes x.place.line)) same l)
 
+pub rows_found : {E : Type 0} (known : Option Files) (path : List ℕ) (report : ReportValue) (f : TableFault) (found : Option RowAgain) (a : RowAgain) (r : Result (Option FaultRecord) E)
+    → found ≡ Some a → IfSome found (λ a. FoundAt known path (HasRecordOf report f a)) → IfOk r (λ o. IfSome o (λ x. x.cells ≡ a))
+    → IfOk r (λ o. IfSome o (λ x. FoundAt known path (HasRecordOf report f x.cells)))
+rows_found known path report f found a (Err e) some has same = tt
+rows_found known path report f found a (Ok None) some has same = tt
+rows_found known path report f found a (Ok (Some x)) some has same =
+    subst (λ b. FoundAt known path (HasRecordOf report f b)) (sym same) (subst (λ o. IfSome o (λ a. FoundAt known path (HasRecordOf report f a))) some has)
+
 pub or_unknown : (known : Option Files) (path : List ℕ) (report : ReportValue) (f : TableFault) (p : FaultPlace) → IfSome known (λ files. IsPlaceAt files path report f p)
     → IfSome known (λ files. (p ≡ unknown_place) ⊎ IsPlaceAt files path report f p)
 or_unknown None path report f p is = tt

@@ -172,6 +172,7 @@ fn with_place<R: Read + Drop, F: Folder<R>>(
     cells: RowAgain,
 ) -> Result<Option<FaultRecord>, AllocError>
     ensures same { F.files folder.new ≡ F.files folder.old }
+    ensures cells { IfOk result (λ o. IfSome o (λ r. r.cells ≡ cells)) }
     ensures header { IfOk result (λ o. IfSome o (λ r. r.place.header ≡ column_text (fields_of cells.header) (fault.now).column)) }
     ensures cell { IfOk result (λ o. IfSome o (λ r. r.place.cell ≡ column_text (fields_of cells.row) (fault.now).column)) }
     ensures line { IfOk result (λ o. IfSome o (λ r. HoldsAt (F.files folder.old) path.now (λ bytes. IsLineOf (fault.now).row bytes r.place.line))) }
@@ -196,6 +197,7 @@ pub fn fault_record<R: Read + Drop, F: Folder<R>>(
 ) -> Result<Option<FaultRecord>, AllocError>
     requires { (fault.now).table < length report.now.tables }
     ensures same { F.files folder.new ≡ F.files folder.old }
+    ensures row { IfOk result (λ o. IfSome o (λ r. FoundAt (F.files folder.old) path.now (HasRecordOf report.now fault.now r.cells))) }
     ensures place { IfOk result (λ o. IfSome o (λ r. IfSome (F.files folder.old) (λ files. IsPlaceAt files path.now report.now fault.now r.place))) }
 {
     if is_of_file(fault.kind) {

@@ -3,42 +3,19 @@
 //!
 //! Not proved: all of this file.
 
-use crate::disk::DiskFile;
+use crate::files_again::FilesAgain;
 use crate::reason::{why_unread, why_unwritten};
 use oim_meta::Finding;
 use oim_names::Text;
 use oim_rows::TableFault;
 use oim_run::{
-    EarlyFault, Explanation, FaultPlace, Folder, Outcome, ReportAgain, Settings, Source,
+    EarlyFault, ExplainedFault, Explanation, FaultPlace, Outcome, ReportAgain, Settings, Source,
     explained_fault, explanation_text, report_again, report_explanation, table_line,
 };
 use std::alloc::{AllocError, Global};
-use std::fs;
 
 /// The number of refused tables that are explained.
 const MOST_TABLES: usize = 100;
-
-/// The system's files that can be read a second time: only regular files.
-///
-/// A pipe is not opened, because that could wait for ever.
-#[derive(Drop)]
-pub struct Ordinary<'a> {
-    /// The system.
-    pub rt: &'a HostRuntime,
-}
-
-impl<'a> Folder<DiskFile<'a>> for Ordinary<'a> {
-    fn open(&mut self, path: &str) -> Option<DiskFile<'a>> {
-        match fs::metadata(self.rt, path) {
-            Ok(metadata) if metadata.is_file() => {}
-            _ => return None,
-        }
-        match fs::open(self.rt, path) {
-            Ok(file) => Some(DiskFile::of(file)),
-            Err(_) => None,
-        }
-    }
-}
 
 /// Prints lines, unless memory ran out for them.
 fn print(rt: &HostRuntime, lines: Result<String, AllocError>) {
@@ -79,10 +56,10 @@ pub struct KnownTables {
 
 impl KnownTables {
     /// Reads the report again.
-    pub fn read(rt: &HostRuntime, alloc: Global, settings: &Settings) -> KnownTables {
+    pub fn read(alloc: Global, settings: &Settings, files: &mut FilesAgain<'_>) -> KnownTables {
         let (meta, types) = (settings.meta.as_str(), settings.types.as_str());
         KnownTables {
-            report: report_again(alloc, meta, types, &mut Ordinary { rt }),
+            report: report_again(alloc, meta, types, files),
             places: Vec::new(alloc),
         }
     }
@@ -101,12 +78,12 @@ fn explain_early(
     rt: &HostRuntime,
     alloc: Global,
     settings: &Settings,
+    files: &mut FilesAgain<'_>,
     source: Source,
     finding: &Finding,
 ) -> Known {
     let (meta, types) = (settings.meta.as_str(), settings.types.as_str());
-    let folder = &mut Ordinary { rt };
-    match report_explanation(alloc, meta, types, folder, source, finding) {
+    match report_explanation(alloc, meta, types, files, source, finding) {
         Ok(explanation) => {
             print(rt, explanation_text(alloc, &explanation));
             Known::Report(explanation)
@@ -115,17 +92,18 @@ fn explain_early(
     }
 }
 
-/// Prints the explanation below the line of an outcome, and returns what it found out. Leaves out
-/// what cannot be printed, or what memory runs out for.
+/// Prints the explanation below the line of an outcome without refused tables, and returns what it
+/// found out. Leaves out what cannot be printed, or what memory runs out for.
 pub fn explain_fault(
     rt: &HostRuntime,
     alloc: Global,
     settings: &Settings,
+    files: &mut FilesAgain<'_>,
     outcome: &Outcome,
 ) -> Known {
     let reason = match outcome {
         Outcome::Report(source, finding) => {
-            return explain_early(rt, alloc, settings, *source, finding);
+            return explain_early(rt, alloc, settings, files, *source, finding);
         }
         Outcome::CannotRead(path) => why_unread(rt, path.as_str()),
         Outcome::CannotWrite(path) => why_unwritten(rt, settings, path.as_str()),
@@ -141,6 +119,7 @@ fn explain_again(
     rt: &HostRuntime,
     alloc: Global,
     meta: &str,
+    files: &mut FilesAgain<'_>,
     report: &Result<ReportAgain, EarlyFault>,
     fault: &TableFault,
 ) -> Option<FaultPlace> {
@@ -148,10 +127,14 @@ fn explain_again(
         let _ = rt.eprint("    the report cannot be read again, or has changed\n");
         return None;
     };
-    match explained_fault(alloc, meta, &mut Ordinary { rt }, report, fault) {
+    match explained_fault(alloc, meta, files, report, fault) {
         Ok(explained) => {
             print(rt, explanation_text(alloc, &explained.explanation));
-            Some(explained.place)
+            let ExplainedFault {
+                explanation: _,
+                place,
+            } = explained;
+            Some(place)
         }
         Err(_) => None,
     }
@@ -163,14 +146,15 @@ fn explain_each(
     rt: &HostRuntime,
     alloc: Global,
     settings: &Settings,
+    files: &mut FilesAgain<'_>,
     tables: &[(Text, TableFault)],
 ) -> KnownTables {
-    let mut known = KnownTables::read(rt, alloc, settings);
+    let mut known = KnownTables::read(alloc, settings, files);
     let meta = settings.meta.as_str();
     for (index, (id, fault)) in tables.iter().enumerate() {
         print(rt, table_line(alloc, id.as_str(), fault));
         if index < MOST_TABLES {
-            if let Some(place) = explain_again(rt, alloc, meta, &known.report, fault) {
+            if let Some(place) = explain_again(rt, alloc, meta, files, &known.report, fault) {
                 known.keep(index, place);
             }
         }
@@ -184,9 +168,10 @@ pub fn explain_tables(
     rt: &HostRuntime,
     alloc: Global,
     settings: &Settings,
+    files: &mut FilesAgain<'_>,
     tables: &[(Text, TableFault)],
 ) -> Known {
-    let known = explain_each(rt, alloc, settings, tables);
+    let known = explain_each(rt, alloc, settings, files, tables);
     if tables.len() > MOST_TABLES {
         let more = tables.len() - MOST_TABLES;
         let _ = eprint!(rt; "    (and {more} more)\n");

@@ -5,7 +5,8 @@
 ghost use Rattle.std.specs.Prelude.{IfSome};
 ghost use Rattle.oim_run.specs.Outputs.{IsLeftUnwritten};
 
-use crate::explain::{Known, KnownTables, Ordinary};
+use crate::explain::{Known, KnownTables};
+use crate::files_again::FilesAgain;
 use crate::new_file::{NewFile, replaced};
 use crate::target::Target;
 use oim_meta::Finding;
@@ -94,15 +95,15 @@ pub fn refused_before(rt: &HostRuntime, alloc: Global, request: &Request) -> Opt
 /// Returns the record of a refused table whose place is not known yet. It has the text at the
 /// fault's place if the report was read again.
 fn row_again(
-    rt: &HostRuntime,
     alloc: Global,
     meta: &str,
+    files: &mut FilesAgain<'_>,
     report: &Result<ReportAgain, EarlyFault>,
     id: &str,
     fault: &TableFault,
 ) -> Result<Vec<u8>, AllocError> {
     let place = match report {
-        Ok(report) => fault_place(alloc, meta, &mut Ordinary { rt }, report, fault)?,
+        Ok(report) => fault_place(alloc, meta, files, report, fault)?,
         Err(_) => FaultPlace::unknown(alloc)?,
     };
     fault_row(alloc, id, fault, &place)
@@ -110,9 +111,9 @@ fn row_again(
 
 /// Writes the records of refused tables, given what is known of them.
 fn write_each<W: Write>(
-    rt: &HostRuntime,
     alloc: Global,
     meta: &str,
+    files: &mut FilesAgain<'_>,
     known: &KnownTables,
     tables: &[(Text, TableFault)],
     to: &mut W,
@@ -121,7 +122,7 @@ fn write_each<W: Write>(
         let id = id.as_str();
         let row = match known.places.get(index) {
             Some(place) => fault_row(alloc, id, fault, place)?,
-            None => row_again(rt, alloc, meta, &known.report, id, fault)?,
+            None => row_again(alloc, meta, files, &known.report, id, fault)?,
         };
         to.write_all(row.as_slice())?;
     }
@@ -130,29 +131,40 @@ fn write_each<W: Write>(
 
 /// Writes the records of refused tables. Reads the report again for them if nothing is known.
 fn write_rows<W: Write>(
-    rt: &HostRuntime,
     alloc: Global,
     settings: &Settings,
+    files: &mut FilesAgain<'_>,
     known: &Known,
     tables: &[(Text, TableFault)],
     to: &mut W,
 ) -> io::Result<()> {
     let meta = settings.meta.as_str();
     match known {
-        Known::Tables(known) => write_each(rt, alloc, meta, known, tables, to),
+        Known::Tables(known) => write_each(alloc, meta, files, known, tables, to),
         _ => {
-            let known = KnownTables::read(rt, alloc, settings);
-            write_each(rt, alloc, meta, &known, tables, to)
+            let known = KnownTables::read(alloc, settings, files);
+            write_each(alloc, meta, files, &known, tables, to)
         }
     }
+}
+
+/// Returns the record of a fault of the metadata, the types table or the parameters file, by its
+/// explanation.
+fn row_of_report(
+    alloc: Global,
+    finding: &Finding,
+    told: &Explanation,
+) -> Result<Vec<u8>, AllocError> {
+    let (place, found) = (told.place.as_str(), told.found.as_str());
+    report_fault_row(alloc, finding.fault, place, found)
 }
 
 /// Returns the record of a fault of the metadata, the types table or the parameters file. Reads the
 /// file again for it if nothing is known.
 fn report_row(
-    rt: &HostRuntime,
     alloc: Global,
     settings: &Settings,
+    files: &mut FilesAgain<'_>,
     known: &Known,
     source: Source,
     finding: &Finding,
@@ -161,31 +173,16 @@ fn report_row(
         return row_of_report(alloc, finding, told);
     }
     let (meta, types) = (settings.meta.as_str(), settings.types.as_str());
-    let folder = &mut Ordinary { rt };
-    let told = report_explanation(alloc, meta, types, folder, source, finding)?;
+    let told = report_explanation(alloc, meta, types, files, source, finding)?;
     row_of_report(alloc, finding, &told)
-}
-
-/// Returns the record of such a fault, by its explanation.
-fn row_of_report(
-    alloc: Global,
-    finding: &Finding,
-    told: &Explanation,
-) -> Result<Vec<u8>, AllocError> {
-    report_fault_row(
-        alloc,
-        finding.fault,
-        told.place.as_str(),
-        told.found.as_str(),
-    )
 }
 
 /// Writes the header and the records of a run's faults.
 fn write_to<W: Write>(
-    rt: &HostRuntime,
     alloc: Global,
     settings: &Settings,
     outcome: &Outcome,
+    files: &mut FilesAgain<'_>,
     known: &Known,
     to: &mut W,
 ) -> io::Result<()> {
@@ -193,10 +190,17 @@ fn write_to<W: Write>(
     buffered.write_all(fault_header().as_bytes())?;
     match outcome {
         Outcome::Tables(tables) => {
-            write_rows(rt, alloc, settings, known, tables.as_slice(), &mut buffered)?;
+            write_rows(
+                alloc,
+                settings,
+                files,
+                known,
+                tables.as_slice(),
+                &mut buffered,
+            )?;
         }
         Outcome::Report(source, finding) => {
-            let row = report_row(rt, alloc, settings, known, *source, finding)?;
+            let row = report_row(alloc, settings, files, known, *source, finding)?;
             buffered.write_all(row.as_slice())?;
         }
         _ => {}
@@ -210,11 +214,12 @@ fn write_new(
     alloc: Global,
     settings: &Settings,
     outcome: &Outcome,
+    files: &mut FilesAgain<'_>,
     known: &Known,
     new: NewFile,
 ) -> bool {
     let mut new = new;
-    if write_to(rt, alloc, settings, outcome, known, &mut new.file).is_ok() {
+    if write_to(alloc, settings, outcome, files, known, &mut new.file).is_ok() {
         return new.take_name(rt);
     }
     new.remove(rt);
@@ -227,11 +232,12 @@ fn write_straight(
     alloc: Global,
     settings: &Settings,
     outcome: &Outcome,
+    files: &mut FilesAgain<'_>,
     known: &Known,
     path: &str,
 ) -> bool {
     match OpenOptions::new().write(true).create(true).open(rt, path) {
-        Ok(mut file) => write_to(rt, alloc, settings, outcome, known, &mut file).is_ok(),
+        Ok(mut file) => write_to(alloc, settings, outcome, files, known, &mut file).is_ok(),
         Err(_) => false,
     }
 }
@@ -242,6 +248,7 @@ fn write_file(
     alloc: Global,
     settings: &Settings,
     outcome: &Outcome,
+    files: &mut FilesAgain<'_>,
     known: &Known,
     path: &str,
 ) -> bool {
@@ -249,8 +256,8 @@ fn write_file(
         return false;
     }
     match file_beside(rt, alloc, path) {
-        Some(Some(new)) => write_new(rt, alloc, settings, outcome, known, new),
-        Some(None) => write_straight(rt, alloc, settings, outcome, known, path),
+        Some(Some(new)) => write_new(rt, alloc, settings, outcome, files, known, new),
+        Some(None) => write_straight(rt, alloc, settings, outcome, files, known, path),
         None => false,
     }
 }
@@ -265,13 +272,16 @@ pub fn write_faults(
     alloc: Global,
     request: &Request,
     outcome: &Outcome,
+    files: &mut FilesAgain<'_>,
     known: &Known,
 ) -> Option<Outcome>
     ensures { IfSome result (λ last. IsLeftUnwritten request.now.faults outcome.now last) }
 {
     let path = request.faults.as_ref()?;
     let path = path.as_str();
-    if status(outcome) > 1 || write_file(rt, alloc, &request.settings, outcome, known, path) {
+    if status(outcome) > 1
+        || write_file(rt, alloc, &request.settings, outcome, files, known, path)
+    {
         return None;
     }
     Some(cannot_write(alloc, path))
