@@ -25,6 +25,7 @@ fn print(rt: &HostRuntime, lines: Result<String, AllocError>) {
 }
 
 /// What the explanation of a run's faults found out, which the file of faults has too.
+#[derive(Drop)]
 pub enum Known {
     /// Nothing.
     Nothing,
@@ -32,17 +33,6 @@ pub enum Known {
     Report(Explanation),
     /// What was found out about refused tables.
     Tables(KnownTables),
-}
-
-// Written by hand so that dropping one elsewhere compiles to a single call.
-impl Drop for Known {
-    fn drop(self) {
-        match self {
-            Self::Nothing => {}
-            Self::Report(_) => {}
-            Self::Tables(_) => {}
-        }
-    }
 }
 
 /// The report of a run with refused tables, read again.
