@@ -293,16 +293,16 @@ fn with_record<R: Read + Drop, F: Folder<R>>(
     folder: &mut F,
     table: TableAgain<'_>,
     fault: &TableFault,
-    record: FaultRecord,
+    found: FaultRecord,
 ) -> Result<ExplainedFault, AllocError>
     requires { (fault.now).table < length table.again.now.report.tables }
-    ensures explanation { IfOk result (λ e. e.explanation.place ≡ place_text table.entry.path.now record.place.line (column_place (fault.now).column)) }
-    ensures place { IfOk result (λ e. e.place ≡ record.place) }
+    ensures explanation { IfOk result (λ e. e.explanation.place ≡ place_text table.entry.path.now found.place.line (column_place (fault.now).column)) }
+    ensures place { IfOk result (λ e. e.place ≡ found.place) }
 {
-    let line = record.place.line;
-    match at_record(alloc, folder, table, fault, &record.cells, line) {
+    let line = found.place.line;
+    match at_record(alloc, folder, table, fault, &found.cells, line) {
         Ok(explanation) => {
-            let FaultRecord { cells: _, place } = record;
+            let FaultRecord { cells: _, place } = found;
             Ok(ExplainedFault { explanation, place })
         }
         Err(error) => Err(error),

@@ -13,7 +13,7 @@ use Rattle.oim_decode.specs.Blocks.{GivesBlock, ReadsRows}
 use Rattle.oim_rows.specs.Streams.{IsOutside, Stream, ending, stream_of}
 use Rattle.oim_rows.specs.declared.fault.TableFault.{TableFault}
 use Rattle.oim_places.specs.Reports.{IsReportOf}
-use Rattle.oim_places.specs.FaultPlaces.{EndsStream, HasRecordOf, IsPlaceAt, IsRowAt, IsTableFault, column_text, fault_of_file, is_of_file, row_or_empty, unknown_place}
+use Rattle.oim_places.specs.FaultPlaces.{EndsStream, HasRecordOf, IsPlaceAt, IsRowAt, IsTableFault, column_text, fault_of_file, is_of_file, row_or_empty}
 use Rattle.oim_places.specs.FolderFiles.{FoundAt, HoldsAt}
 use Rattle.oim_places.specs.LineNumbers.{IsLineOf}
 use Rattle.oim_places.specs.declared.fault_places.FaultPlace.{FaultPlace}
@@ -140,11 +140,6 @@ rows_found known path report f found a (Err e) some has same = tt
 rows_found known path report f found a (Ok None) some has same = tt
 rows_found known path report f found a (Ok (Some x)) some has same =
     subst (λ b. FoundAt known path (HasRecordOf report f b)) (sym same) (subst (λ o. IfSome o (λ a. FoundAt known path (HasRecordOf report f a))) some has)
-
-pub or_unknown : (known : Option Files) (path : List ℕ) (report : ReportValue) (f : TableFault) (p : FaultPlace) → IfSome known (λ files. IsPlaceAt files path report f p)
-    → IfSome known (λ files. (p ≡ unknown_place) ⊎ IsPlaceAt files path report f p)
-or_unknown None path report f p is = tt
-or_unknown (Some files) path report f p is = inr is
 
 -- ---- the report
 

@@ -6,7 +6,7 @@ ghost use Rattle.std.specs.Prelude.{◌≤◌, length};
 
 use crate::disk::DiskFile;
 use oim_run::Folder;
-use std::alloc::Global;
+use std::alloc::{AllocError, Global};
 use std::fs::File;
 use std::io::Read;
 use std::rc::Rc;
@@ -98,17 +98,18 @@ impl<'a> FilesAgain<'a> {
     }
 
     /// Holds the bytes of the file at this path. Lets all other files go if there is no space.
-    fn hold(&mut self, path: &str, bytes: &Rc<Vec<u8>>) {
+    fn hold(&mut self, path: &str, bytes: &Rc<Vec<u8>>) -> Result<(), AllocError> {
         let len = bytes.as_ref().len() as u64;
         if len > self.space {
             self.held.clear();
             self.space = MOST;
         }
-        if let (Ok(path), Ok(bytes)) = (String::from_str(self.alloc, path), bytes.clone()) {
-            if self.held.push(HeldFile { path, bytes }).is_ok() {
-                self.space = self.space.saturating_sub(len);
-            }
-        }
+        self.held.push(HeldFile {
+            path: String::from_str(self.alloc, path)?,
+            bytes: bytes.clone()?,
+        })?;
+        self.space = self.space.saturating_sub(len);
+        Ok(())
     }
 
     /// Opens the file at this path.
@@ -128,7 +129,7 @@ impl<'a> Folder<FileAgain<'a>> for FilesAgain<'a> {
         }
         if metadata.len() <= MOST {
             if let Some(bytes) = bytes_of(self.alloc, self.opened(path)?) {
-                self.hold(path, &bytes);
+                let _ = self.hold(path, &bytes);
                 return Some(FileAgain::Held(bytes, 0));
             }
         }
