@@ -180,24 +180,32 @@ class TestManyTables(ExplainTest):
 class TestUnread(ExplainTest):
     """Explains files that can be read only once, and faults that no content of a file has."""
 
-    def err_of_types(self, types: str, given: bytes = b"") -> str:
-        """Returns standard error with this types table and this standard input."""
-        words = ["r/m.json", "--types", types, "--explain", "--out", "o.json"]
+    def err_of(self, meta: str, types: str, given: bytes = b"") -> str:
+        """Returns standard error with this metadata, types table and standard input."""
+        words = [meta, "--types", types, "--explain", "--out", "o.json"]
         return self.run_program(*words, input=given).err
 
     def test_types_from_pipes(self) -> None:
-        """Explains nothing more if the types table has nothing for a second reader."""
+        """Explains the metadata though the types table has nothing for a second reader."""
         self.write({"r/m.json": edited(("tables", "t1", "url"), None)})
-        why = "a file of the report cannot be opened again"
-        wanted = lines_of("report: BadTemplate (7)", ["r/m.json", WHOLE_FILE, why])
+        places = ["/tables/t1/url", "(nothing)", "url is missing"]
+        wanted = lines_of("report: BadTemplate (7)", places)
         types = (self.folder / "t.csv").read_bytes()
         with self.subTest("standard input"):
-            self.check_same(self.err_of_types("/dev/stdin", types), wanted)
+            self.check_same(self.err_of("r/m.json", "/dev/stdin", types), wanted)
         os.mkfifo(self.folder / "pipe")
         with subprocess.Popen(["sh", "-c", "cat t.csv > pipe"], cwd=self.folder) as pipe:
             with self.subTest("a named pipe"):
-                self.check_same(self.err_of_types("pipe"), wanted)
+                self.check_same(self.err_of("r/m.json", "pipe"), wanted)
             pipe.wait(timeout=PATIENCE)
+
+    def test_a_metadata_from_a_pipe(self) -> None:
+        """Explains nothing more if the metadata has nothing for a second reader."""
+        self.write({"r/m.json": edited(("tables", "t1", "url"), None)})
+        why = "a file of the report cannot be opened again"
+        wanted = lines_of("report: BadTemplate (7)", ["/dev/stdin", WHOLE_FILE, why])
+        given = (self.folder / "r/m.json").read_bytes()
+        self.check_same(self.err_of("/dev/stdin", "t.csv", given), wanted)
 
     def test_folders(self) -> None:
         """Explains folders instead of files."""

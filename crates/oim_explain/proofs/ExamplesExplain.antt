@@ -5,7 +5,7 @@ use Rattle.std.specs.Borrow.{Bor}
 use Rattle.std.specs.Prelude.{codes}
 use Rattle.std.specs.Str.{chars}
 use lib.Utf8.{encode}
-use Rattle.oim_explain.specs.Explanations.{explanation_of, place_lines, place_shown, source_lines, url_place}
+use Rattle.oim_explain.specs.Explanations.{explanation_of, place_lines, place_shown, source_lines}
 use Rattle.oim_explain.specs.declared.explanation.Explanation.{Explanation}
 
 -- ---- a place in the metadata
@@ -18,11 +18,6 @@ whole_file = refl
 place_in_it : place_shown (codes "r/meta.json") (codes "tables" ∷ codes "t" ∷ []) ≡ codes "/tables/t"
 unfolding chars encode
 place_in_it = refl
-
--- The name of the parameters file.
-place_of_the_name : place_shown (codes "r/meta.json") url_place ≡ codes "/parameterURL"
-unfolding chars encode
-place_of_the_name = refl
 
 -- ---- the lines of an explanation
 

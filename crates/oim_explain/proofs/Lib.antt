@@ -1,2 +1,2 @@
-mod Findings
 mod ExamplesExplain
+mod TablePlaces

@@ -1,115 +1,28 @@
-//! Reads the files of a run that ended with a fault again, for its explanation.
+//! The explanation of a fault of the metadata, the types table or the parameters file.
 //!
 //! Not proved: what `report_explanation` and `explain_report` return. Tests cover it.
-
-ghost use Rattle.serde_json.specs.View.{view};
-ghost use Rattle.oim_meta.specs.Reading.{Reads};
-ghost use Rattle.oim_files.specs.Metadata.{profile};
 
 use crate::entries::{EntryFile, bad_record, entry_cause, entry_found};
 use crate::explanation::{Explanation, explanation_text};
 use crate::files::{changed, of_file, unread};
-use crate::metadata::{explain_value, of_unread, read_again};
+use crate::metadata::explain_metadata;
 use oim_entries::BadEntry;
-use oim_files::{
-    EarlyFault, Folder, Source, folder_of, metadata_at, parameters_in, path_in, types_in, url_in,
-};
-use oim_meta::{MetaFault, Metadata, Parameters, Types};
+use oim_files::{Folder, Source, folder_of, metadata_at, path_in, url_in};
+use oim_meta::{Finding, MetaFault};
 use oim_names::{Items, Text};
 use oim_places::{line_again, place_in_file};
 use std::alloc::{AllocError, Global};
 use std::io::Read;
 
-/// Reads the parameters file. Returns no parameters if the metadata names none, or names it
-/// wrongly.
-fn parameters_again<R: Read + Drop, F: Folder<R>>(
-    alloc: Global,
-    folder: &mut F,
-    base: &str,
-    metadata: &Metadata,
-) -> Result<Parameters, EarlyFault> {
-    match metadata.parameter_url(alloc) {
-        Ok(Some(url)) => parameters_in(alloc, folder, base, Some(Text::new(url))),
-        _ => Ok(Parameters::none(alloc)),
-    }
-}
-
-/// Returns the explanation, or the one of a fault that is no longer there.
-fn or_changed(
-    alloc: Global,
-    path: &str,
-    explanation: Option<Explanation>,
-) -> Result<Explanation, AllocError> {
-    match explanation {
-        Some(explanation) => Ok(explanation),
-        None => changed(alloc, path),
-    }
-}
-
-/// Returns the explanation of a fault of the metadata that was read of these bytes, with its types.
-fn with_parameters<R: Read + Drop, F: Folder<R>>(
-    alloc: Global,
-    folder: &mut F,
-    path: &str,
-    bytes: &[u8],
-    metadata: Metadata,
-    types: Types,
-    fault: MetaFault,
-) -> Result<Explanation, AllocError>
-    requires { Reads profile bytes.now (view metadata) }
-{
-    match parameters_again(alloc, folder, folder_of(path), &metadata) {
-        Ok(parameters) => {
-            let explanation = explain_value(
-                alloc, path, bytes, metadata, parameters, types, fault,
-            )?;
-            or_changed(alloc, path, explanation)
-        }
-        Err(early) => unread(alloc, path, &early),
-    }
-}
-
-/// Returns the explanation of a fault of the metadata at this path, which has these bytes, with its
-/// types.
-fn of_bytes<R: Read + Drop, F: Folder<R>>(
-    alloc: Global,
-    folder: &mut F,
-    path: &str,
-    bytes: &[u8],
-    types: Types,
-    fault: MetaFault,
-) -> Result<Explanation, AllocError> {
-    match read_again(alloc, bytes) {
-        Ok(metadata) => with_parameters(alloc, folder, path, bytes, metadata, types, fault),
-        Err(found) => or_changed(alloc, path, of_unread(alloc, path, bytes, found, fault)?),
-    }
-}
-
-/// Returns the explanation of a fault of the metadata at this path, with its types.
-fn with_types<R: Read + Drop, F: Folder<R>>(
-    alloc: Global,
-    folder: &mut F,
-    path: &str,
-    types: Types,
-    fault: MetaFault,
-) -> Result<Explanation, AllocError> {
-    match metadata_at(alloc, folder, path) {
-        Ok(bytes) => of_bytes(alloc, folder, path, bytes.as_slice(), types, fault),
-        Err(early) => unread(alloc, path, &early),
-    }
-}
-
-/// Returns the explanation of a fault of the metadata at this path, whose types table is at
-/// another.
+/// Returns the explanation of a fault of the metadata at this path.
 fn of_metadata<R: Read + Drop, F: Folder<R>>(
     alloc: Global,
     meta: &str,
-    types: &str,
     folder: &mut F,
-    fault: MetaFault,
+    finding: &Finding,
 ) -> Result<Explanation, AllocError> {
-    match types_in(alloc, folder, types) {
-        Ok(types) => with_types(alloc, folder, meta, types, fault),
+    match metadata_at(alloc, folder, meta) {
+        Ok(bytes) => explain_metadata(alloc, meta, bytes.as_slice(), finding),
         Err(early) => unread(alloc, meta, &early),
     }
 }
@@ -217,21 +130,22 @@ fn of_whole<R: Read + Drop, F: Folder<R>>(
 }
 
 /// Returns the explanation of a fault of the metadata and the types table at these paths, or of the
-/// parameters file. The files are read again. If the fault is no longer there, or a file cannot be
-/// read again, the explanation is about that.
+/// parameters file, as a run found it. The file that has the fault is read again. If it cannot be
+/// read again, or a fault of an entry is no longer there, the explanation is about that.
 pub fn report_explanation<R: Read + Drop, F: Folder<R>>(
     alloc: Global,
     meta: &str,
     types: &str,
     folder: &mut F,
     source: Source,
-    fault: MetaFault,
+    finding: &Finding,
 ) -> Result<Explanation, AllocError> {
-    if matches!(fault, MetaFault::Memory | MetaFault::Read) {
-        return of_whole(alloc, meta, types, folder, source, fault.explanation());
+    if matches!(finding.fault, MetaFault::Memory | MetaFault::Read) {
+        let said = finding.fault.explanation();
+        return of_whole(alloc, meta, types, folder, source, said);
     }
     match source {
-        Source::Report => of_metadata(alloc, meta, types, folder, fault),
+        Source::Report => of_metadata(alloc, meta, folder, finding),
         Source::Types => of_entries(alloc, folder, types, EntryFile::Types),
         Source::Parameters => of_parameters(alloc, folder, meta),
     }
@@ -245,8 +159,8 @@ pub fn explain_report<R: Read + Drop, F: Folder<R>>(
     types: &str,
     folder: &mut F,
     source: Source,
-    fault: MetaFault,
+    finding: &Finding,
 ) -> Result<String, AllocError> {
-    let explanation = report_explanation(alloc, meta, types, folder, source, fault)?;
+    let explanation = report_explanation(alloc, meta, types, folder, source, finding)?;
     explanation_text(alloc, &explanation)
 }

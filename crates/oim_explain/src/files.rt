@@ -5,7 +5,6 @@ ghost use Rattle.oim_places.specs.Shown as spec;
 
 use crate::explanation::Explanation;
 use oim_files::EarlyFault;
-use oim_meta::MetaFault;
 use oim_names::{Items, Text};
 use oim_places::shown;
 use std::alloc::{AllocError, Global};
@@ -37,7 +36,7 @@ pub(crate) fn changed(alloc: Global, path: &str) -> Result<Explanation, AllocErr
     )
 }
 
-/// Returns the explanation for files that could not be read again.
+/// Returns the explanation for a metadata that could not be read again.
 pub(crate) fn unread(
     alloc: Global,
     path: &str,
@@ -50,9 +49,8 @@ pub(crate) fn unread(
             path,
             "a file of the report cannot be opened again",
         ),
-        EarlyFault::Report(_, MetaFault::Read) => {
+        EarlyFault::Report(_, _) => {
             of_file(alloc, path, "a file of the report cannot be read again")
         }
-        _ => changed(alloc, path),
     }
 }

@@ -3,12 +3,13 @@
 //!
 //! What is proved:
 //!
-//! - `explain_metadata` names the first place of the fault by the definitions of the walk over the
-//!   metadata, or the name of the parameters file if that is wrong; or it answers that another
-//!   fault occurs first, or none (`specs/Explanations.antt`);
-//! - over a folder whose files are known, `explain_table` names a place in a table's file only if
-//!   the file's first fault is that fault, by the definition of the table's stream. It gives the
-//!   line of the fault's record, if that is known, and its column (`specs/TablePlaces.antt`);
+//! - `explain_metadata` names the place of the finding that it is given
+//!   (`specs/Explanations.antt`). That of a run is the first, by the contract of
+//!   `oim_files::report_of`;
+//! - over a folder whose files are known, `explain_table` and `explained_fault` name a place in a
+//!   table's file only if the file's first fault is that fault, by the definition of the table's
+//!   stream. They give the line of the fault's record, if that is known, and its column
+//!   (`specs/TablePlaces.antt`);
 //! - `explanation_text` gives all lines of an explanation.
 //!
 //! It exports what `oim_places` has for the place of a fault and for the file of faults.
@@ -21,9 +22,12 @@
 //! the missing key:
 //!
 //! ```
-//! fn explains_the_key(alloc: Global, folder: &mut Texts<'_>) -> Result<bool, AllocError> {
-//!     let fault = MetaFault::NotReport;
-//!     let text = explain_report(alloc, "m.json", "t.csv", folder, Source::Report, fault)?;
+//! fn explains_the_key(
+//!     alloc: Global,
+//!     folder: &mut Texts<'_>,
+//!     finding: &Finding,
+//! ) -> Result<bool, AllocError> {
+//!     let text = explain_report(alloc, "m.json", "t.csv", folder, Source::Report, finding)?;
 //!     let place = "    /documentInfo/documentType\n";
 //!     Ok(text.as_str().starts_with(place))
 //! }
@@ -49,4 +53,4 @@ pub use oim_places::{
     FaultPlace, ReportAgain, fault_header, fault_place, fault_row, lines_are_of_records,
     report_again, report_fault_row, shown,
 };
-pub use tables::explain_table;
+pub use tables::{ExplainedFault, explain_table, explained_fault};

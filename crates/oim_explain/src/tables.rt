@@ -1,8 +1,9 @@
 //! The explanation of a table's fault.
 
-ghost use Rattle.std.specs.Prelude.{◌<◌, IfOk, IfSome, length, string_bytes};
+ghost use Rattle.std.specs.Prelude.{◌≡◌, ◌⊎◌, ◌<◌, IfOk, IfSome, length, string_bytes};
+ghost use Rattle.oim_places.specs.FaultPlaces.{IsPlaceAt, IsPlaceOf, column_place, unknown_place};
+ghost use Rattle.oim_places.specs.FilePlaces.{place_text};
 ghost use Rattle.oim_explain.specs.TablePlaces.{ExplainsAt, ExplainsTable, SaysOfTable};
-ghost use Rattle.oim_explain.specs.state.TablePlaces.{NamesPlaceIn};
 
 use crate::explanation::{Explanation, explanation_text};
 use crate::files::{changed, of_file};
@@ -14,8 +15,9 @@ use oim_files::{Folder, folder_of};
 use oim_meta::{Level, Report, Written};
 use oim_names::{Items, Text, find};
 use oim_places::{
-    ReportAgain, RowAgain, cell_shown, excerpt, first_record_with, is_of_file, line_again,
-    place_in_file, place_in_record, record_again, record_shown, table_path, text_at,
+    FaultPlace, FaultRecord, ReportAgain, RowAgain, cell_shown, excerpt, fault_record,
+    first_record_with, is_of_file, line_again, place_in_file, place_in_record, record_shown,
+    table_path, text_at,
 };
 use oim_rows::{TableFault, TableKind};
 use std::alloc::{AllocError, Global};
@@ -242,18 +244,18 @@ fn cause_in(fault: &TableFault, cells: &RowAgain) -> &'static str {
     known.unwrap_or(fault.kind.explanation())
 }
 
-/// Returns the explanation of a fault at a record of a table's file.
+/// Returns the explanation of a fault at a record of a table's file, which begins at this line.
 fn at_record<R: Read + Drop, F: Folder<R>>(
     alloc: Global,
     folder: &mut F,
     table: TableAgain<'_>,
     fault: &TableFault,
     cells: &RowAgain,
+    line: Option<u64>,
 ) -> Result<Explanation, AllocError>
     requires { (fault.now).table < length table.again.now.report.tables }
-    ensures { IfOk result (λ e. NamesPlaceIn (F.files folder.old) table.entry.path.now fault.now e.place) }
+    ensures { IfOk result (λ e. e.place ≡ place_text table.entry.path.now line (column_place (fault.now).column)) }
 {
-    let line = line_again(alloc, folder, table.path, fault.row as usize);
     let found = found_in(alloc, &table.again.report, fault, cells)?;
     let found = with_first_line(alloc, folder, table.path, fault, cells, found)?;
     let sources = elsewhere(alloc, folder, table, fault, cells, line)?;
@@ -265,37 +267,86 @@ fn at_record<R: Read + Drop, F: Folder<R>>(
     })
 }
 
-/// Returns the explanation of a fault of a table whose file is at this path.
+/// What is found out about a table's fault when its file is read again.
+#[derive(Drop)]
+pub struct ExplainedFault {
+    /// What `--explain` prints.
+    pub explanation: Explanation,
+    /// What the file of faults has.
+    pub place: FaultPlace,
+}
+
+/// Returns what is known of a fault without a place in its file, with this explanation.
+fn without_place(alloc: Global, explanation: Explanation) -> Result<ExplainedFault, AllocError>
+    ensures explanation { IfOk result (λ e. e.explanation ≡ explanation) }
+    ensures place { IfOk result (λ e. e.place ≡ unknown_place) }
+{
+    match FaultPlace::unknown(alloc) {
+        Ok(place) => Ok(ExplainedFault { explanation, place }),
+        Err(error) => Err(error),
+    }
+}
+
+/// Returns what is known of a fault at this record of a table's file.
+fn with_record<R: Read + Drop, F: Folder<R>>(
+    alloc: Global,
+    folder: &mut F,
+    table: TableAgain<'_>,
+    fault: &TableFault,
+    found: FaultRecord,
+) -> Result<ExplainedFault, AllocError>
+    requires { (fault.now).table < length table.again.now.report.tables }
+    ensures explanation { IfOk result (λ e. e.explanation.place ≡ place_text table.entry.path.now found.place.line (column_place (fault.now).column)) }
+    ensures place { IfOk result (λ e. e.place ≡ found.place) }
+{
+    let line = found.place.line;
+    match at_record(alloc, folder, table, fault, &found.cells, line) {
+        Ok(explanation) => {
+            let FaultRecord { cells: _, place } = found;
+            Ok(ExplainedFault { explanation, place })
+        }
+        Err(error) => Err(error),
+    }
+}
+
+/// Returns what is known of a fault of a table whose file is at this path.
 fn at_path<R: Read + Drop, F: Folder<R>>(
     alloc: Global,
     folder: &mut F,
     table: TableAgain<'_>,
     fault: &TableFault,
-) -> Result<Explanation, AllocError>
+) -> Result<ExplainedFault, AllocError>
     requires { (fault.now).table < length table.again.now.report.tables }
-    ensures { IfOk result (λ e. IfSome (F.files folder.old) (λ files. ExplainsAt files table.entry.path.now table.entry.again.now.report fault.now e)) }
+    ensures explanation { IfOk result (λ e. IfSome (F.files folder.old) (λ files. ExplainsAt files table.entry.path.now table.entry.again.now.report fault.now e.explanation)) }
+    ensures place { IfOk result (λ e. IfSome (F.files folder.old) (λ files. (e.place ≡ unknown_place) ⊎ IsPlaceAt files table.entry.path.now table.entry.again.now.report fault.now e.place)) }
 {
     if is_of_file(fault.kind) {
-        return of_file(alloc, table.path, fault.kind.explanation());
+        let explanation = of_file(alloc, table.path, fault.kind.explanation())?;
+        return without_place(alloc, explanation);
     }
-    match record_again(alloc, folder, table.path, &table.again.report, fault)? {
-        Some(cells) => at_record(alloc, folder, table, fault, &cells),
-        None => changed(alloc, table.path),
+    match fault_record(alloc, folder, table.path, &table.again.report, fault)? {
+        Some(record) => with_record(alloc, folder, table, fault, record),
+        None => without_place(alloc, changed(alloc, table.path)?),
     }
 }
 
-/// Returns the explanation of a fault of a table of the report whose metadata is at this path.
-fn of_table<R: Read + Drop, F: Folder<R>>(
+/// Returns what is found out about the fault of a table of this report, whose metadata is at
+/// `meta`: its explanation, and its place in the file of faults. The table's file is read again.
+///
+/// If the file no longer has the fault or cannot be read again, the explanation is about that, and
+/// the place is unknown.
+pub fn explained_fault<R: Read + Drop, F: Folder<R>>(
     alloc: Global,
     meta: &str,
     folder: &mut F,
     again: &ReportAgain,
     fault: &TableFault,
-) -> Result<Explanation, AllocError>
-    ensures { IfOk result (λ e. IfSome (F.files folder.old) (λ files. ExplainsTable files meta.now again.now.report fault.now e)) }
+) -> Result<ExplainedFault, AllocError>
+    ensures explanation { IfOk result (λ e. IfSome (F.files folder.old) (λ files. ExplainsTable files meta.now again.now.report fault.now e.explanation)) }
+    ensures place { IfOk result (λ e. IfSome (F.files folder.old) (λ files. IsPlaceOf files meta.now again.now.report fault.now e.place)) }
 {
     if fault.table >= again.report.tables() {
-        return changed(alloc, meta);
+        return without_place(alloc, changed(alloc, meta)?);
     }
     let path = table_path(alloc, meta, &again.report, fault.table)?;
     let table = TableAgain {
@@ -321,6 +372,6 @@ pub fn explain_table<R: Read + Drop, F: Folder<R>>(
 ) -> Result<String, AllocError>
     ensures { IfOk result (λ s. SaysOfTable (F.files folder.old) meta.now again.now.report fault.now (string_bytes s)) }
 {
-    let explanation = of_table(alloc, meta, folder, again, fault)?;
-    explanation_text(alloc, &explanation)
+    let explained = explained_fault(alloc, meta, folder, again, fault)?;
+    explanation_text(alloc, &explained.explanation)
 }

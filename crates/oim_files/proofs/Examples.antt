@@ -9,13 +9,20 @@ use Rattle.serde_json.specs.Data.{Data, Members, member, no_members, object, str
 use Rattle.oim_meta.specs.BadParameters.{has_bad_parameter_url}
 use Rattle.oim_meta.specs.Faults.{has_no_report}
 use Rattle.oim_names.specs.PlainPath.{is_plain_path}
+use Rattle.oim_meta.specs.Findings.{finding}
+use Rattle.oim_meta.specs.declared.findings.Finding.{Finding}
+use Rattle.oim_entries.specs.declared.fault.MetaFault.{MetaFault}
 use Rattle.oim_entries.specs.declared.fault.MetaFault.TheVariants as refused
 use Rattle.oim_records.specs.Grids.{records_left}
 use Rattle.oim_report.specs.ReportValue.{ReportValue}
 use Rattle.oim_report.specs.declared.limits.Limits.{Limits}
 use Rattle.oim_files.specs.Folders.{Files, first_at}
-use Rattle.oim_files.specs.Metadata.{front_within, json_of, profile, read_as, url_in}
-use Rattle.oim_files.specs.Steps.{Stops, looking, metadata_steps, opening, parameters_steps, reading, step, steps, types_steps, value_or}
+use Rattle.oim_meta.specs.Walk.{in_dimensions, in_level, in_templates}
+use Rattle.oim_meta.specs.WalkReport.{in_document, in_info_in, in_metadata, in_parts}
+use Rattle.oim_meta.specs.WalkTables.{in_own_parameters, in_parameters, in_tables}
+use Rattle.oim_files.specs.Metadata.{front_within, json_of, of_whole, profile, read_as, report_in, url_in, url_place}
+use Rattle.oim_files.specs.Steps.{Stops, in_whole, looking, metadata_steps, opening, parameters_steps, reading, step, steps, types_steps, value_or}
+use Rattle.oim_files.specs.declared.early_fault.EarlyFault.{EarlyFault}
 use Rattle.oim_files.specs.declared.early_fault.EarlyFault.TheVariants as early
 use Rattle.oim_files.specs.declared.early_fault.Source.TheVariants as source
 
@@ -38,11 +45,11 @@ abbrev two_bytes : Limits
 two_bytes = record profile { metadata = 2 }
 
 -- A metadata with as many bytes as the limit is read. One with more is not.
-metadata_at_the_limit : read_as {A = ℕ} two_bytes (λ _. Ok 0) (255 ∷ 255 ∷ []) ≡ Err refused.Syntax
+metadata_at_the_limit : read_as {A = ℕ} two_bytes (λ _. Ok 0) (255 ∷ 255 ∷ []) ≡ Err (finding refused.Syntax [])
 unfolding is_utf8 chars
 metadata_at_the_limit = refl
 
-metadata_past_the_limit : read_as {A = ℕ} two_bytes (λ _. Ok 0) (255 ∷ 255 ∷ 255 ∷ []) ≡ Err refused.TooLarge
+metadata_past_the_limit : read_as {A = ℕ} two_bytes (λ _. Ok 0) (255 ∷ 255 ∷ 255 ∷ []) ≡ Err (finding refused.TooLarge [])
 metadata_past_the_limit = refl
 
 -- One byte past the limit is read, and no byte after it.
@@ -66,11 +73,32 @@ no_named_file : url_in (csv_with no_members) ≡ Ok None
 unfolding has_no_report has_bad_parameter_url is_plain_path
 no_named_file = refl
 
-named_file_above : url_in (csv_with (member (codes "parameterURL") (string (codes "../p.csv")) no_members)) ≡ Err refused.BadParameter
+named_file_above : url_in (csv_with (member (codes "parameterURL") (string (codes "../p.csv")) no_members)) ≡ Err (finding refused.BadParameter (codes "parameterURL" ∷ []))
 unfolding has_no_report has_bad_parameter_url is_plain_path
 named_file_above = refl
 
+-- The document type is tested first.
+no_document_type : url_in (object (member (codes "parameterURL") (string (codes "../p.csv")) no_members)) ≡ Err (finding refused.NotReport (codes "documentInfo" ∷ codes "documentType" ∷ []))
+unfolding has_no_report has_bad_parameter_url is_plain_path
+no_document_type = refl
+
+-- No other fault has a place before the metadata is walked.
+other_places : map url_place (refused.Syntax ∷ refused.TooLarge ∷ refused.Memory ∷ []) ≡ [] ∷ [] ∷ [] ∷ []
+other_places = refl
+
+-- The report's fault is the first finding of the walk, with its place.
+report_place : report_in profile [] [] (object no_members) ≡ Err (finding refused.NotReport (codes "documentInfo" ∷ codes "documentType" ∷ []))
+unfolding in_metadata in_document in_info_in in_parts in_level in_dimensions in_templates in_tables in_own_parameters in_parameters has_no_report has_bad_parameter_url
+report_place = refl
+
 -- THE FILES
+
+-- A fault of the types table, which has no place in a metadata.
+abbrev of_types : MetaFault → EarlyFault
+of_types f = early.Report source.Types (finding f [])
+
+abbrev at_the_url : Finding
+at_the_url = finding refused.BadParameter (codes "parameterURL" ∷ [])
 
 -- The first of two files with one path.
 first_files : map (first_at ((word (codes "a"), word (codes "1")) ∷ (word (codes "b"), word (codes "2")) ∷ (word (codes "a"), word (codes "3")) ∷ []))
@@ -89,23 +117,25 @@ missing_metadata = refl
 missing_types : map (λ s. s.fault) (metadata_steps held (codes "f/m.json") ++ opening held (codes "x.csv") ∷ []) ≡ None ∷ None ∷ Some (early.CannotRead (codes "x.csv")) ∷ []
 missing_types = refl
 
-wrong_types : reading {A = ReportValue} source.Types (Err refused.BadTypes)
-    ≡ step (Some (early.Report source.Types refused.BadTypes)) (early.Report source.Types refused.Read ∷ early.Report source.Types refused.Memory ∷ [])
+wrong_types : reading {A = ReportValue} source.Types (in_whole (Err refused.BadTypes)) ≡ step (Some (of_types refused.BadTypes)) (of_types refused.Read ∷ of_types refused.Memory ∷ [])
 wrong_types = refl
+
+right_types : map (in_whole {A = ℕ}) (Ok 1 ∷ Err refused.BadTypes ∷ []) ≡ Ok 1 ∷ Err (finding refused.BadTypes []) ∷ []
+right_types = refl
 
 -- The types table is opened and read, and then the parameters file.
 unread_types : map (λ s. s.refusals) (types_steps held (codes "f/types.csv"))
-    ≡ (early.Memory ∷ []) ∷ (early.Report source.Types refused.Read ∷ early.Report source.Types refused.Memory ∷ []) ∷ []
+    ≡ (early.Memory ∷ []) ∷ (of_types refused.Read ∷ of_types refused.Memory ∷ []) ∷ []
 unread_types = refl
 
 unread_parameters : map (λ s. s.refusals) (parameters_steps held (codes "f/") (Some (codes "p.csv")))
-    ≡ (early.Memory ∷ []) ∷ (early.Report source.Parameters refused.Read ∷ early.Report source.Parameters refused.Memory ∷ []) ∷ []
+    ≡ (early.Memory ∷ []) ∷ (early.Report source.Parameters (finding refused.Read []) ∷ early.Report source.Parameters (finding refused.Memory []) ∷ []) ∷ []
 unread_parameters = refl
 
-wrong_url : looking {A = ℕ} (Err refused.BadParameter) ≡ step (Some (early.Report source.Report refused.BadParameter)) (early.Report source.Report refused.Memory ∷ [])
+wrong_url : looking {A = ℕ} (Err at_the_url) ≡ step (Some (early.Report source.Report at_the_url)) (early.Report source.Report (finding refused.Memory []) ∷ [])
 wrong_url = refl
 
-values : map (value_or []) (Ok (codes "p") ∷ Err refused.Syntax ∷ []) ≡ codes "p" ∷ [] ∷ []
+values : map (value_or []) (Ok (codes "p") ∷ Err (of_whole refused.Syntax) ∷ []) ≡ codes "p" ∷ [] ∷ []
 values = refl
 
 no_parameters : parameters_steps held (codes "f/") None ≡ []
@@ -114,7 +144,7 @@ no_parameters = refl
 missing_parameters : map (λ s. s.fault) (take 1 (parameters_steps held (codes "f/") (Some (codes "p.csv")))) ≡ Some (early.CannotRead (codes "f/p.csv")) ∷ []
 missing_parameters = refl
 
-unread_metadata : map (λ s. s.refusals) (metadata_steps held (codes "f/m.json")) ≡ (early.Memory ∷ []) ∷ (early.Report source.Report refused.Read ∷ early.Memory ∷ []) ∷ []
+unread_metadata : map (λ s. s.refusals) (metadata_steps held (codes "f/m.json")) ≡ (early.Memory ∷ []) ∷ (early.Report source.Report (finding refused.Read []) ∷ early.Memory ∷ []) ∷ []
 unread_metadata = refl
 
 -- A run ends at the first file that is missing, or at a file that exists because memory runs out.
@@ -134,7 +164,7 @@ no_text path = if bytes_eq path (codes "f/m.json") then Some (255 ∷ []) else N
 -- The metadata is opened and read, then the types table. Then the metadata is tested, for the name
 -- of the parameters file and as a whole.
 faults_in_order : map (λ s. s.fault) (steps no_text (codes "f/") (codes "f/m.json") (codes "x.csv"))
-    ≡ None ∷ None ∷ Some (early.CannotRead (codes "x.csv")) ∷ Some (early.Report source.Types refused.BadTypes)
-    ∷ Some (early.Report source.Report refused.Syntax) ∷ Some (early.Report source.Report refused.Syntax) ∷ []
+    ≡ None ∷ None ∷ Some (early.CannotRead (codes "x.csv")) ∷ Some (of_types refused.BadTypes)
+    ∷ Some (early.Report source.Report (finding refused.Syntax [])) ∷ Some (early.Report source.Report (finding refused.Syntax [])) ∷ []
 unfolding records_left records_from strip_bom next_record is_utf8 chars encode
 faults_in_order = refl

@@ -38,10 +38,11 @@ use Rattle.oim_report.specs.ReportValue.{ReportValue}
 use Rattle.oim_report.specs.Types.{TypesValue}
 use Rattle.oim_entries.specs.declared.fault.MetaFault.{MetaFault}
 use Rattle.oim_entries.specs.declared.fault.MetaFault.TheVariants as refused
+use Rattle.oim_meta.specs.declared.findings.Finding.{Finding}
 use Rattle.oim_files.proofs.MetadataFacts.{report_taken, url_taken}
 use Rattle.oim_files.specs.Folders.{Files}
-use Rattle.oim_files.specs.Metadata.{front_within, profile, report_result, url_result}
-use Rattle.oim_files.specs.Steps.{GivesReport, IsAmong, IsParameters, Passes, Step, Stops, Takes, TakesTo, bytes_at, front_at, looking, metadata_steps, missing, opening, parameters_at, parameters_of, parameters_steps, reading, report_at, step, types_at, types_steps, url_at, value_or, wrong}
+use Rattle.oim_files.specs.Metadata.{front_within, of_whole, profile, report_result, url_finding, url_result}
+use Rattle.oim_files.specs.Steps.{GivesReport, GivesRest, HasRead, IsAmong, IsParameters, Passes, Step, Stops, Takes, TakesTo, bytes_at, front_at, in_whole, looking, metadata_steps, missing, opening, parameters_at, parameters_of, parameters_steps, reading, report_at, step, types_at, types_steps, url_at, value_or, whole, wrong}
 use Rattle.oim_files.specs.declared.early_fault.EarlyFault.{EarlyFault}
 use Rattle.oim_files.specs.declared.early_fault.EarlyFault.TheVariants as early
 use Rattle.oim_files.specs.declared.early_fault.Source.{Source}
@@ -124,18 +125,18 @@ IsOpened told r files path = Passes (opening files path ∷ []) × (told r ≡ S
 
 module _ {R A : Type 0} (told : R → Option (List ℕ)) (r : R) (s : Source) (read : List ℕ → Result A MetaFault) where
   abbrev Read : Files → List ℕ → Result A EarlyFault → Type 0
-  Read files path result = TakesTo {X = A} (opening files path ∷ reading s (read (bytes_at files path)) ∷ []) (read (bytes_at files path)) result
+  Read files path result = TakesTo {X = A} (opening files path ∷ reading s (in_whole (read (bytes_at files path))) ∷ []) (in_whole (read (bytes_at files path))) result
 
-  value_read : (a : A) (answer : Result A MetaFault) → OrOutside (Ok a) answer → answer ≡ Ok a
+  value_read : (a : A) (answer : Result A MetaFault) → OrOutside (Ok a) answer → in_whole answer ≡ Ok a
   value_read a answer (inl e) = absurd (ok_no_err a refused.Read e)
   value_read a answer (inr (inl e)) = absurd (ok_no_err a refused.Memory e)
-  value_read a answer (inr (inr e)) = sym e
+  value_read a answer (inr (inr e)) = ap in_whole (sym e)
 
   fault_read : (f : MetaFault) (answer : Result A MetaFault) → OrOutside (Err f) answer
-      → (wrong s answer ≡ Some (early.Report s f)) ⊎ IsAmong (early.Report s f) (early.Report s refused.Read ∷ early.Report s refused.Memory ∷ [])
-  fault_read f answer (inl e) = inr (inl (ap (early.Report s) (err_same {A = A} f refused.Read e)))
-  fault_read f answer (inr (inl e)) = inr (inr (inl (ap (early.Report s) (err_same {A = A} f refused.Memory e))))
-  fault_read f answer (inr (inr e)) = inl (ap (wrong s) (sym e))
+      → (wrong s (in_whole answer) ≡ Some (whole s f)) ⊎ IsAmong (whole s f) (whole s refused.Read ∷ whole s refused.Memory ∷ [])
+  fault_read f answer (inl e) = inr (inl (ap (whole s) (err_same {A = A} f refused.Read e)))
+  fault_read f answer (inr (inl e)) = inr (inr (inl (ap (whole s) (err_same {A = A} f refused.Memory e))))
+  fault_read f answer (inr (inr e)) = inl (ap (λ k. wrong s (in_whole k)) (sym e))
 
   pub reads_value : (known : Option Files) (path : List ℕ) (a : A) → IfSome known (λ files. IsOpened told r files path)
       → IfSome (told r) (λ bytes. OrOutside (Ok a) (read bytes)) → IfSome known (λ files. Read files path (Ok a))
@@ -144,20 +145,21 @@ module _ {R A : Type 0} (told : R → Option (List ℕ)) (r : R) (s : Source) (r
       let e = value_read a (read (bytes_at files path)) (subst (λ k. IfSome k (λ bytes. OrOutside (Ok a) (read bytes))) is.1 answer) in
       ((is.0.0, (ap (wrong s) e, tt)), e)
 
-  pub reads_fault : (known : Option Files) (path : List ℕ) (f : MetaFault) → IfSome known (λ files. IsOpened told r files path)
-      → IfSome (told r) (λ bytes. OrOutside {A = A} (Err f) (read bytes)) → IfSome known (λ files. Read files path (Err (early.Report s f)))
-  reads_fault None path f is answer = tt
-  reads_fault (Some files) path f is answer =
-      let o = early.Report s f in
-      stops_later (opening files path ∷ []) (reading s (read (bytes_at files path)) ∷ []) o is.0
-      (stops_at (reading s (read (bytes_at files path))) [] o
-      (fault_read f (read (bytes_at files path)) (subst (λ k. IfSome k (λ bytes. OrOutside {A = A} (Err f) (read bytes))) is.1 answer)))
+  pub reads_fault : (known : Option Files) (path : List ℕ) (f : MetaFault) (o : EarlyFault) → o ≡ whole s f → IfSome known (λ files. IsOpened told r files path)
+      → IfSome (told r) (λ bytes. OrOutside {A = A} (Err f) (read bytes)) → IfSome known (λ files. Read files path (Err o))
+  reads_fault None path f o same is answer = tt
+  reads_fault (Some files) path f o same is answer =
+      let answers = in_whole (read (bytes_at files path)) in
+      subst (λ w. Read files path (Err w)) (sym same)
+      (stops_later (opening files path ∷ []) (reading s answers ∷ []) (whole s f) is.0
+      (stops_at (reading s answers) [] (whole s f)
+      (fault_read f (read (bytes_at files path)) (subst (λ k. IfSome k (λ bytes. OrOutside {A = A} (Err f) (read bytes))) is.1 answer))))
 
 -- A file that was not opened is not read.
 pub reads_none : {A : Type 0} (s : Source) (read : List ℕ → Result A MetaFault) (known : Option Files) (path : List ℕ) (o : EarlyFault) → IfSome known (λ files. Stops (opening files path ∷ []) o)
-    → IfSome known (λ files. Stops (opening files path ∷ reading s (read (bytes_at files path)) ∷ []) o)
+    → IfSome known (λ files. Stops (opening files path ∷ reading s (in_whole (read (bytes_at files path))) ∷ []) o)
 reads_none s read None path o stop = tt
-reads_none s read (Some files) path o stop = stops_first (opening files path ∷ []) (reading s (read (bytes_at files path)) ∷ []) o stop
+reads_none s read (Some files) path o stop = stops_first (opening files path ∷ []) (reading s (in_whole (read (bytes_at files path))) ∷ []) o stop
 
 -- THE METADATA
 
@@ -165,7 +167,7 @@ abbrev most : ℕ
 most = profile.metadata + 1
 
 abbrev unread : List EarlyFault
-unread = early.Report source.Report refused.Read ∷ early.Memory ∷ []
+unread = whole source.Report refused.Read ∷ early.Memory ∷ []
 
 abbrev pub IsMetadata : {V : Type 0} → (V → List ℕ) → Files → List ℕ → Result V EarlyFault → Type 0
 IsMetadata items files path result = Takes (metadata_steps files path) (λ v. items v ≡ front_at files path) result
@@ -198,13 +200,28 @@ read_most told r inner limit start items same is empty h =
 
 -- TESTS OF WHAT WAS READ
 
-module _ {A : Type 0} (answer : Result A MetaFault) where
+module _ {A : Type 0} (answer : Result A Finding) where
   pub looks_value : (a : A) → answer ≡ Ok a → TakesTo {X = A} (looking answer ∷ []) answer (Ok a)
   looks_value a e = ((ap (wrong source.Report) e, tt), e)
 
-  pub looks_fault : (f : MetaFault) → (f ≡ refused.Memory) ⊎ (answer ≡ Err f) → TakesTo {X = A} (looking answer ∷ []) answer (Err (early.Report source.Report f))
-  looks_fault f (inl e) = stops_at (looking answer) [] (early.Report source.Report f) (inr (inl (ap (early.Report source.Report) e)))
-  looks_fault f (inr e) = stops_at (looking answer) [] (early.Report source.Report f) (inl (ap (wrong source.Report) e))
+  pub looks_finding : (x : Finding) → answer ≡ Err x → TakesTo {X = A} (looking answer ∷ []) answer (Err (early.Report source.Report x))
+  looks_finding x e = stops_at (looking answer) [] (early.Report source.Report x) (inl (ap (wrong source.Report) e))
+
+  pub looks_memory : TakesTo {X = A} (looking answer ∷ []) answer (Err (whole source.Report refused.Memory))
+  looks_memory = stops_at (looking answer) [] (whole source.Report refused.Memory) (inr (inl refl))
+
+  pub looks_whole : (f : MetaFault) → (f ≡ refused.Memory) ⊎ (answer ≡ Err (of_whole f)) → TakesTo {X = A} (looking answer ∷ []) answer (Err (whole source.Report f))
+  looks_whole f (inl e) = subst (λ g. TakesTo {X = A} (looking answer ∷ []) answer (Err (whole source.Report g))) (sym e) looks_memory
+  looks_whole f (inr e) = looks_finding (of_whole f) e
+
+  url_looks : (f : MetaFault) → (f ≡ refused.Memory) ⊎ (answer ≡ Err (url_finding f)) → TakesTo {X = A} (looking answer ∷ []) answer (Err (early.Report source.Report (url_finding f)))
+  url_looks f (inl e) = subst (λ g. TakesTo {X = A} (looking answer ∷ []) answer (Err (early.Report source.Report (url_finding g)))) (sym e) looks_memory
+  url_looks f (inr e) = looks_finding (url_finding f) e
+
+  pub looks_url : (f : MetaFault) (o : EarlyFault) → (o ≡ early.Report source.Report (url_finding f)) ⊎ (o ≡ whole source.Report refused.Memory)
+      → (f ≡ refused.Memory) ⊎ (answer ≡ Err (url_finding f)) → TakesTo {X = A} (looking answer ∷ []) answer (Err o)
+  looks_url f o (inl is) found = subst (λ p. TakesTo {X = A} (looking answer ∷ []) answer (Err p)) (sym is) (url_looks f found)
+  looks_url f o (inr is) found = subst (λ p. TakesTo {X = A} (looking answer ∷ []) answer (Err p)) (sym is) looks_memory
 
 -- ALL STEPS
 
@@ -220,9 +237,6 @@ from_url files base meta types = looking (url_at files meta) ∷ [] ++ from_para
 
 abbrev from_types : Files → (base meta types : List ℕ) → List Step
 from_types files base meta types = types_steps files types ++ from_url files base meta types
-
-abbrev pub HasRead : Files → List ℕ → List ℕ → Type 0
-HasRead files meta items = Passes (metadata_steps files meta) × (items ≡ front_at files meta)
 
 abbrev pub HasTypes : Files → List ℕ → TypesValue → Type 0
 HasTypes files types known = Passes (types_steps files types) × (types_at files types ≡ Ok known)
@@ -306,35 +320,42 @@ module _ (files : Files) (base meta types : List ℕ) where
           (stops_later (looking (url_at files meta) ∷ []) (from_parameters files base meta types) o looked
           (stops_later (parameters_steps files base (value_or None (url_at files meta))) (from_report files base meta types) o found takes)))
 
--- The same, for a folder whose files are known.
+-- The same, for a folder whose files are known, with any metadata that was read as these bytes.
 pub metadata_stop : (told : Option Files) (base meta types : List ℕ) (o : EarlyFault) → IfSome told (λ files. Stops (metadata_steps files meta) o)
     → IfSome told (λ files. GivesReport files base meta types (Err o))
 metadata_stop None base meta types o s = tt
 metadata_stop (Some files) base meta types o s = metadata_stops files base meta types o s
 
-pub types_stop : (told : Option Files) (base meta types items : List ℕ) (o : EarlyFault) → IfSome told (λ files. HasRead files meta items)
-    → IfSome told (λ files. Stops (types_steps files types) o) → IfSome told (λ files. GivesReport files base meta types (Err o))
-types_stop None base meta types items o read s = tt
-types_stop (Some files) base meta types items o read s = types_stops files base meta types items o read s
+pub types_stop : (told : Option Files) (base types items : List ℕ) (o : EarlyFault)
+    → IfSome told (λ files. Stops (types_steps files types) o) → IfSome told (λ files. GivesRest files base items types (Err o))
+types_stop None base types items o s = tt
+types_stop (Some files) base types items o s = λ meta read. types_stops files base meta types items o read s
 
-pub url_stop : (told : Option Files) (base meta types items : List ℕ) (known : TypesValue) (o : EarlyFault) → IfSome told (λ files. HasRead files meta items)
-    → IfSome told (λ files. HasTypes files types known) → Stops (looking (url_result profile items) ∷ []) o → IfSome told (λ files. GivesReport files base meta types (Err o))
-url_stop None base meta types items known o read typed s = tt
-url_stop (Some files) base meta types items known o read typed s = url_stops files base meta types items known o read typed s
+pub url_stop : (told : Option Files) (base types items : List ℕ) (known : TypesValue) (o : EarlyFault)
+    → IfSome told (λ files. HasTypes files types known) → Stops (looking (url_result profile items) ∷ []) o → IfSome told (λ files. GivesRest files base items types (Err o))
+url_stop None base types items known o typed s = tt
+url_stop (Some files) base types items known o typed s = λ meta read. url_stops files base meta types items known o read typed s
 
-pub parameters_stop : (told : Option Files) (base meta types items : List ℕ) (known : TypesValue) (url : Option (List ℕ)) (o : EarlyFault) → IfSome told (λ files. HasRead files meta items)
+pub parameters_stop : (told : Option Files) (base types items : List ℕ) (known : TypesValue) (url : Option (List ℕ)) (o : EarlyFault)
     → IfSome told (λ files. HasTypes files types known) → HasUrl items url → IfSome told (λ files. Stops (parameters_steps files base url) o)
-    → IfSome told (λ files. GivesReport files base meta types (Err o))
-parameters_stop None base meta types items known url o read typed named s = tt
-parameters_stop (Some files) base meta types items known url o read typed named s = parameters_stops files base meta types items known url o read typed named s
+    → IfSome told (λ files. GivesRest files base items types (Err o))
+parameters_stop None base types items known url o typed named s = tt
+parameters_stop (Some files) base types items known url o typed named s = λ meta read. parameters_stops files base meta types items known url o read typed named s
 
-pub report_stop : (told : Option Files) (base meta types items : List ℕ) (known : TypesValue) (url : Option (List ℕ)) (given : ParametersValue) (result : Result ReportValue EarlyFault)
-    → IfSome told (λ files. HasRead files meta items) → IfSome told (λ files. HasTypes files types known) → HasUrl items url → IfSome told (λ files. HasParameters files base url given)
+pub report_stop : (told : Option Files) (base types items : List ℕ) (known : TypesValue) (url : Option (List ℕ)) (given : ParametersValue) (result : Result ReportValue EarlyFault)
+    → IfSome told (λ files. HasTypes files types known) → HasUrl items url → IfSome told (λ files. HasParameters files base url given)
     → TakesTo (looking (report_result profile given known items) ∷ []) (report_result profile given known items) result
+    → IfSome told (λ files. GivesRest files base items types result)
+report_stop None base types items known url given result typed named parameters takes = tt
+report_stop (Some files) base types items known url given result typed named parameters takes =
+    λ meta read. report_ends files base meta types items known url given result read typed named parameters takes
+
+-- The metadata was read, and then the rest.
+pub with_rest : (told : Option Files) (base meta types items : List ℕ) (result : Result ReportValue EarlyFault)
+    → IfSome told (λ files. HasRead files meta items) → IfSome told (λ files. GivesRest files base items types result)
     → IfSome told (λ files. GivesReport files base meta types result)
-report_stop None base meta types items known url given result read typed named parameters takes = tt
-report_stop (Some files) base meta types items known url given result read typed named parameters takes =
-    report_ends files base meta types items known url given result read typed named parameters takes
+with_rest None base meta types items result read rest = tt
+with_rest (Some files) base meta types items result read rest = rest meta read
 
 -- THE PARAMETERS FILE
 
@@ -350,7 +371,7 @@ no_path (Some files) base url o is =
 
 abbrev ReadAt : Files → List ℕ → Result ParametersValue EarlyFault → Type 0
 ReadAt files path result =
-    TakesTo (opening files path ∷ reading source.Parameters (parameters_result (grid (bytes_at files path))) ∷ []) (parameters_result (grid (bytes_at files path))) result
+    TakesTo (opening files path ∷ reading source.Parameters (in_whole (parameters_result (grid (bytes_at files path)))) ∷ []) (in_whole (parameters_result (grid (bytes_at files path)))) result
 
 pub at_path : (known : Option Files) (base url path : List ℕ) (result : Result ParametersValue EarlyFault) → path ≡ base ++ url → IfSome known (λ files. ReadAt files path result)
     → IfSome known (λ files. IsParameters files base (Some url) result)

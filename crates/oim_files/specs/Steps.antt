@@ -10,7 +10,8 @@ use Rattle.oim_entries.specs.TypesFile.{types_result}
 use Rattle.oim_entries.specs.declared.fault.MetaFault.{MetaFault}
 use Rattle.oim_entries.specs.declared.fault.MetaFault.TheVariants as refused
 use Rattle.oim_files.specs.Folders.{Files}
-use Rattle.oim_files.specs.Metadata.{front_within, profile, report_result, url_result}
+use Rattle.oim_meta.specs.declared.findings.Finding.{Finding}
+use Rattle.oim_files.specs.Metadata.{front_within, of_whole, profile, report_result, url_result}
 use Rattle.oim_files.specs.declared.early_fault.EarlyFault.{EarlyFault}
 use Rattle.oim_files.specs.declared.early_fault.EarlyFault.TheVariants as early
 use Rattle.oim_files.specs.declared.early_fault.Source.{Source}
@@ -27,32 +28,37 @@ abbrev pub front_at : Files → List ℕ → List ℕ
 front_at files meta = front_within profile (bytes_at files meta)
 
 -- The value of a file, or an empty one if it has a fault.
-abbrev pub value_or : {A : Type 0} → A → Result A MetaFault → A
+abbrev pub value_or : {A : Type 0} → A → Result A Finding → A
 value_or empty (Ok a) = a
-value_or empty (Err f) = empty
+value_or empty (Err x) = empty
+
+-- The value of a file whose fault is of the file as a whole.
+abbrev pub in_whole : {A : Type 0} → Result A MetaFault → Result A Finding
+in_whole (Ok a) = Ok a
+in_whole (Err f) = Err (of_whole f)
 
 -- The types table.
-abbrev pub types_at : Files → List ℕ → Result TypesValue MetaFault
-types_at files types = types_result (grid (bytes_at files types))
+abbrev pub types_at : Files → List ℕ → Result TypesValue Finding
+types_at files types = in_whole (types_result (grid (bytes_at files types)))
 
 -- The URL of the parameters file, if a metadata of these bytes has one.
-abbrev pub url_of : List ℕ → Result (Option (List ℕ)) MetaFault
+abbrev pub url_of : List ℕ → Result (Option (List ℕ)) Finding
 url_of bytes = url_result profile bytes
 
 -- The same for the metadata at a path.
-abbrev pub url_at : Files → List ℕ → Result (Option (List ℕ)) MetaFault
+abbrev pub url_at : Files → List ℕ → Result (Option (List ℕ)) Finding
 url_at files meta = url_of (bytes_at files meta)
 
 -- The parameters; empty if no file is named.
-abbrev pub parameters_at : Files → List ℕ → Option (List ℕ) → Result ParametersValue MetaFault
+abbrev pub parameters_at : Files → List ℕ → Option (List ℕ) → Result ParametersValue Finding
 parameters_at files base None = Ok []
-parameters_at files base (Some url) = parameters_result (grid (bytes_at files (base ++ url)))
+parameters_at files base (Some url) = in_whole (parameters_result (grid (bytes_at files (base ++ url))))
 
 abbrev pub parameters_of : Files → (base meta : List ℕ) → ParametersValue
 parameters_of files base meta = value_or [] (parameters_at files base (value_or None (url_at files meta)))
 
 -- The report.
-abbrev pub report_at : Files → (base meta types : List ℕ) → Result ReportValue MetaFault
+abbrev pub report_at : Files → (base meta types : List ℕ) → Result ReportValue Finding
 report_at files base meta types = report_result profile (parameters_of files base meta) (value_or [] (types_at files types)) (bytes_at files meta)
 
 -- THE STEPS
@@ -72,23 +78,27 @@ abbrev pub missing : List ℕ → Option (List ℕ) → Option EarlyFault
 missing path None = Some (early.CannotRead path)
 missing path (Some bytes) = None
 
--- The file of this source has a fault.
-abbrev pub wrong : {A : Type 0} → Source → Result A MetaFault → Option EarlyFault
+-- The file of this source has a fault, at this place.
+abbrev pub wrong : {A : Type 0} → Source → Result A Finding → Option EarlyFault
 wrong s (Ok a) = None
-wrong s (Err f) = Some (early.Report s f)
+wrong s (Err x) = Some (early.Report s x)
+
+-- The file of this source as a whole has a fault, or was not read to its end.
+abbrev pub whole : Source → MetaFault → EarlyFault
+whole s f = early.Report s (of_whole f)
 
 abbrev pub opening : Files → List ℕ → Step
 opening files path = step (missing path (files path)) (early.Memory ∷ [])
 
-abbrev pub reading : {A : Type 0} → Source → Result A MetaFault → Step
-reading s answer = step (wrong s answer) (early.Report s refused.Read ∷ early.Report s refused.Memory ∷ [])
+abbrev pub reading : {A : Type 0} → Source → Result A Finding → Step
+reading s answer = step (wrong s answer) (whole s refused.Read ∷ whole s refused.Memory ∷ [])
 
 -- The metadata is in memory: this step reads no file.
-abbrev pub looking : {A : Type 0} → Result A MetaFault → Step
-looking answer = step (wrong source.Report answer) (early.Report source.Report refused.Memory ∷ [])
+abbrev pub looking : {A : Type 0} → Result A Finding → Step
+looking answer = step (wrong source.Report answer) (whole source.Report refused.Memory ∷ [])
 
 abbrev pub metadata_steps : Files → List ℕ → List Step
-metadata_steps files meta = opening files meta ∷ step None (early.Report source.Report refused.Read ∷ early.Memory ∷ []) ∷ []
+metadata_steps files meta = opening files meta ∷ step None (whole source.Report refused.Read ∷ early.Memory ∷ []) ∷ []
 
 abbrev pub types_steps : Files → List ℕ → List Step
 types_steps files types = opening files types ∷ reading source.Types (types_at files types) ∷ []
@@ -133,7 +143,7 @@ Takes steps right (Ok x) = Passes steps × right x
 Takes steps right (Err o) = Stops steps o
 
 -- The same, for a value that is given as a result.
-abbrev pub TakesTo : {X : Type 0} → List Step → Result X MetaFault → Result X EarlyFault → Type 0
+abbrev pub TakesTo : {X : Type 0} → List Step → Result X Finding → Result X EarlyFault → Type 0
 TakesTo {X} steps answer result = Takes {X = X} steps (λ x. answer ≡ Ok x) result
 
 -- The types of the types table, or the step at which reading it ends.
@@ -147,3 +157,11 @@ IsParameters files base url result = TakesTo (parameters_steps files base url) (
 -- The report that the files give, or the step at which reading them ends.
 abbrev pub GivesReport : Files → (base meta types : List ℕ) → Result ReportValue EarlyFault → Type 0
 GivesReport files base meta types result = TakesTo (steps files base meta types) (report_at files base meta types) result
+
+-- The metadata at a path was read, and these bytes are what is read of it.
+abbrev pub HasRead : Files → List ℕ → List ℕ → Type 0
+HasRead files meta bytes = Passes (metadata_steps files meta) × (bytes ≡ front_at files meta)
+
+-- The report that the files give with the metadata of these bytes, wherever it was read.
+abbrev pub GivesRest : Files → (base bytes types : List ℕ) → Result ReportValue EarlyFault → Type 0
+GivesRest files base bytes types result = (meta : List ℕ) → HasRead files meta bytes → GivesReport files base meta types result

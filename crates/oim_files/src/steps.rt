@@ -2,11 +2,13 @@
 //! fault that names the file and its fault.
 
 ghost use Rattle.std.specs.Prelude.{◌≡◌, ◌≢◌, ◌⊎◌, ◌++◌, [], ◌∷◌, IfErr, IfOk, IfSome, Ok, Some, option_map, string_bytes};
+ghost use Rattle.std.specs.Option.{option_to_list};
 ghost use Rattle.std.specs.IoError.{error_kind};
 ghost use Rattle.serde_json.specs.View.{view};
 ghost use Rattle.oim_meta.specs.Reading.{Reads};
-ghost use Rattle.oim_files.specs.Metadata.{front_within, profile, report_in as said_in};
-ghost use Rattle.oim_files.specs.Steps.{GivesReport, IsAmong, IsParameters, IsTypes, Takes, TakesTo, bytes_at, front_at, looking, metadata_steps, opening, url_of};
+ghost use Rattle.oim_files.specs.Metadata.{front_within, profile, report_in as said_in, url_finding, url_place};
+ghost use Rattle.oim_files.specs.Steps as spec;
+ghost use Rattle.oim_files.specs.Steps.{GivesReport, GivesRest, IsAmong, IsParameters, IsTypes, Takes, TakesTo, bytes_at, front_at, looking, metadata_steps, opening, url_of};
 ghost use Rattle.oim_files.specs.declared.early_fault.EarlyFault.TheVariants as early;
 ghost use Rattle.oim_files.specs.declared.early_fault.Source.TheVariants as source;
 ghost use Rattle.oim_entries.specs.declared.fault.MetaFault.TheVariants as refused;
@@ -14,10 +16,10 @@ ghost use Rattle.oim_entries.specs.declared.fault.MetaFault.TheVariants as refus
 use crate::early_fault::{EarlyFault, Source};
 use crate::folder::Folder;
 use oim_meta::{
-    Limits, MetaFault, Metadata, Parameters, Report, Types, parameter_url, read_parameters,
-    read_types,
+    Finding, Limits, MetaFault, Metadata, Parameters, Refusal, Report, Types, parameter_url,
+    read_parameters, read_types,
 };
-use oim_names::Text;
+use oim_names::{Items, Text};
 use std::alloc::{AllocError, Global};
 use std::io;
 use std::io::{ErrorKind, Read};
@@ -57,28 +59,36 @@ fn opened<R: Read + Drop, F: Folder<R>>(
     }
 }
 
+/// Returns the early fault of a file as a whole.
+fn whole(alloc: Global, source: Source, fault: MetaFault) -> EarlyFault
+    ensures { result ≡ spec.whole source fault }
+{
+    let place = Items::new(alloc);
+    EarlyFault::Report(source, Finding { fault, place })
+}
+
 /// Returns why the metadata was not read to its end.
-fn unread(error: io::Error) -> EarlyFault
+fn unread(alloc: Global, error: io::Error) -> EarlyFault
     ensures memory { error_kind error ≡ ErrorKind.OutOfMemory → result ≡ early.Memory }
-    ensures read { error_kind error ≢ ErrorKind.OutOfMemory → result ≡ early.Report source.Report refused.Read }
-    ensures one { IsAmong result (early.Report source.Report refused.Read ∷ early.Memory ∷ []) }
+    ensures read { error_kind error ≢ ErrorKind.OutOfMemory → result ≡ spec.whole source.Report refused.Read }
+    ensures one { IsAmong result (spec.whole source.Report refused.Read ∷ early.Memory ∷ []) }
 {
     match error.kind() {
         ErrorKind::OutOfMemory => EarlyFault::Memory,
-        _ => EarlyFault::Report(Source::Report, MetaFault::Read),
+        _ => whole(alloc, Source::Report, MetaFault::Read),
     }
 }
 
 /// Reads a metadata, up to one byte past the limit.
 fn bytes_of<R: Read + Drop>(alloc: Global, reader: R) -> Result<Vec<u8>, EarlyFault>
     ensures bytes { IfSome (R.remaining reader) (λ bytes. IfOk result (λ v. v.items ≡ front_within profile bytes)) }
-    ensures refused { IfErr result (λ e. IsAmong e (early.Report source.Report refused.Read ∷ early.Memory ∷ [])) }
+    ensures refused { IfErr result (λ e. IsAmong e (spec.whole source.Report refused.Read ∷ early.Memory ∷ [])) }
 {
     let mut bytes = Vec::new(alloc);
     let most = Limits::profile().metadata as u64 + 1;
     match reader.take(most).read_to_end(&mut bytes) {
         Ok(_) => Ok(bytes),
-        Err(error) => Err(unread(error)),
+        Err(error) => Err(unread(alloc, error)),
     }
 }
 
@@ -112,7 +122,7 @@ pub fn types_in<R: Read + Drop, F: Folder<R>>(
     };
     match read_types(alloc, reader) {
         Ok(types) => Ok(types),
-        Err(fault) => Err(EarlyFault::Report(Source::Types, fault)),
+        Err(fault) => Err(whole(alloc, Source::Types, fault)),
     }
 }
 
@@ -135,7 +145,7 @@ fn parameters_of<R: Read + Drop, F: Folder<R>>(
     };
     match read_parameters(alloc, reader) {
         Ok(parameters) => Ok(parameters),
-        Err(fault) => Err(EarlyFault::Report(Source::Parameters, fault)),
+        Err(fault) => Err(whole(alloc, Source::Parameters, fault)),
     }
 }
 
@@ -165,13 +175,47 @@ fn text_of(string: Option<String>) -> Option<Text>
     }
 }
 
+/// Returns the keys of a place. The second one is optional.
+fn keys_of(alloc: Global, first: &str, second: Option<&str>) -> Result<Items<Text>, AllocError>
+    ensures { IfOk result (λ keys. keys ≡ first.now ∷ option_to_list (option_map (λ k. k.now) second.entry)) }
+{
+    let mut keys = Vec::new(alloc);
+    keys.push(Text::from_str(alloc, first)?)?;
+    if let Some(second) = second {
+        keys.push(Text::from_str(alloc, second)?)?;
+    }
+    Ok(Items::from_vec(keys))
+}
+
+/// Returns the place of a fault that is tested with the name of the parameters file.
+fn url_place(alloc: Global, fault: MetaFault) -> Result<Items<Text>, AllocError>
+    ensures { IfOk result (λ keys. keys ≡ url_place fault) }
+{
+    match fault {
+        MetaFault::NotReport => keys_of(alloc, "documentInfo", Some("documentType")),
+        MetaFault::BadParameter => keys_of(alloc, "parameterURL", None),
+        _ => Ok(Items::new(alloc)),
+    }
+}
+
+/// Returns the early fault for a fault that is tested with the name of the parameters file. It is
+/// the fault Memory if memory runs out for the place.
+fn of_url(alloc: Global, fault: MetaFault) -> EarlyFault
+    ensures { (result ≡ early.Report source.Report (url_finding fault)) ⊎ (result ≡ spec.whole source.Report refused.Memory) }
+{
+    match url_place(alloc, fault) {
+        Ok(place) => EarlyFault::Report(Source::Report, Finding { fault, place }),
+        Err(_) => whole(alloc, Source::Report, MetaFault::Memory),
+    }
+}
+
 /// Returns the URL of the parameters file, if the metadata has one.
 pub fn url_in(alloc: Global, metadata: &[u8]) -> Result<Option<Text>, EarlyFault>
     ensures gives { TakesTo (looking (url_of metadata.now) ∷ []) (url_of metadata.now) result }
 {
     match parameter_url(alloc, metadata, &Limits::profile()) {
         Ok(url) => Ok(text_of(url)),
-        Err(fault) => Err(EarlyFault::Report(Source::Report, fault)),
+        Err(fault) => Err(of_url(alloc, fault)),
     }
 }
 
@@ -182,11 +226,11 @@ fn metadata_in(alloc: Global, bytes: Vec<u8>) -> Result<(Metadata, Option<Text>)
 {
     let metadata = match Metadata::read(alloc, bytes.as_slice(), &Limits::profile()) {
         Ok(metadata) => metadata,
-        Err(fault) => return Err(EarlyFault::Report(Source::Report, fault)),
+        Err(fault) => return Err(whole(alloc, Source::Report, fault)),
     };
     match metadata.parameter_url(alloc) {
         Ok(url) => Ok((metadata, text_of(url))),
-        Err(fault) => Err(EarlyFault::Report(Source::Report, fault)),
+        Err(fault) => Err(of_url(alloc, fault)),
     }
 }
 
@@ -201,8 +245,36 @@ fn report_in(
 {
     match metadata.report_at(alloc, parameters, types, Limits::profile()) {
         Ok(report) => Ok(report),
-        Err(refusal) => Err(EarlyFault::Report(Source::Report, refusal.fault())),
+        Err(Refusal::Found(finding)) => Err(EarlyFault::Report(Source::Report, finding)),
+        Err(Refusal::Memory) => Err(whole(alloc, Source::Report, MetaFault::Memory)),
     }
+}
+
+/// Returns the report that the files of a folder give with the metadata of these bytes, as
+/// `report_of` does once it has read them. They are what `metadata_at` returns.
+pub fn report_with<R: Read + Drop, F: Folder<R>>(
+    alloc: Global,
+    folder: &mut F,
+    base: &str,
+    bytes: Vec<u8>,
+    types: &str,
+) -> Result<Report, EarlyFault>
+    ensures same { F.files folder.new ≡ F.files folder.old }
+    ensures gives { IfSome (F.files folder.old) (λ files. GivesRest files base.now bytes.items types.now result) }
+{
+    let types = match types_in(alloc, folder, types) {
+        Ok(types) => types,
+        Err(early) => return Err(early),
+    };
+    let (metadata, url) = match metadata_in(alloc, bytes) {
+        Ok(found) => found,
+        Err(early) => return Err(early),
+    };
+    let parameters = match parameters_in(alloc, folder, base, url) {
+        Ok(parameters) => parameters,
+        Err(early) => return Err(early),
+    };
+    report_in(alloc, metadata, parameters, types)
 }
 
 /// Returns the report that the files of a folder give: the metadata at `meta`, the types table at
@@ -226,17 +298,5 @@ pub fn report_of<R: Read + Drop, F: Folder<R>>(
         Ok(bytes) => bytes,
         Err(early) => return Err(early),
     };
-    let types = match types_in(alloc, folder, types) {
-        Ok(types) => types,
-        Err(early) => return Err(early),
-    };
-    let (metadata, url) = match metadata_in(alloc, bytes) {
-        Ok(found) => found,
-        Err(early) => return Err(early),
-    };
-    let parameters = match parameters_in(alloc, folder, base, url) {
-        Ok(parameters) => parameters,
-        Err(early) => return Err(early),
-    };
-    report_in(alloc, metadata, parameters, types)
+    report_with(alloc, folder, base, bytes, types)
 }

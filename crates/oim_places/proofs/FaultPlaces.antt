@@ -4,7 +4,7 @@ use Rattle.std.specs.Prelude.{⊤}
 use Rattle.csv.specs.Records.{fields_of}
 use Rattle.oim_files.specs.Folders.{Files, IsFolderOf}
 use Rattle.oim_files.specs.Metadata.{profile}
-use Rattle.oim_files.specs.Steps.{GivesReport}
+use Rattle.oim_files.specs.Steps.{GivesRest, HasRead}
 use Rattle.oim_records.specs.Grids.{Record, grid}
 use Rattle.oim_report.specs.ReportValue.{ReportValue}
 use Rattle.oim_resolve.specs.FactParts.{FactParts as Fact}
@@ -13,10 +13,11 @@ use Rattle.oim_decode.specs.Blocks.{GivesBlock, ReadsRows}
 use Rattle.oim_rows.specs.Streams.{IsOutside, Stream, ending, stream_of}
 use Rattle.oim_rows.specs.declared.fault.TableFault.{TableFault}
 use Rattle.oim_places.specs.Reports.{IsReportOf}
-use Rattle.oim_places.specs.FaultPlaces.{EndsStream, HasRecordOf, IsPlaceAt, IsRowAt, IsTableFault, column_text, fault_of_file, is_of_file, row_or_empty, unknown_place}
+use Rattle.oim_places.specs.FaultPlaces.{EndsStream, HasRecordOf, IsPlaceAt, IsRowAt, IsTableFault, column_text, fault_of_file, is_of_file, row_or_empty}
 use Rattle.oim_places.specs.FolderFiles.{FoundAt, HoldsAt}
 use Rattle.oim_places.specs.LineNumbers.{IsLineOf}
 use Rattle.oim_places.specs.declared.fault_places.FaultPlace.{FaultPlace}
+use Rattle.oim_places.specs.declared.fault_places.FaultRecord.{FaultRecord}
 use Rattle.oim_places.specs.declared.records.RowAgain.{RowAgain}
 
 -- ---- the fault
@@ -94,15 +95,14 @@ inside report f bytes is (inr found) = found
 inside report f bytes is (inl (inl e)) = absurd (let whole : is_of_file f.kind ≡ true = ap (λ (x : TableFault). is_of_file x.kind) e in cc)
 inside report f bytes is (inl (inr e)) = absurd (let whole : is_of_file f.kind ≡ true = ap (λ (x : TableFault). is_of_file x.kind) e in cc)
 
-pub place_found : (known : Option Files) (path : List ℕ) (report : ReportValue) (f : TableFault) (a : RowAgain) (p : FaultPlace) → is_of_file f.kind ≡ false
+place_found : (known : Option Files) (path : List ℕ) (report : ReportValue) (f : TableFault) (a : RowAgain) (p : FaultPlace) → is_of_file f.kind ≡ false
     → FoundAt known path (HasRecordOf report f a) → p.header ≡ column_text (fields_of a.header) f.column → p.cell ≡ column_text (fields_of a.row) f.column
     → HoldsAt known path (λ bytes. IsLineOf f.row bytes p.line)
-    → IfSome known (λ files. (p ≡ unknown_place) ⊎ IsPlaceAt files path report f p)
+    → IfSome known (λ files. IsPlaceAt files path report f p)
 place_found None path report f a p is found h c l = tt
 place_found (Some files) path report f a p is found h c l =
     let bytes = found.0 in
-    let has = found.2 in
-    inr (
+    let has = found.2 in (
       is,
       (
         bytes,
@@ -119,21 +119,31 @@ place_found (Some files) path report f a p is found h c l =
     )
 
 -- The same for an answer, if the folder's files are those before the record was read.
-pub places_found : {E : Type 0} (known before : Option Files) (path : List ℕ) (report : ReportValue) (f : TableFault) (found : Option RowAgain) (a : RowAgain) (r : Result FaultPlace E)
+pub records_found : {E : Type 0} (known before : Option Files) (path : List ℕ) (report : ReportValue) (f : TableFault) (found : Option RowAgain) (a : RowAgain) (r : Result (Option FaultRecord) E)
     → found ≡ Some a → is_of_file f.kind ≡ false → before ≡ known
     → IfSome found (λ a. FoundAt known path (HasRecordOf report f a))
-    → IfOk r (λ p. p.header ≡ column_text (fields_of a.header) f.column) → IfOk r (λ p. p.cell ≡ column_text (fields_of a.row) f.column)
-    → IfOk r (λ p. HoldsAt before path (λ bytes. IsLineOf f.row bytes p.line))
-    → IfOk r (λ p. IfSome known (λ files. (p ≡ unknown_place) ⊎ IsPlaceAt files path report f p))
-places_found known before path report f found a (Err e) some is same has h c l = tt
-places_found known before path report f found a (Ok p) some is same has h c l =
-    place_found known path report f a p is
+    → IfOk r (λ o. IfSome o (λ x. x.place.header ≡ column_text (fields_of a.header) f.column))
+    → IfOk r (λ o. IfSome o (λ x. x.place.cell ≡ column_text (fields_of a.row) f.column))
+    → IfOk r (λ o. IfSome o (λ x. HoldsAt before path (λ bytes. IsLineOf f.row bytes x.place.line)))
+    → IfOk r (λ o. IfSome o (λ x. IfSome known (λ files. IsPlaceAt files path report f x.place)))
+records_found known before path report f found a (Err e) some is same has h c l = tt
+records_found known before path report f found a (Ok None) some is same has h c l = tt
+records_found known before path report f found a (Ok (Some x)) some is same has h c l =
+    place_found known path report f a x.place is
     (subst (λ o. IfSome o (λ a. FoundAt known path (HasRecordOf report f a))) some has) h c
-    (subst (λ k. HoldsAt k path (λ bytes. IsLineOf f.row bytes p.line)) same l)
+    (subst (λ k. HoldsAt k path (λ bytes. IsLineOf f.row bytes x.place.line)) same l)
+
+pub rows_found : {E : Type 0} (known : Option Files) (path : List ℕ) (report : ReportValue) (f : TableFault) (found : Option RowAgain) (a : RowAgain) (r : Result (Option FaultRecord) E)
+    → found ≡ Some a → IfSome found (λ a. FoundAt known path (HasRecordOf report f a)) → IfOk r (λ o. IfSome o (λ x. x.cells ≡ a))
+    → IfOk r (λ o. IfSome o (λ x. FoundAt known path (HasRecordOf report f x.cells)))
+rows_found known path report f found a (Err e) some has same = tt
+rows_found known path report f found a (Ok None) some has same = tt
+rows_found known path report f found a (Ok (Some x)) some has same =
+    subst (λ b. FoundAt known path (HasRecordOf report f b)) (sym same) (subst (λ o. IfSome o (λ a. FoundAt known path (HasRecordOf report f a))) some has)
 
 -- ---- the report
 
-pub report_is : (known : Option Files) (base meta types : List ℕ) (r : ReportValue) → IsFolderOf base meta → IfSome known (λ files. GivesReport files base meta types (Ok r))
-    → IfSome known (λ files. IsReportOf files meta types r)
-report_is None base meta types r folder is = tt
-report_is (Some files) base meta types r folder is = (base, folder, is.1)
+pub report_is : (known : Option Files) (base meta types items : List ℕ) (r : ReportValue) → IsFolderOf base meta
+    → IfSome known (λ files. HasRead files meta items) → IfSome known (λ files. GivesRest files base items types (Ok r)) → IfSome known (λ files. IsReportOf files meta types r)
+report_is None base meta types items r folder read rest = tt
+report_is (Some files) base meta types items r folder read rest = let gives = rest meta read in (base, folder, gives.1)

@@ -87,7 +87,7 @@ fn with_fault<R: Read + Drop, F: Folder<R>>(
 }
 
 /// Returns the record of a fault, if the file still has the fault.
-pub fn record_again<R: Read + Drop, F: Folder<R>>(
+fn record_again<R: Read + Drop, F: Folder<R>>(
     alloc: Global,
     folder: &mut F,
     path: &str,
@@ -131,7 +131,8 @@ pub fn table_path(
     path_in(alloc, folder_of(meta), report.table_url(table))
 }
 
-/// Returns what is in a record at the place of a fault.
+/// Returns what is in a record at the place of a fault. The file at this path is read again for the
+/// line of the record.
 fn place_again<R: Read + Drop, F: Folder<R>>(
     alloc: Global,
     folder: &mut F,
@@ -153,8 +154,63 @@ fn place_again<R: Read + Drop, F: Folder<R>>(
     })
 }
 
+/// The record of a fault, read again, and what is at the fault's place.
+#[derive(Drop)]
+pub struct FaultRecord {
+    /// The header and the record.
+    pub cells: RowAgain,
+    /// The place.
+    pub place: FaultPlace,
+}
+
+/// Returns these cells with what is at the place of a fault in them.
+fn with_place<R: Read + Drop, F: Folder<R>>(
+    alloc: Global,
+    folder: &mut F,
+    path: &str,
+    fault: &TableFault,
+    cells: RowAgain,
+) -> Result<Option<FaultRecord>, AllocError>
+    ensures same { F.files folder.new ≡ F.files folder.old }
+    ensures cells { IfOk result (λ o. IfSome o (λ r. r.cells ≡ cells)) }
+    ensures header { IfOk result (λ o. IfSome o (λ r. r.place.header ≡ column_text (fields_of cells.header) (fault.now).column)) }
+    ensures cell { IfOk result (λ o. IfSome o (λ r. r.place.cell ≡ column_text (fields_of cells.row) (fault.now).column)) }
+    ensures line { IfOk result (λ o. IfSome o (λ r. HoldsAt (F.files folder.old) path.now (λ bytes. IsLineOf (fault.now).row bytes r.place.line))) }
+{
+    match place_again(alloc, folder, path, fault, &cells) {
+        Ok(place) => Ok(Some(FaultRecord { cells, place })),
+        Err(error) => Err(error),
+    }
+}
+
+/// Returns the record of a fault in the table's file at this path, and what is at its place. The
+/// file is read again.
+///
+/// Returns `None` if the fault is of the whole file, or if the file cannot be read again or no
+/// longer has the fault.
+pub fn fault_record<R: Read + Drop, F: Folder<R>>(
+    alloc: Global,
+    folder: &mut F,
+    path: &str,
+    report: &Report,
+    fault: &TableFault,
+) -> Result<Option<FaultRecord>, AllocError>
+    requires { (fault.now).table < length report.now.tables }
+    ensures same { F.files folder.new ≡ F.files folder.old }
+    ensures row { IfOk result (λ o. IfSome o (λ r. FoundAt (F.files folder.old) path.now (HasRecordOf report.now fault.now r.cells))) }
+    ensures place { IfOk result (λ o. IfSome o (λ r. IfSome (F.files folder.old) (λ files. IsPlaceAt files path.now report.now fault.now r.place))) }
+{
+    if is_of_file(fault.kind) {
+        return Ok(None);
+    }
+    match record_again(alloc, folder, path, report, fault)? {
+        Some(cells) => with_place(alloc, folder, path, fault, cells),
+        None => Ok(None),
+    }
+}
+
 /// Returns what is at the place of a fault in the table's file at this path, if it still has the
-/// fault.
+/// fault there.
 fn place_at<R: Read + Drop, F: Folder<R>>(
     alloc: Global,
     folder: &mut F,
@@ -162,13 +218,15 @@ fn place_at<R: Read + Drop, F: Folder<R>>(
     report: &Report,
     fault: &TableFault,
 ) -> Result<FaultPlace, AllocError>
-    requires table { (fault.now).table < length report.now.tables }
-    requires place { spec.is_of_file (fault.now).kind ≡ false }
+    requires { (fault.now).table < length report.now.tables }
     ensures same { F.files folder.new ≡ F.files folder.old }
     ensures place { IfOk result (λ p. IfSome (F.files folder.old) (λ files. (p ≡ unknown_place) ⊎ IsPlaceAt files path.now report.now fault.now p)) }
 {
-    match record_again(alloc, folder, path, report, fault)? {
-        Some(cells) => place_again(alloc, folder, path, fault, &cells),
+    match fault_record(alloc, folder, path, report, fault)? {
+        Some(record) => {
+            let FaultRecord { cells: _, place } = record;
+            Ok(place)
+        }
         None => FaultPlace::unknown(alloc),
     }
 }
@@ -189,7 +247,7 @@ pub fn fault_place<R: Read + Drop, F: Folder<R>>(
     ensures same { F.files folder.new ≡ F.files folder.old }
     ensures place { IfOk result (λ p. IfSome (F.files folder.old) (λ files. IsPlaceOf files meta.now again.now.report fault.now p)) }
 {
-    if fault.table < again.report.tables() && !is_of_file(fault.kind) {
+    if fault.table < again.report.tables() {
         let path = table_path(alloc, meta, &again.report, fault.table)?;
         place_at(alloc, folder, path.as_str(), &again.report, fault)
     } else {

@@ -7,8 +7,8 @@
 //! - over a folder whose files are known, `fault_place` names a place in a table's file only if the
 //!   file's first fault is that fault, by the definition of the table's stream. It gives the line
 //!   of the fault's record, if that is known, and the cells of the header and of the row in its
-//!   column (`specs/FaultPlaces.antt`). The same holds for `record_again`, which gives that record
-//!   and the header;
+//!   column (`specs/FaultPlaces.antt`). The same holds for `fault_record`, which also gives that
+//!   record and the header;
 //! - `report_again` gives the report that the files give (`specs/Reports.antt`);
 //! - the line of a record (`line_of_record`), which `line_again` gives, is that of its first byte
 //!   (`lines_are_of_records`, `specs/LineNumbers.antt`);
@@ -56,7 +56,7 @@ mod terminal;
 pub use cells::{cell_shown, record_shown, text_at};
 pub use excerpts::excerpt;
 pub use fault_places::{
-    FaultPlace, fault_place, is_of_file, place_in_record, record_again, table_path,
+    FaultPlace, FaultRecord, fault_place, fault_record, is_of_file, place_in_record, table_path,
 };
 pub use fault_rows::{fault_header, fault_row, report_fault_row};
 pub use file_places::{line_again, place_in_file};

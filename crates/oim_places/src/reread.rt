@@ -2,12 +2,14 @@
 //!
 //! Not proved: `ReportAgain::metadata`, and the early fault that `report_again` returns.
 
-ghost use Rattle.std.specs.Prelude.{◌≡◌, IfOk, IfSome};
+ghost use Rattle.std.specs.Prelude.{◌≡◌, IfOk, IfSome, Ok};
+ghost use Rattle.oim_files.specs.Steps.{GivesRest};
 ghost use Rattle.oim_places.specs.Reports.{IsReportOf};
 
 use crate::parts::after_mark;
-use oim_files::{EarlyFault, Folder, Source, folder_of, metadata_at, report_of};
-use oim_meta::{MetaFault, Report};
+use oim_files::{EarlyFault, Folder, Source, folder_of, metadata_at, report_with};
+use oim_meta::{Finding, MetaFault, Report};
+use oim_names::Items;
 use serde_json::Value;
 use std::alloc::Global;
 use std::io::Read;
@@ -49,48 +51,61 @@ impl ReportAgain {
     }
 }
 
+/// Returns the early fault of a metadata that is not JSON.
+fn no_json(alloc: Global) -> EarlyFault {
+    let finding = Finding {
+        fault: MetaFault::Syntax,
+        place: Items::new(alloc),
+    };
+    EarlyFault::Report(Source::Report, finding)
+}
+
 /// Returns the value that a metadata of these bytes is, as it is written.
 fn value_of(alloc: Global, bytes: &[u8]) -> Result<Value, EarlyFault> {
     match Value::from_slice(alloc, after_mark(bytes)) {
         Ok(value) => Ok(value),
         Err(error) if error.is_memory() => Err(EarlyFault::Memory),
-        Err(_) => Err(EarlyFault::Report(Source::Report, MetaFault::Syntax)),
+        Err(_) => Err(no_json(alloc)),
     }
 }
 
-/// Returns the metadata of a run as it is written.
-fn metadata_again<R: Read + Drop, F: Folder<R>>(
-    alloc: Global,
-    path: &str,
-    folder: &mut F,
-) -> Result<Value, EarlyFault>
-    ensures { F.files folder.new ≡ F.files folder.old }
-{
-    match metadata_at(alloc, folder, path) {
-        Ok(bytes) => value_of(alloc, bytes.as_slice()),
-        Err(early) => Err(early),
-    }
-}
-
-/// Returns the report, whose metadata is this value.
+/// Returns the report of a metadata with these bytes, which is this value.
 fn with_metadata<R: Read + Drop, F: Folder<R>>(
     alloc: Global,
-    meta: &str,
+    base: &str,
     types: &str,
     folder: &mut F,
+    bytes: Vec<u8>,
     metadata: Value,
 ) -> Result<ReportAgain, EarlyFault>
     ensures same { F.files folder.new ≡ F.files folder.old }
-    ensures report { IfOk result (λ a. IfSome (F.files folder.old) (λ files. IsReportOf files meta.now types.now a.report)) }
+    ensures report { IfOk result (λ a. IfSome (F.files folder.old) (λ files. GivesRest files base.now bytes.items types.now (Ok a.report))) }
 {
-    match report_of(alloc, folder, folder_of(meta), meta, types) {
+    match report_with(alloc, folder, base, bytes, types) {
         Ok(report) => Ok(ReportAgain { report, metadata }),
         Err(early) => Err(early),
     }
 }
 
-/// Reads the report whose metadata and types table are at these paths again. May fail with an early
-/// fault, which names the file.
+/// Returns the report of a metadata with these bytes.
+fn with_bytes<R: Read + Drop, F: Folder<R>>(
+    alloc: Global,
+    base: &str,
+    types: &str,
+    folder: &mut F,
+    bytes: Vec<u8>,
+) -> Result<ReportAgain, EarlyFault>
+    ensures same { F.files folder.new ≡ F.files folder.old }
+    ensures report { IfOk result (λ a. IfSome (F.files folder.old) (λ files. GivesRest files base.now bytes.items types.now (Ok a.report))) }
+{
+    match value_of(alloc, bytes.as_slice()) {
+        Ok(metadata) => with_metadata(alloc, base, types, folder, bytes, metadata),
+        Err(early) => Err(early),
+    }
+}
+
+/// Reads the report whose metadata and types table are at these paths again, each file once. May
+/// fail with an early fault, which names the file.
 pub fn report_again<R: Read + Drop, F: Folder<R>>(
     alloc: Global,
     meta: &str,
@@ -100,8 +115,8 @@ pub fn report_again<R: Read + Drop, F: Folder<R>>(
     ensures same { F.files folder.new ≡ F.files folder.old }
     ensures report { IfOk result (λ a. IfSome (F.files folder.old) (λ files. IsReportOf files meta.now types.now a.report)) }
 {
-    match metadata_again(alloc, meta, folder) {
-        Ok(metadata) => with_metadata(alloc, meta, types, folder, metadata),
+    match metadata_at(alloc, folder, meta) {
+        Ok(bytes) => with_bytes(alloc, folder_of(meta), types, folder, bytes),
         Err(early) => Err(early),
     }
 }

@@ -128,7 +128,7 @@ stops (Some files) base meta types workers ring layout sink e o folder stop told
     record { base = base; folder = folder; ends = inl (record { fault = e; stops = stop; told = told }, (refl, keeps_same sink.told)) }
 
 early_left : (workers : ℕ) (range : Option ConvertFault) (sink : SinkView) (e : EarlyFault) → Leaves workers range sink sink (outcome_of e)
-early_left workers range sink (early.Report s f) = (refl, keeps_same sink.told)
+early_left workers range sink (early.Report s x) = (refl, keeps_same sink.told)
 early_left workers range sink (early.CannotRead path) = (refl, keeps_same sink.told)
 early_left workers range sink early.Memory = inl (refl, (refl, keeps_same sink.told))
 

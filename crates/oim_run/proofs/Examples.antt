@@ -19,7 +19,10 @@ use Rattle.oim_merge.specs.declared.progress.MergeEnd.TheVariants as end
 use Rattle.oim_report.specs.Readers.{no_level}
 use Rattle.oim_report.specs.ReportValue.{ReportValue}
 use Rattle.oim_report.specs.declared.data.Table.{Table}
+use Rattle.oim_entries.specs.declared.fault.MetaFault.{MetaFault}
 use Rattle.oim_entries.specs.declared.fault.MetaFault.TheVariants as refused
+use Rattle.oim_meta.specs.Findings.{finding}
+use Rattle.oim_meta.specs.declared.findings.Finding.{Finding}
 use Rattle.oim_resolve.specs.declared.fact.CellFault.TheVariants as cell
 use Rattle.oim_ring.specs.declared.item.Ending.TheVariants.{Refused}
 use Rattle.oim_ring.specs.declared.item.Item.{Item}
@@ -189,8 +192,12 @@ another_word = refl
 
 -- The files.
 
-early_outcomes : map outcome_of (early.Report source.Types refused.BadTypes ∷ early.CannotRead (codes "x.csv") ∷ early.Memory ∷ [])
-    ≡ outcome.Report source.Types refused.BadTypes ∷ outcome.CannotRead (codes "x.csv") ∷ outcome.Run fault.Memory ∷ []
+-- A fault at a place, which no line names.
+abbrev at_tables : MetaFault → Finding
+at_tables f = finding f (codes "tables" ∷ [])
+
+early_outcomes : map outcome_of (early.Report source.Report (at_tables refused.TooLarge) ∷ early.CannotRead (codes "x.csv") ∷ early.Memory ∷ [])
+    ≡ outcome.Report source.Report (at_tables refused.TooLarge) ∷ outcome.CannotRead (codes "x.csv") ∷ outcome.Run fault.Memory ∷ []
 early_outcomes = refl
 
 abbrev held : Files
@@ -273,14 +280,14 @@ failed_flush_of_refused_tables = refl
 failed_flush_of_nothing : flushed (outcome.CannotRead (codes "x.json")) ≡ outcome.CannotRead (codes "x.json")
 failed_flush_of_nothing = refl
 
-statuses : map status_of (outcome.Done ∷ outcome.Report source.Types refused.BadTypes ∷ outcome.Tables two_refused ∷ outcome.CannotRead (codes "x.json") ∷ outcome.CannotWrite (codes "o.json")
+statuses : map status_of (outcome.Done ∷ outcome.Report source.Types (at_tables refused.BadTypes) ∷ outcome.Tables two_refused ∷ outcome.CannotRead (codes "x.json") ∷ outcome.CannotWrite (codes "o.json")
     ∷ outcome.Run fault.Memory ∷ outcome.Output write.Zero ∷ []) ≡ 0 ∷ 1 ∷ 1 ∷ 3 ∷ 3 ∷ 3 ∷ 3 ∷ []
 statuses = refl
 
 statuses_of_words : map words_status (kind.DisplayHelp ∷ kind.DisplayVersion ∷ kind.OutOfMemory ∷ kind.UnknownArgument ∷ []) ≡ 0 ∷ 0 ∷ 3 ∷ 2 ∷ []
 statuses_of_words = refl
 
-lines_of_sources : map line_of (outcome.Report source.Report refused.UnknownTemplate ∷ outcome.Report source.Parameters refused.BadParameter ∷ outcome.Report source.Types refused.BadTypes ∷ [])
+lines_of_sources : map line_of (outcome.Report source.Report (at_tables refused.UnknownTemplate) ∷ outcome.Report source.Parameters (at_tables refused.BadParameter) ∷ outcome.Report source.Types (at_tables refused.BadTypes) ∷ [])
     ≡ codes "xbrl-json: report: UnknownTemplate (9)\n" ∷ codes "xbrl-json: parameters: BadParameter (13)\n" ∷ codes "xbrl-json: types: BadTypes (14)\n" ∷ []
 unfolding digits
 lines_of_sources = refl

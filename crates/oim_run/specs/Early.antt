@@ -11,7 +11,7 @@ abbrev pub no_memory : Outcome
 no_memory = outcome.Run fault.Memory
 
 abbrev pub outcome_of : EarlyFault → Outcome
-outcome_of (early.Report s f) = outcome.Report s f
+outcome_of (early.Report s x) = outcome.Report s x
 outcome_of (early.CannotRead path) = outcome.CannotRead path
 outcome_of early.Memory = no_memory
 

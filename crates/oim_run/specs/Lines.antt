@@ -15,7 +15,7 @@ use Rattle.oim_files.specs.declared.early_fault.Source.TheVariants as source
 
 abbrev pub status_of : Outcome → ℕ
 status_of outcome.Done = 0
-status_of (outcome.Report s f) = 1
+status_of (outcome.Report s x) = 1
 status_of (outcome.Tables named) = 1
 status_of (outcome.CannotRead path) = 3
 status_of (outcome.CannotWrite path) = 3
@@ -64,7 +64,7 @@ path_text what path = codes "xbrl-json: cannot " ++ (what ++ (codes " " ++ (path
 -- The lines for an outcome: none for a whole document, and one for each refused table.
 abbrev pub line_of : Outcome → List ℕ
 line_of outcome.Done = []
-line_of (outcome.Report s f) = fault_text (source_name s) (fault_name f) (fault_number f)
+line_of (outcome.Report s x) = fault_text (source_name s) (fault_name x.fault) (fault_number x.fault)
 line_of (outcome.Tables named) = tables_text named
 line_of (outcome.CannotRead path) = path_text (codes "read") path
 line_of (outcome.CannotWrite path) = path_text (codes "write") path

@@ -131,7 +131,7 @@ LeavesRun workers range old new f =
 -- conversion begins only with settings in range.
 abbrev pub Leaves : (workers : ℕ) → Option ConvertFault → SinkView → SinkView → Outcome → Type 0
 Leaves workers range old new outcome.Done = (range ≡ None) × (new.mark ≡ old.mark)
-Leaves workers range old new (outcome.Report s f) = Unwritten old new
+Leaves workers range old new (outcome.Report s x) = Unwritten old new
 Leaves workers range old new (outcome.Tables named) = (range ≡ None) × (new.mark ≡ old.mark) × (¬ (named ≡ []))
 Leaves workers range old new (outcome.CannotRead path) = Unwritten old new
 Leaves workers range old new (outcome.CannotWrite path) = ⊥

@@ -2,8 +2,8 @@
 
 use crate::held::{METADATA, TYPES};
 use oim_files::{
-    EarlyFault, Folder, Texts, folder_of, metadata_at, parameters_in, path_in, report_of, types_in,
-    url_in,
+    EarlyFault, Folder, Texts, folder_of, metadata_at, parameters_in, path_in, report_of,
+    report_with, types_in, url_in,
 };
 use oim_meta::Report;
 use std::alloc::Global;
@@ -18,6 +18,14 @@ fn gives_one_table(alloc: Global, folder: &mut Texts<'_>) -> bool {
         "t.csv",
     );
     report.is_ok_and(|report| report.tables() == 1)
+}
+
+/// Returns whether they give it after the metadata is read.
+fn gives_it_later(alloc: Global, folder: &mut Texts<'_>) -> bool {
+    match metadata_at(alloc, folder, "f/m.json") {
+        Ok(metadata) => report_with(alloc, folder, "f/", metadata, "t.csv").is_ok(),
+        Err(_) => false,
+    }
 }
 
 /// Returns whether the metadata has the name of a parameters file.
@@ -52,6 +60,7 @@ fn hold(alloc: Global) -> bool {
     ];
     let folder = &mut Texts { files: &files };
     gives_one_table(alloc, folder)
+        && gives_it_later(alloc, folder)
         && reads_entries(alloc, folder)
         && !names_parameters(alloc, folder)
         && finds(alloc, folder)

@@ -1,34 +1,47 @@
 //! Calls of `oim_explain`, and those of `oim_run` that are its own.
 
 use oim_explain::explain_report;
-use oim_meta::{MetaFault, Parameters, Types};
+use oim_meta::{Finding, MetaFault};
+use oim_names::{Items, Text};
 use oim_rows::{TableFault, TableKind};
 use oim_run::{
-    Explanation, FaultPlace, METADATA, ReportAgain, Source, TYPES, Texts, explain_metadata,
-    explain_table, explanation_text, fault_header, fault_place, fault_row, lines_are_of_records,
-    report_again, report_explanation, report_fault_row, table_line,
+    ExplainedFault, Explanation, FaultPlace, METADATA, ReportAgain, Source, TYPES, Texts,
+    explain_metadata, explain_table, explained_fault, explanation_text, fault_header, fault_place,
+    fault_row, lines_are_of_records, report_again, report_explanation, report_fault_row,
+    table_line,
 };
 use std::alloc::{AllocError, Global};
 
 /// Returns whether the fault of a metadata without a document type is explained at the missing
 /// key.
-fn explains_the_key(alloc: Global, folder: &mut Texts<'_>) -> Result<bool, AllocError> {
-    let fault = MetaFault::NotReport;
-    let text = explain_report(alloc, "m.json", "t.csv", folder, Source::Report, fault)?;
+fn explains_the_key(
+    alloc: Global,
+    folder: &mut Texts<'_>,
+    finding: &Finding,
+) -> Result<bool, AllocError> {
+    let text = explain_report(alloc, "m.json", "t.csv", folder, Source::Report, finding)?;
     let place = "    /documentInfo/documentType\n";
     Ok(text.as_str().starts_with(place))
 }
 
 /// Returns the record of that fault in the file of faults.
-fn row_of_the_key(alloc: Global, folder: &mut Texts<'_>) -> Result<Vec<u8>, AllocError> {
-    let fault = MetaFault::NotReport;
-    let told = report_explanation(alloc, "m.json", "t.csv", folder, Source::Report, fault)?;
-    report_fault_row(alloc, fault, told.place.as_str(), told.found.as_str())
+fn row_of_the_key(
+    alloc: Global,
+    folder: &mut Texts<'_>,
+    finding: &Finding,
+) -> Result<Vec<u8>, AllocError> {
+    let told = report_explanation(alloc, "m.json", "t.csv", folder, Source::Report, finding)?;
+    report_fault_row(
+        alloc,
+        finding.fault,
+        told.place.as_str(),
+        told.found.as_str(),
+    )
 }
 
 /// Returns whether it has its place.
-fn writes_the_key(alloc: Global, folder: &mut Texts<'_>) -> bool {
-    match row_of_the_key(alloc, folder) {
+fn writes_the_key(alloc: Global, folder: &mut Texts<'_>, finding: &Finding) -> bool {
+    match row_of_the_key(alloc, folder, finding) {
         Ok(row) => {
             row.as_slice()
                 == b",0,0,2,NotReport,,,(nothing),/documentInfo/documentType\n".as_slice()
@@ -38,10 +51,11 @@ fn writes_the_key(alloc: Global, folder: &mut Texts<'_>) -> bool {
 }
 
 /// Returns whether the fault is explained, and has its record, over a folder.
-fn explains_a_report(alloc: Global) -> bool {
+fn explains_a_report(alloc: Global, finding: &Finding) -> bool {
     let files = [("m.json", b"{}".as_slice()), ("t.csv", TYPES.as_bytes())];
     let folder = &mut Texts { files: &files };
-    matches!(explains_the_key(alloc, folder), Ok(true)) && writes_the_key(alloc, folder)
+    matches!(explains_the_key(alloc, folder, finding), Ok(true))
+        && writes_the_key(alloc, folder, finding)
 }
 
 /// Returns whether an explanation has a text.
@@ -49,18 +63,35 @@ fn has_text(alloc: Global, explanation: &Explanation) -> bool {
     explanation_text(alloc, explanation).is_ok()
 }
 
-/// Returns whether a fault of a metadata is explained, over its bytes.
-fn explains(alloc: Global, metadata: &[u8], fault: MetaFault) -> bool {
-    let (parameters, types) = (Parameters::none(alloc), Types::none(alloc));
-    match explain_metadata(alloc, "m.json", metadata, parameters, types, fault) {
-        Ok(Some(explanation)) => has_text(alloc, &explanation),
-        _ => false,
+/// Returns whether a finding is explained, over the bytes of its metadata.
+fn explains(alloc: Global, metadata: &[u8], finding: &Finding) -> bool {
+    match explain_metadata(alloc, "m.json", metadata, finding) {
+        Ok(explanation) => has_text(alloc, &explanation),
+        Err(_) => false,
     }
+}
+
+/// Returns the place of the document type.
+fn place_of_type(alloc: Global) -> Result<Items<Text>, AllocError> {
+    let mut keys = Vec::new(alloc);
+    keys.push(Text::from_str(alloc, "documentInfo")?)?;
+    keys.push(Text::from_str(alloc, "documentType")?)?;
+    Ok(Items::from_vec(keys))
+}
+
+/// Returns whether the calls for a metadata without a document type answer as they must.
+fn hold_of_reports(alloc: Global) -> bool {
+    let Ok(place) = place_of_type(alloc) else {
+        return false;
+    };
+    let fault = MetaFault::NotReport;
+    let finding = Finding { fault, place };
+    explains_a_report(alloc, &finding) && explains(alloc, b"{}", &finding)
 }
 
 #[test]
 fn calls_of_explanations_of_reports(rt: HostRuntime) {
-    assert!(rt; explains_a_report(rt.alloc()) && explains(rt.alloc(), b"{}", MetaFault::NotReport));
+    assert!(rt; hold_of_reports(rt.alloc()));
 }
 
 /// A fault of the table `t1`.
@@ -95,6 +126,20 @@ fn is_written_with_its_place(alloc: Global, folder: &mut Texts<'_>, again: &Repo
     }
 }
 
+/// Returns whether it is explained with the same place at once.
+fn explains_at_once(alloc: Global, folder: &mut Texts<'_>, again: &ReportAgain) -> bool {
+    let explained: Result<ExplainedFault, AllocError> = explained_fault(
+        alloc, "m.json", folder, again, &FAULT,
+    );
+    match explained {
+        Ok(explained) => {
+            has_text(alloc, &explained.explanation)
+                && is_written(alloc, &explained.place, b"t1,1,1,40,BadNumber,2,cash,x,\n")
+        }
+        Err(_) => false,
+    }
+}
+
 /// Returns whether it is explained over a folder, and has a record with its place.
 fn explains_a_table(alloc: Global) -> bool {
     let files = [
@@ -107,6 +152,7 @@ fn explains_a_table(alloc: Global) -> bool {
         Ok(again) => {
             explain_table(alloc, "m.json", folder, &again, &FAULT).is_ok()
                 && is_written_with_its_place(alloc, folder, &again)
+                && explains_at_once(alloc, folder, &again)
         }
         Err(_) => false,
     }

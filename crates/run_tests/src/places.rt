@@ -5,9 +5,9 @@ use oim_files::Texts;
 use oim_meta::Records;
 use oim_names::Text;
 use oim_places::{
-    FaultPlace, ReportAgain, RowAgain, cell_shown, excerpt, fault_place, first_record_with,
-    is_of_file, line_again, part_at, place_in_file, place_in_record, pointer, pointer_to, quoted,
-    record_again, record_shown, report_again, standing, table_path, text_at,
+    FaultPlace, FaultRecord, ReportAgain, RowAgain, cell_shown, excerpt, fault_place, fault_record,
+    first_record_with, is_of_file, line_again, part_at, place_in_file, place_in_record, pointer,
+    pointer_to, quoted, record_shown, report_again, standing, table_path, text_at,
 };
 use oim_rows::{TableFault, TableKind};
 use oim_run::{METADATA, TYPES};
@@ -35,10 +35,15 @@ fn finds_the_cell(
     Ok(is_there && place.line == Some(2))
 }
 
-/// Returns whether the first cell of a record is `x`.
-fn has_the_cell(found: &Option<RowAgain>) -> bool {
+/// Returns whether the first cell of a row is `x`.
+fn has_the_cell(cells: &RowAgain) -> bool {
+    text_at(&cells.row, 0) == Some("x")
+}
+
+/// Returns whether a fault's record is found, with that cell.
+fn is_of_the_cell(found: &Option<FaultRecord>) -> bool {
     match found {
-        Some(again) => text_at(&again.row, 0) == Some("x"),
+        Some(record) => has_the_cell(&record.cells),
         None => false,
     }
 }
@@ -56,8 +61,8 @@ fn finds_a_record(
     let Ok(path) = table_path(alloc, "f/m.json", &again.report, fault.table) else {
         return false;
     };
-    match record_again(alloc, folder, path.as_str(), &again.report, fault) {
-        Ok(found) => has_the_cell(&found),
+    match fault_record(alloc, folder, path.as_str(), &again.report, fault) {
+        Ok(found) => is_of_the_cell(&found),
         Err(_) => false,
     }
 }

@@ -2,13 +2,13 @@
 
 use crate::answer::Told;
 use crate::files::Files;
-use oim_meta::MetaFault;
+use oim_meta::Finding;
 use oim_names::Text;
 use oim_rows::TableFault;
 use oim_run::{
-    EarlyFault, FaultPlace, Outcome, ReportAgain, Source, explain_report, explain_table,
-    fault_header, fault_place, fault_row, line, report_again, report_explanation, report_fault_row,
-    status, table_line,
+    EarlyFault, Explanation, FaultPlace, Outcome, ReportAgain, Source, explain_table,
+    explanation_text, fault_header, fault_place, fault_row, line, report_again, report_explanation,
+    report_fault_row, status, table_line,
 };
 use std::alloc::{AllocError, Global};
 
@@ -175,18 +175,29 @@ fn lines_of_report(
     Ok(lines)
 }
 
-/// Returns the record of a fault of the metadata, the types table or the parameters file.
+/// Returns the record of a fault of the metadata, the types table or the parameters file, by its
+/// explanation.
 fn record_of_report(
     alloc: Global,
-    mut files: Files<'_>,
-    meta: &str,
-    types: &str,
-    source: Source,
-    fault: MetaFault,
+    finding: &Finding,
+    told: &Result<Explanation, AllocError>,
 ) -> Result<Vec<u8>, AllocError> {
-    match report_explanation(alloc, meta, types, &mut files, source, fault) {
-        Ok(told) => report_fault_row(alloc, fault, told.place.as_str(), told.found.as_str()),
-        Err(error) => Err(error),
+    match told {
+        Ok(told) => report_fault_row(
+            alloc,
+            finding.fault,
+            told.place.as_str(),
+            told.found.as_str(),
+        ),
+        Err(_) => Err(AllocError),
+    }
+}
+
+/// Returns the lines of an explanation.
+fn text_of(alloc: Global, told: &Result<Explanation, AllocError>) -> Result<String, AllocError> {
+    match told {
+        Ok(told) => explanation_text(alloc, told),
+        Err(_) => Err(AllocError),
     }
 }
 
@@ -197,20 +208,19 @@ fn with_header(alloc: Global, record: Result<Vec<u8>, AllocError>) -> Result<Vec
     Ok(records)
 }
 
-/// Tells a fault of the metadata, the types table or the parameters file, which are read again.
+/// Tells a fault of the metadata, the types table or the parameters file, which is read again.
 fn told_of_report(
     alloc: Global,
     mut files: Files<'_>,
     meta: &str,
     types: &str,
+    outcome: &Outcome,
     source: Source,
-    fault: MetaFault,
+    finding: &Finding,
 ) -> Told {
-    let outcome = Outcome::Report(source, fault);
-    let record = record_of_report(alloc, files, meta, types, source, fault);
-    let explanation = explain_report(alloc, meta, types, &mut files, source, fault);
-    let lines = lines_of_report(alloc, &outcome, explanation);
-    let faults = with_header(alloc, record);
+    let told = report_explanation(alloc, meta, types, &mut files, source, finding);
+    let lines = lines_of_report(alloc, outcome, text_of(alloc, &told));
+    let faults = with_header(alloc, record_of_report(alloc, finding, &told));
     Told {
         lines: or_nothing(alloc, lines),
         faults: or_nothing(alloc, faults),
@@ -242,8 +252,8 @@ pub(crate) fn told_of(
 ) -> Told {
     match outcome {
         Outcome::Tables(tables) => { told_of_tables(alloc, files, meta, types, tables.as_slice()) }
-        Outcome::Report(source, fault) => {
-            told_of_report(alloc, files, meta, types, *source, *fault)
+        Outcome::Report(source, finding) => {
+            told_of_report(alloc, files, meta, types, outcome, *source, finding)
         }
         _ => told_plainly(alloc, outcome),
     }

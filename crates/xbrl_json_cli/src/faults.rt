@@ -5,15 +5,16 @@
 ghost use Rattle.std.specs.Prelude.{IfSome};
 ghost use Rattle.oim_run.specs.Outputs.{IsLeftUnwritten};
 
-use crate::explain::Ordinary;
+use crate::explain::{Known, KnownTables};
+use crate::files_again::FilesAgain;
 use crate::new_file::{NewFile, replaced};
 use crate::target::Target;
-use oim_meta::MetaFault;
+use oim_meta::Finding;
 use oim_names::Text;
 use oim_rows::TableFault;
 use oim_run::{
-    EarlyFault, FaultPlace, Outcome, ReportAgain, Request, Settings, Source, cannot_write,
-    fault_header, fault_place, fault_row, report_again, report_explanation, report_fault_row,
+    EarlyFault, Explanation, FaultPlace, Outcome, ReportAgain, Request, Settings, Source,
+    cannot_write, fault_header, fault_place, fault_row, report_explanation, report_fault_row,
     status,
 };
 use std::alloc::{AllocError, Global};
@@ -91,86 +92,116 @@ pub fn refused_before(rt: &HostRuntime, alloc: Global, request: &Request) -> Opt
     Some(cannot_write(alloc, path))
 }
 
-/// Returns the record of a refused table, with the text at its fault's place if the report was read
-/// again.
-fn row_of(
+/// Returns the record of a refused table whose place is not known yet. It has the text at the
+/// fault's place if the report was read again.
+fn row_again(
     alloc: Global,
     meta: &str,
-    folder: &mut Ordinary<'_>,
+    files: &mut FilesAgain<'_>,
     report: &Result<ReportAgain, EarlyFault>,
     id: &str,
     fault: &TableFault,
 ) -> Result<Vec<u8>, AllocError> {
     let place = match report {
-        Ok(report) => fault_place(alloc, meta, folder, report, fault)?,
+        Ok(report) => fault_place(alloc, meta, files, report, fault)?,
         Err(_) => FaultPlace::unknown(alloc)?,
     };
     fault_row(alloc, id, fault, &place)
 }
 
-/// Writes the records of refused tables, given the report as read again.
+/// Writes the records of refused tables, given what is known of them.
 fn write_each<W: Write>(
     alloc: Global,
     meta: &str,
-    folder: &mut Ordinary<'_>,
-    report: &Result<ReportAgain, EarlyFault>,
+    files: &mut FilesAgain<'_>,
+    known: &KnownTables,
     tables: &[(Text, TableFault)],
     to: &mut W,
 ) -> io::Result<()> {
-    for (id, fault) in tables {
-        let row = row_of(alloc, meta, folder, report, id.as_str(), fault)?;
+    for (index, (id, fault)) in tables.iter().enumerate() {
+        let id = id.as_str();
+        let row = match known.places.get(index) {
+            Some(place) => fault_row(alloc, id, fault, place)?,
+            None => row_again(alloc, meta, files, &known.report, id, fault)?,
+        };
         to.write_all(row.as_slice())?;
     }
     Ok(())
 }
 
-/// Writes the records of refused tables. Reads the report again for them.
+/// Writes the records of refused tables. Reads the report again for them if nothing is known.
 fn write_rows<W: Write>(
-    rt: &HostRuntime,
     alloc: Global,
     settings: &Settings,
+    files: &mut FilesAgain<'_>,
+    known: &Known,
     tables: &[(Text, TableFault)],
     to: &mut W,
 ) -> io::Result<()> {
-    let folder = &mut Ordinary { rt };
-    let (meta, types) = (settings.meta.as_str(), settings.types.as_str());
-    let report = report_again(alloc, meta, types, folder);
-    write_each(alloc, meta, folder, &report, tables, to)
+    let meta = settings.meta.as_str();
+    match known {
+        Known::Tables(known) => write_each(alloc, meta, files, known, tables, to),
+        _ => {
+            let known = KnownTables::read(alloc, settings, files);
+            write_each(alloc, meta, files, &known, tables, to)
+        }
+    }
 }
 
-/// Writes the record of a fault of the metadata, the types table or the parameters file. Reads
-/// these files again for it.
-fn write_report_row<W: Write>(
-    rt: &HostRuntime,
+/// Returns the record of a fault of the metadata, the types table or the parameters file, by its
+/// explanation.
+fn row_of_report(
+    alloc: Global,
+    finding: &Finding,
+    told: &Explanation,
+) -> Result<Vec<u8>, AllocError> {
+    let (place, found) = (told.place.as_str(), told.found.as_str());
+    report_fault_row(alloc, finding.fault, place, found)
+}
+
+/// Returns the record of a fault of the metadata, the types table or the parameters file. Reads the
+/// file again for it if nothing is known.
+fn report_row(
     alloc: Global,
     settings: &Settings,
+    files: &mut FilesAgain<'_>,
+    known: &Known,
     source: Source,
-    fault: MetaFault,
-    to: &mut W,
-) -> io::Result<()> {
-    let folder = &mut Ordinary { rt };
+    finding: &Finding,
+) -> Result<Vec<u8>, AllocError> {
+    if let Known::Report(told) = known {
+        return row_of_report(alloc, finding, told);
+    }
     let (meta, types) = (settings.meta.as_str(), settings.types.as_str());
-    let told = report_explanation(alloc, meta, types, folder, source, fault)?;
-    let row = report_fault_row(alloc, fault, told.place.as_str(), told.found.as_str())?;
-    to.write_all(row.as_slice())
+    let told = report_explanation(alloc, meta, types, files, source, finding)?;
+    row_of_report(alloc, finding, &told)
 }
 
 /// Writes the header and the records of a run's faults.
 fn write_to<W: Write>(
-    rt: &HostRuntime,
     alloc: Global,
     settings: &Settings,
     outcome: &Outcome,
+    files: &mut FilesAgain<'_>,
+    known: &Known,
     to: &mut W,
 ) -> io::Result<()> {
     let mut buffered = BufWriter::new(alloc, to)?;
     buffered.write_all(fault_header().as_bytes())?;
     match outcome {
         Outcome::Tables(tables) => {
-            write_rows(rt, alloc, settings, tables.as_slice(), &mut buffered)?;
+            write_rows(
+                alloc,
+                settings,
+                files,
+                known,
+                tables.as_slice(),
+                &mut buffered,
+            )?;
         }
-        Outcome::Report(source, fault) => {
-            write_report_row(rt, alloc, settings, *source, *fault, &mut buffered)?;
+        Outcome::Report(source, finding) => {
+            let row = report_row(alloc, settings, files, known, *source, finding)?;
+            buffered.write_all(row.as_slice())?;
         }
         _ => {}
     }
@@ -183,10 +214,12 @@ fn write_new(
     alloc: Global,
     settings: &Settings,
     outcome: &Outcome,
+    files: &mut FilesAgain<'_>,
+    known: &Known,
     new: NewFile,
 ) -> bool {
     let mut new = new;
-    if write_to(rt, alloc, settings, outcome, &mut new.file).is_ok() {
+    if write_to(alloc, settings, outcome, files, known, &mut new.file).is_ok() {
         return new.take_name(rt);
     }
     new.remove(rt);
@@ -199,10 +232,12 @@ fn write_straight(
     alloc: Global,
     settings: &Settings,
     outcome: &Outcome,
+    files: &mut FilesAgain<'_>,
+    known: &Known,
     path: &str,
 ) -> bool {
     match OpenOptions::new().write(true).create(true).open(rt, path) {
-        Ok(mut file) => write_to(rt, alloc, settings, outcome, &mut file).is_ok(),
+        Ok(mut file) => write_to(alloc, settings, outcome, files, known, &mut file).is_ok(),
         Err(_) => false,
     }
 }
@@ -213,14 +248,16 @@ fn write_file(
     alloc: Global,
     settings: &Settings,
     outcome: &Outcome,
+    files: &mut FilesAgain<'_>,
+    known: &Known,
     path: &str,
 ) -> bool {
     if Target::of(rt, path).is_at(rt, document_path(settings)) {
         return false;
     }
     match file_beside(rt, alloc, path) {
-        Some(Some(new)) => write_new(rt, alloc, settings, outcome, new),
-        Some(None) => write_straight(rt, alloc, settings, outcome, path),
+        Some(Some(new)) => write_new(rt, alloc, settings, outcome, files, known, new),
+        Some(None) => write_straight(rt, alloc, settings, outcome, files, known, path),
         None => false,
     }
 }
@@ -228,19 +265,23 @@ fn write_file(
 /// Writes the file of the faults, if the command line names one and the exit status is 0 or 1.
 ///
 /// The file gets its header and a record for each refused table, or for the fault of another file
-/// of the report. It is replaced only by a whole one. Returns the outcome that it cannot be
-/// written, if so.
+/// of the report. `known` is what is known of them. It is replaced only by a whole one. Returns the
+/// outcome that it cannot be written, if so.
 pub fn write_faults(
     rt: &HostRuntime,
     alloc: Global,
     request: &Request,
     outcome: &Outcome,
+    files: &mut FilesAgain<'_>,
+    known: &Known,
 ) -> Option<Outcome>
     ensures { IfSome result (λ last. IsLeftUnwritten request.now.faults outcome.now last) }
 {
     let path = request.faults.as_ref()?;
     let path = path.as_str();
-    if status(outcome) > 1 || write_file(rt, alloc, &request.settings, outcome, path) {
+    if status(outcome) > 1
+        || write_file(rt, alloc, &request.settings, outcome, files, known, path)
+    {
         return None;
     }
     Some(cannot_write(alloc, path))

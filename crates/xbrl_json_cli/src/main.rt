@@ -30,6 +30,7 @@
 mod disk;
 mod explain;
 mod faults;
+mod files_again;
 mod new_file;
 mod output;
 mod over;

@@ -5,8 +5,9 @@ ghost use Rattle.clap.specs.Values.{kind_of};
 ghost use Rattle.oim_run.specs.Lines.{status_of, unprinted_status, words_status};
 ghost use Rattle.oim_run.specs.Outputs.{EndsFor, EndsTold, Says, SaysLast};
 
-use crate::explain::{explain_fault, explain_tables};
+use crate::explain::{Known, explain_fault, explain_tables};
 use crate::faults::write_faults;
+use crate::files_again::FilesAgain;
 use oim_run::{Folder, Outcome, Outputs, Request, Teller, convert_as, shown, status, tell};
 use std::alloc::{AllocError, Global};
 use std::fs;
@@ -40,46 +41,51 @@ impl<'a> Teller for StandardError<'a> {
 /// Prints the explanation below the line of an outcome, if the command line asks for it.
 fn explain_if_asked(rt: &HostRuntime, alloc: Global, request: &Request, outcome: &Outcome) {
     if request.explain {
-        explain_fault(rt, alloc, &request.settings, outcome);
+        let files = &mut FilesAgain::new(rt, alloc);
+        let _ = explain_fault(rt, alloc, &request.settings, files, outcome);
     }
 }
 
 /// Tells the lines of an outcome, with the places of its faults if the command line asks for them.
-/// With places, the lines of tables are printed one by one, past the teller.
+/// With places, the lines of tables are printed one by one, past the teller. Returns what was found
+/// out for them.
 fn told_as_asked<L: Teller>(
     rt: &HostRuntime,
     alloc: Global,
     request: &Request,
     outcome: &Outcome,
+    files: &mut FilesAgain<'_>,
     to: &mut L,
-)
+) -> Known
     ensures says { Says (L.terminal to.old) outcome.now (L.said to.old) (L.said to.new) }
     ensures same { L.terminal to.new ≡ L.terminal to.old }
 {
     if !request.explain {
         tell(to, alloc, outcome);
-        return;
+        return Known::Nothing;
     }
     if let Outcome::Tables(tables) = outcome {
-        explain_tables(rt, alloc, &request.settings, tables.as_slice());
-        return;
+        return explain_tables(rt, alloc, &request.settings, files, tables.as_slice());
     }
     tell(to, alloc, outcome);
-    explain_fault(rt, alloc, &request.settings, outcome);
+    explain_fault(rt, alloc, &request.settings, files, outcome)
 }
 
-/// Writes the file of the faults of a run with this outcome, and returns the outcome's exit status.
+/// Writes the file of the faults of a run with this outcome, by what is known of them, and returns
+/// the outcome's exit status.
 /// If the file cannot be written, tells so and returns the exit status of that.
 fn faults_told<L: Teller>(
     rt: &HostRuntime,
     alloc: Global,
     request: &Request,
     outcome: &Outcome,
+    files: &mut FilesAgain<'_>,
+    known: &Known,
     to: &mut L,
 ) -> u8
     ensures { SaysLast (L.terminal to.old) request.now.faults outcome.now (L.said to.old) (L.said to.new) result }
 {
-    let Some(unwritten) = write_faults(rt, alloc, request, outcome) else {
+    let Some(unwritten) = write_faults(rt, alloc, request, outcome, files, known) else {
         return status(outcome);
     };
     let status = tell(to, alloc, &unwritten);
@@ -142,8 +148,9 @@ pub fn convert_and_tell<
     ensures { EndsTold (F.files folder.old) request.now (O.done outputs.old) (O.done outputs.new) (L.terminal to.old) (L.said to.old) (L.said to.new) result }
 {
     let outcome = convert_apart(rt, threads, alloc, request, folder, outputs);
-    told_as_asked(rt, alloc, request, &outcome, to);
-    faults_told(rt, alloc, request, &outcome, to)
+    let files = &mut FilesAgain::new(rt, alloc);
+    let known = told_as_asked(rt, alloc, request, &outcome, files, to);
+    faults_told(rt, alloc, request, &outcome, files, &known, to)
 }
 
 /// Appends a line with its control characters escaped.

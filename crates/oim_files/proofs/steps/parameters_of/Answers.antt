@@ -23,7 +23,7 @@ returns-in-Ok-read_parameters-clause-gives g c =
 
 pub returns-clause-gives : goal.returns-clause-gives
 returns-clause-gives g c =
-    at_path (g.F.Folder.files c.args.folder.now) c.args.base.now c.args.url.now c.as_str.result.now (Err (early.Report source.Parameters c.in-Err-read_parameters.fault)) (search rules)
+    at_path (g.F.Folder.files c.args.folder.now) c.args.base.now c.args.url.now c.as_str.result.now (Err c.whole.result) (search rules)
     (reads_fault g.R.Read.remaining c.in-Ok-opened.reader source.Parameters (λ bytes.
-    parameters_result (grid bytes)) (g.F.Folder.files c.args.folder.now) c.as_str.result.now c.in-Err-read_parameters.fault
+    parameters_result (grid bytes)) (g.F.Folder.files c.args.folder.now) c.as_str.result.now c.in-Err-read_parameters.fault c.whole.result c.whole.ensures
     c.in-Ok-opened.ensures.gives c.in-Err-read_parameters.ensures)

@@ -16,4 +16,5 @@ returns-in-Ok-read_types-clause-gives g c =
 pub returns-in-Err-read_types-clause-gives : goal.returns-in-Err-read_types-clause-gives
 returns-in-Err-read_types-clause-gives g c =
     reads_fault g.R.Read.remaining c.in-Ok.reader source.Types (λ bytes. types_result (grid bytes)) (g.F.Folder.files c.args.folder.now) c.args.path.now c.in-Err-read_types.fault
+    c.whole.result c.whole.ensures
     c.in-Ok.ensures.gives c.in-Err-read_types.ensures
