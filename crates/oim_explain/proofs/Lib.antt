@@ -1,2 +1,1 @@
 mod ExamplesExplain
-mod TablePlaces
