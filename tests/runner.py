@@ -37,6 +37,7 @@ SCRIPTS = ["library.py", "filing_bounds.py", "fuzz_filing.py", "packages.py", "f
 # The modules that take the longest start first.
 LONGEST = [
     "tests.test_refused",
+    "tests.test_page",
     "tests.test_filing_size",
     "tests.test_every_fault_rows",
     "tests.test_stress",
