@@ -107,7 +107,7 @@ fn put_table<'s, E, T: Threads + Wait + Sync + 's>(
         Ok(mut table) => {
             table.want(true);
             let is_good = put_pieces(scope, rt, &mut table, document);
-            mem::drop(table);
+            table.leave();
             is_good
         }
         Err(_) => false,

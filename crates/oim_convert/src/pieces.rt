@@ -15,8 +15,7 @@ use oim_ring::{Ending, Feed};
 use std::alloc::Global;
 use std::io::Read;
 use std::sync::Wait;
-use std::thread::{Scope, Threads};
-use std::{mem, thread};
+use std::thread::{self, Scope, Threads};
 
 /// Sends the facts of a table's file, and returns the table's ending. If there are other workers,
 /// helper threads decode pieces of the file while those workers rest.
@@ -100,7 +99,8 @@ fn send_pieces<'s, E, R: Read + Drop, T: Threads + Wait + Sync + 's>(
     }
 }
 
-/// Sends the pieces of an opened table with spare vectors, drops the table, and returns its ending.
+/// Sends the pieces of an opened table with spare vectors, leaves the table's memory to others, and
+/// returns its ending.
 fn send_opened<'s, E, R: Read + Drop, T: Threads + Wait + Sync + 's>(
     scope: &Scope<'s, E>,
     rt: &'s T,
@@ -115,7 +115,7 @@ fn send_opened<'s, E, R: Read + Drop, T: Threads + Wait + Sync + 's>(
     let mut pieces = pieces;
     let ending = send_left(scope, rt, &mut pieces, at_work, feed);
     give_back_spares(rt, &mut pieces, feed);
-    mem::drop(pieces);
+    pieces.leave();
     ending
 }
 

@@ -12,12 +12,8 @@ use oim_pieces::AtWork;
 use oim_ring::{CloseFault, Closed, Ending, Feed};
 use std::sync::Wait;
 
-/// The most blocks of a table that wait for the writer, however large its ring. More would only
-/// take fresh memory, whose first use is expensive.
-const MOST_WAITING: usize = 32;
-
-/// Sends a block when it is the feed's turn. Tries again while the ring is full or `MOST_WAITING`
-/// blocks wait.
+/// Sends a block when it is the feed's turn. Tries again while the ring is full or as many blocks
+/// wait as may.
 pub(crate) fn put_waiting<T: Wait>(rt: &T, at_work: &AtWork, feed: &mut Feed, block: Block)
     ensures ring { feed.new.ring ≡ feed.old.ring }
     ensures sent { feed.new.sent ≡ feed.old.sent ++ items.Block block ∷ [] }
@@ -27,7 +23,7 @@ pub(crate) fn put_waiting<T: Wait>(rt: &T, at_work: &AtWork, feed: &mut Feed, bl
         at_work.rest();
         feed.wait_for_turn(rt);
         at_work.start();
-        match feed.put_below(block, MOST_WAITING) {
+        match feed.put_below(block, at_work.most_waiting()) {
             Ok(()) => return,
             Err(back) => block = back,
         }

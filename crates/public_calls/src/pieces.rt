@@ -3,6 +3,7 @@
 ghost use Rattle.std.specs.Prelude.{◌≤◌, ◌+◌};
 
 use crate::held::{Over, holds};
+use crate::rows::left_by;
 use oim_decode::{
     FirstRecords, JoinedPiece, PieceAnswer, PieceDecoder, PieceJoin, file_in_pieces,
     joined_pieces_are_read, open_pieces, rows_in_pieces,
@@ -30,14 +31,24 @@ fn next_piece(
     Ok(join.join(decoder.header(), first, answer))
 }
 
-/// Returns whether the first piece of a table has no fault, and its vector is given back.
-fn joins(alloc: Global, decoder: &mut PieceDecoder<'_>, piece: &[u8]) -> bool {
+/// Returns a join without a piece, with memory that the identifiers of many rows left.
+fn new_join(alloc: Global) -> PieceJoin {
     let mut join = PieceJoin::new(alloc);
+    if let Some(spare) = left_by(alloc, 2_000) {
+        join.move_ids(spare);
+    }
+    join
+}
+
+/// Returns whether the first piece of a table has no fault, its vector is given back, and the
+/// memory of its identifiers is left.
+fn joins(alloc: Global, decoder: &mut PieceDecoder<'_>, piece: &[u8]) -> bool {
+    let mut join = new_join(alloc);
     decoder.keep_spare(Vec::new(alloc));
     match next_piece(alloc, decoder, &mut join, piece, 1) {
         Ok(joined) => {
             let is_whole = joined.fault().is_none() && decoder.take_spare().len() == piece.len();
-            is_whole && decoder.free_spare().is_none()
+            is_whole && decoder.free_spare().is_none() && join.into_spare_ids().is_some()
         }
         Err(_) => false,
     }

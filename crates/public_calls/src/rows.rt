@@ -4,7 +4,7 @@ use crate::held::{Over, holds};
 use oim_meta::{Limits, ReadFault, Report};
 use oim_records::{Fields, RecordReader};
 use oim_rows::{
-    RowFacts, RowId, RowIds, RowPlan, Rows, TableFault, TableHeader, TableKind,
+    RowFacts, RowId, RowIds, RowPlan, Rows, SpareIds, TableFault, TableHeader, TableKind,
     fact_identifiers_differ, fault_at_place, fault_of_read, push_row_number, stream_is_of_all_rows,
     table_stream_is_of_all_rows, whole_fault,
 };
@@ -189,6 +189,51 @@ fn is_first(alloc: Global, ids: &RowIds, text: &str) -> bool {
         Ok(id) => ids.first_of(&[id]) == Some(0),
         Err(_) => false,
     }
+}
+
+/// Adds the identifier of the row with this number, and returns whether it was new.
+fn adds(alloc: Global, ids: &mut RowIds, number: u32) -> bool {
+    let mut text = String::new(alloc);
+    if push_row_number(&mut text, number).is_err() {
+        return false;
+    }
+    match RowId::new(alloc, text.as_str()) {
+        Ok(id) => matches!(ids.add(id), Ok(true)),
+        Err(_) => false,
+    }
+}
+
+/// Returns the memory that the identifiers of this number of rows leave.
+pub(crate) fn left_by(alloc: Global, rows: u32) -> Option<SpareIds> {
+    let mut ids = RowIds::new(alloc);
+    for number in 1..=rows {
+        if !adds(alloc, &mut ids, number) {
+            return None;
+        }
+    }
+    ids.into_spare()
+}
+
+/// Returns whether identifiers in memory that 2,000 others left are found, and those are not.
+fn is_moved(alloc: Global, spare: SpareIds) -> bool {
+    let mut ids = RowIds::new(alloc);
+    let is_added = adds(alloc, &mut ids, 7);
+    let is_large = spare.capacity() >= 2_000;
+    ids.move_to(spare);
+    is_added && is_large && is_first(alloc, &ids, "r_7") && adds(alloc, &mut ids, 8)
+}
+
+/// Returns whether memory of identifiers serves for others, and that of a few is not kept.
+fn serves_again(alloc: Global) -> bool {
+    match left_by(alloc, 2_000) {
+        Some(spare) => is_moved(alloc, spare) && left_by(alloc, 20).is_none(),
+        None => false,
+    }
+}
+
+#[test]
+fn memory_of_identifiers_serves_again(rt: HostRuntime) {
+    assert!(rt; serves_again(rt.alloc()));
 }
 
 #[test]
