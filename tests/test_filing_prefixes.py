@@ -8,7 +8,7 @@ import subprocess
 import tempfile
 import unittest
 from pathlib import Path
-from typing import Dict, Tuple
+from typing import Dict, Optional, Tuple
 
 from tests.filing_bounds import CASH, EG, GOOD, HOST, Files, meta, pack, schema
 
@@ -91,12 +91,14 @@ class Prefixes(unittest.TestCase):
         )
         return done.returncode, done.stdout, done.stderr
 
-    def refused(self, dimensions: Dict[str, str], rows: str, place: str) -> None:
+    def refused(
+        self, dimensions: Dict[str, str], rows: str, place: str, more: Optional[Files] = None
+    ) -> None:
         """Check that a cell is refused by a line that names both prefixes."""
         why = "has the prefix 'mem', whose namespace has the prefix 'mem2' here"
         what = f"write 'mem2', or declare 'mem' instead of it in {REPORT}"
         line = f"xbrl-filing: f.zip/reports/t.csv: {place} {why}: {what}\n"
-        files = filing(dimensions, rows, OWN)
+        files = {**filing(dimensions, rows, OWN), **(more or {})}
         for words in ((), ("--cache", "kept"), ("--cache", "kept"), ("--every-fault",)):
             with self.subTest(rows=rows, words=words):
                 self.assertEqual(self.run_over(files, *words), (1, "", line))
@@ -116,6 +118,25 @@ class Prefixes(unittest.TestCase):
         self.refused(TYPED, 'a,"eg:a mem:x1"\n', "row 1, column x: 'eg:a mem:x1'")
         self.refused(NAME, "mem:x1,\n", "row 1, column v: 'mem:x1'")
         self.refused({"concept": "$x"}, "mem:x1,eg:Name\n", "row 1, column v: 'mem:x1'")
+
+    def test_module_of_two_prefixes(self) -> None:
+        """A module may displace its own prefix. Then it may be kept, too."""
+        module = str(filing(TYPED, "", {})["reg/mod.json"])
+        own: Files = {
+            "reports/report.json": meta({"extends": [HOST + "mod.json"]}),
+            "reg/mod.json": meta({"extends": ["base.json"], "namespaces": OWN}),
+            "reg/base.json": module,
+        }
+        self.refused(TYPED, "a,mem:x1\n", "row 1, column x: 'mem:x1'", own)
+        taxonomy = {**filing(TYPED, "", {}), **own}
+        pack(self.folder / "t.zip", {it: taxonomy[it] for it in taxonomy if it[:3] != "rep"})
+        for rows, status in (("a,mem2:x\n", 0), ("a,mem:x\n", 1), ("a,mem2:x\n", 0)):
+            report: Files = {
+                "reports/report.json": own["reports/report.json"],
+                "reports/t.csv": f"v,x\n{rows}",
+            }
+            seen = self.run_over(report, "--taxonomy", "t.zip", "--cache", "kept")
+            self.assertEqual(seen[0], status, seen)
 
     def test_what_names_no_prefix(self) -> None:
         """Texts of other columns and facts, and words before a colon, stay as they are."""
