@@ -249,22 +249,33 @@ fn leaves_few(drain: &mut Drain, count: &AtomicUsize) -> bool {
     begins && gives(drain) && gives(drain) && gives(drain) && comes_to(count, 2)
 }
 
+/// Returns whether the feed takes four blocks, and no more while they wait.
+fn fills(alloc: Global, feed: &mut Feed) -> bool {
+    for _ in 0..4 {
+        if !puts_below(alloc, feed) {
+            return false;
+        }
+    }
+    !puts_below(alloc, feed)
+}
+
 /// Returns whether a feed that found four blocks, as many as may wait, continues once one is left.
 fn waits_for_few<T: Threads + Wait + Sync>(rt: &T, alloc: Global, rings: Rings) -> bool {
-    let (mut feed, mut drain) = rings.own;
-    let mut put = 0;
-    while put < 4 && puts_below(alloc, &mut feed) {
-        put += 1;
-    }
-    let is_full = !puts_below(alloc, &mut feed);
+    let Rings {
+        own,
+        next: _,
+        last: _,
+    } = rings;
+    let (mut own, mut own_drain) = own;
+    let is_full = fills(alloc, &mut own);
     let count = &AtomicUsize::new(0);
-    let drain = &mut drain;
+    let drain = &mut own_drain;
     let (continues, ()) = thread::join(
         rt,
         move || leaves_few(drain, count),
-        move || room_counted(rt, &feed, count),
+        move || room_counted(rt, &own, count),
     );
-    put == 4 && is_full && continues
+    is_full && continues
 }
 
 #[test]
