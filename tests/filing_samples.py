@@ -98,7 +98,7 @@ def records(*lines: str, namespace: str = EG) -> str:
 
 EXPLICIT = '<xs:element name="Region" substitutionGroup="xbrldt:dimensionItem" abstract="true"/>'
 TYPED = EXPLICIT.replace("Region", "Branch").replace("/>", ' xbrldt:typedDomainRef="#b"/>')
-ELEMENTS = item("Cash", "xbrli:monetaryItemType") + item("Note") + EXPLICIT + TYPED
+ELEMENTS = item("Cash", "xbrli:decimalItemType") + item("Note") + EXPLICIT + TYPED
 TEMPLATE: dict[str, Any] = {"columns": {"cash": {"dimensions": {"concept": "eg:Cash"}}}}
 TABLES: dict[str, Any] = {"t": {"url": "t.csv"}}
 INFO: dict[str, Any] = {"namespaces": {"eg": EG}, "taxonomy": ["mod.xsd"]}
