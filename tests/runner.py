@@ -22,6 +22,7 @@ import json
 import os
 import re
 import shutil
+import signal
 import subprocess
 import sys
 import tempfile
@@ -294,6 +295,8 @@ def main() -> int:
     parser.add_argument("-k", metavar="NAME", action="append", default=[], help="only these tests")
     parser.add_argument("--module", nargs=2, help=argparse.SUPPRESS)
     told = parser.parse_args()
+    # A shell starts a program in the background with SIGINT ignored, and so would its children.
+    signal.signal(signal.SIGINT, signal.default_int_handler)
     if told.module:
         run_here(told.module[0], told.module[1], told.k)
         return 0

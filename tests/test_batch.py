@@ -32,7 +32,7 @@ FILING = str(TOP / "xbrl-filing")
 EXAMPLE = TOP / "examples/filing"
 EXPECTED = (EXAMPLE / "expected.json").read_bytes()
 PROGRAM = os.path.abspath(os.environ.get("XBRL_JSON") or TOP / "dist/xbrl-json")
-SOON = 60.0  # seconds for what must happen on a loaded machine
+SOON = 600.0  # seconds for what must happen on a loaded machine
 TRY_AGAIN = 75
 
 # Plays xbrl-json by the name of the document. All others are converted.
@@ -110,7 +110,7 @@ class Case(unittest.TestCase):
             stdout=subprocess.PIPE,
             stderr=subprocess.PIPE,
             text=True,
-            timeout=10 * SOON,
+            timeout=2 * SOON,
             check=False,
         )
         self.assertEqual(done.stdout, "")
@@ -374,7 +374,7 @@ class TestLimits(Case):
     def test_a_time_limit_is_told_apart(self) -> None:
         self.play()
         reports = self.reports("a", "slow")
-        status, _ = self.run_many(reports, "--time-limit", "3", "--jobs", "1")
+        status, _ = self.run_many(reports, "--time-limit", "15", "--jobs", "1")
         self.assertEqual(status, TRY_AGAIN)
         self.assertEqual(self.outcome("slow")["outcome"], "time-limit")
         self.assertEqual(self.outcomes("a")["a"], "done")
@@ -549,7 +549,7 @@ class TestProgress(Case):
         self.play()
         leader, follower = pty.openpty()
         process = subprocess.Popen(
-            self.words(self.reports("a", "b", "slow"), "--jobs", "2", "--time-limit", "5"),
+            self.words(self.reports("a", "b", "slow"), "--jobs", "2", "--time-limit", "15"),
             cwd=self.folder,
             env=self.environment,
             stdin=subprocess.DEVNULL,
