@@ -5,10 +5,11 @@
 
 PROGRAM is the program's file, PLAIN that of plain Rust (`plain`), if there is one. The first line
 is what the machine can give: four programs of one worker, each on a quarter of a report, at once.
-The second is the same for rows with identifiers. The others are whole reports of the same size: one
-table, eight, eight of which one has 40 % of the bytes, one and eight with identifiers, and tables
-of 200 columns. Two lines are held to one processor and to two. Each report is made by `generate.py`
-and written to /dev/null, unless a file is named.
+The next two are the same for rows with identifiers and for rows of 200 columns. The others are
+whole reports of the same size: one table, eight, eight of which one has 40 % of the bytes, one and
+eight with identifiers, and tables of 200 columns. Some lines are held to one processor and to two,
+and two run next to three busy programs. Each report is made by `generate.py` and written to
+/dev/null, unless a file is named.
 
 A line has the median and the least of the rounds, which take turns, both also as a multiple of the
 line that it is compared with; the medians of processor seconds, of sleeps, of preemptions and of
@@ -34,13 +35,15 @@ HERE = Path(__file__).resolve().parent
 class Line(NamedTuple):
     """What is run at once, where its output goes, and the line that it is compared with.
 
-    The runs are held to that number of processors. With 0 they may use all.
+    The runs are held to that number of processors. With 0 they may use all. Meanwhile `busy`
+    other programs use a processor each.
     """
 
     commands: List[List[str]]
     output: str
     by: Optional[str]
     processors: int = 0
+    busy: int = 0
 
 
 class Seen(NamedTuple):
@@ -74,29 +77,37 @@ def lines_of(program: str, plain: Optional[str], folder: Path, megabytes: float)
     named = generate(folder / "named", megabytes, "--tables", "1", "--row-ids")
     all_named = generate(folder / "all_named", megabytes, "--row-ids")
     wide = generate(folder / "wide", megabytes / 2, "--shape", "wide")
-    four, four_named, alone = "four programs of one worker", "the same with identifiers", "eight with identifiers, one worker"
+    wide_quarters = [generate(folder / f"wide{i}", megabytes / 8, "--shape", "wide", "--tables", "2") for i in range(4)]
+    four, four_named, four_wide = "four programs of one worker", "the same with identifiers", "the same with 200 columns"
+    one_worker, alone = "eight tables, one worker", "eight with identifiers, one worker"
+    disturbed = "eight tables, one worker, three busy programs"
     document, copy = str(folder / "document.json"), str(folder / "copy.json")
     lines = {
         four: Line([[program, *it, "--workers", "1"] for it in quarters], os.devnull, None),
         four_named: Line([[program, *it, "--workers", "1"] for it in named_quarters], os.devnull, None),
+        four_wide: Line([[program, *it, "--workers", "1"] for it in wide_quarters], os.devnull, None),
         "one table": Line([[program, *one]], os.devnull, four),
         "eight tables": Line([[program, *eight]], os.devnull, four),
         "eight, one with 40 %": Line([[program, *unequal]], os.devnull, four),
         "eight, 64 workers": Line([[program, *eight, "--workers", "64"]], os.devnull, "eight tables"),
-        "one with identifiers": Line([[program, *named]], os.devnull, "one table"),
+        one_worker: Line([[program, *eight, "--workers", "1"]], os.devnull, None),
+        "eight tables, two processors": Line([[program, *eight]], os.devnull, one_worker, 2),
+        "eight tables, one processor": Line([[program, *eight]], os.devnull, one_worker, 1),
+        disturbed: Line([[program, *eight, "--workers", "1"]], os.devnull, None, busy=3),
+        "eight tables, three busy programs": Line([[program, *eight]], os.devnull, disturbed, busy=3),
+        "one with identifiers": Line([[program, *named]], os.devnull, four_named),
         alone: Line([[program, *all_named, "--workers", "1"]], os.devnull, None),
         "eight with identifiers": Line([[program, *all_named]], os.devnull, four_named),
         "eight with identifiers, two processors": Line([[program, *all_named]], os.devnull, alone, 2),
         "eight with identifiers, one processor": Line([[program, *all_named]], os.devnull, alone, 1),
-        "200 columns": Line([[program, *wide]], os.devnull, None),
+        "200 columns": Line([[program, *wide]], os.devnull, four_wide),
         "one table, to a file": Line([[program, *one]], document, None),
         "the same by `dd bs=64k`": Line([["dd", f"if={document}", f"of={copy}", "bs=64k", "status=none"]], os.devnull, None),
     }
     lines["one table, to a file"] = lines["one table, to a file"]._replace(by="the same by `dd bs=64k`")
     if plain:
         lines["plain Rust, eight tables"] = Line([[plain, *eight]], os.devnull, None)
-        lines["plain Rust, 200 columns"] = Line([[plain, *wide]], os.devnull, None)
-        lines["200 columns"] = lines["200 columns"]._replace(by="plain Rust, 200 columns")
+        lines["plain Rust, 200 columns"] = Line([[plain, *wide]], os.devnull, "200 columns")
     return lines
 
 
@@ -113,8 +124,32 @@ def before_start(processors: int, is_real_time: bool) -> Callable[[], None]:
     return first
 
 
+# A program that only uses a processor, and ends by itself if the one that started it, whose number
+# it is given, has ended.
+BUSY = "import os, sys\nwhile os.getppid() == int(sys.argv[1]): sum(range(100_000))"
+
+
+def start_busy(count: int) -> List["subprocess.Popen[bytes]"]:
+    """Starts programs that only use a processor each, and gives them time to begin."""
+    busy = [subprocess.Popen([sys.executable, "-c", BUSY, str(os.getpid())], stdin=subprocess.DEVNULL) for _ in range(count)]
+    if busy:
+        time.sleep(0.3)
+    return busy
+
+
 def run(line: Line, is_real_time: bool) -> Seen:
     """One round of a line."""
+    busy = start_busy(line.busy)
+    try:
+        return run_now(line, is_real_time)
+    finally:
+        for it in busy:
+            it.kill()
+            it.wait()
+
+
+def run_now(line: Line, is_real_time: bool) -> Seen:
+    """One round of a line, with what is busy already."""
     first = before_start(line.processors, is_real_time)
     used, sleeps, preemptions, faults = 0.0, 0, 0, 0
     with open(line.output, "wb") as output:

@@ -36,7 +36,7 @@ def processor(command: List[str], is_real_time: bool) -> float:
     _, status, usage = os.wait4(process, 0)
     if status:
         sys.exit(f"{' '.join(command)}: status {os.waitstatus_to_exitcode(status)}")
-    return (usage.ru_utime + usage.ru_stime) * 1000
+    return float(usage.ru_utime + usage.ru_stime) * 1000
 
 
 def line_of(program: str, plain: str, folder: Path, rounds: int, is_real_time: bool) -> str:
@@ -55,11 +55,16 @@ def line_of(program: str, plain: str, folder: Path, rounds: int, is_real_time: b
     return f"| {folder.name} | {least} | {medians[0]:.1f} | {medians[1]:.1f} | {medians[0] / medians[1]:.3f} | {pairs:.3f} |"
 
 
+def absolute(path: str) -> str:
+    """Returns an absolute path."""
+    return os.path.abspath(path)
+
+
 def main() -> None:
     """Makes the reports, if none is named, measures, and prints the table."""
     parser = argparse.ArgumentParser(description=__doc__, formatter_class=argparse.RawDescriptionHelpFormatter)
-    parser.add_argument("program", type=os.path.abspath)
-    parser.add_argument("plain", type=os.path.abspath)
+    parser.add_argument("program", type=absolute)
+    parser.add_argument("plain", type=absolute)
     parser.add_argument("folders", type=Path, nargs="*", metavar="FOLDER")
     parser.add_argument("--megabytes", type=float, default=4.0)
     parser.add_argument("--rounds", type=int, default=25)

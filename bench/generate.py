@@ -74,10 +74,14 @@ class Numbers:
 RowOf = Callable[[Numbers, int], Tuple[str, int]]
 
 
+def group(unit: str, decimals: int) -> dict[str, Any]:
+    """A property group of a unit and decimals."""
+    return {"dimensions": {"unit": unit}, "decimals": decimals}
+
+
 def metadata(tables: list[str], row_ids: bool) -> dict[str, Any]:
     """The metadata of the shape `positions`."""
-    group = lambda unit, decimals: {"dimensions": {"unit": unit}, "decimals": decimals}
-    columns = {
+    columns: dict[str, Any] = {
         "period": {},
         "currency": {},
         "party": {},
@@ -89,7 +93,7 @@ def metadata(tables: list[str], row_ids: bool) -> dict[str, Any]:
         "rate": {"dimensions": {"concept": "b:Rate", "unit": "xbrli:pure"}},
         "remark": {"dimensions": {"concept": "b:Remark", "language": "en"}},
     }
-    template = {
+    template: dict[str, Any] = {
         "dimensions": {"period": "$period", "b:Counterparty": "$party", "b:Region": "$region"},
         "columns": {"id": {}, **columns} if row_ids else columns,
     }
@@ -130,7 +134,6 @@ https://example.org/bench,Line,explicit
 
 def mixed_metadata(tables: list[str], is_wide: bool = False) -> dict[str, Any]:
     """The metadata of the shape `mixed`, or `wide`."""
-    group = lambda unit, decimals: {"dimensions": {"unit": unit}, "decimals": decimals}
     groups = {"gross": group("iso4217:EUR", 2), "net": group("iso4217:DKK", 0), "ceded": group("iso4217:SEK", -3)}
     lines = {
         "id": {},
@@ -213,7 +216,6 @@ https://example.org/bench,Author,typed
 def texts_metadata(tables: list[str]) -> dict[str, Any]:
     """The metadata of the shape `texts`."""
     report = metadata(tables, False)
-    group = lambda unit, decimals: {"dimensions": {"unit": unit}, "decimals": decimals}
     columns = {
         "id": {},
         "period": {},
@@ -353,8 +355,8 @@ def write_table(path: Path, numbers: Numbers, size: float, header: str, row_of: 
     with open(path, "wb") as file:
         file.write(header.encode())
         while written < size:
-            line, more = row_of(numbers, rows + 1)
-            line = line.encode()
+            text, more = row_of(numbers, rows + 1)
+            line = text.encode()
             file.write(line)
             written, rows, facts = written + len(line), rows + 1, facts + more
     return {"bytes": written, "rows": rows, "facts": facts}

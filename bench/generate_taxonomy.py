@@ -95,7 +95,7 @@ def metadata(tables: int) -> dict[str, Any]:
             "namespaces": {it: f"{HOST}dict/{it}" for it in ("met", "dim", "mem")} | {"iso4217": "http://www.xbrl.org/2003/iso4217"},
             "taxonomy": ["mod.xsd"],
         },
-        "dimensions": {"entity": "met:A1", "period": "$period"},
+        "dimensions": {"entity": "met:A1", "period": "$period@end"},
         "tableTemplates": templates,
         "tables": {it: {"url": f"{it}.csv"} | ({"optional": True} if it != "t" else {}) for it in templates},
     }

@@ -16,9 +16,15 @@ limit (in processor seconds) is stopped, and one over a tenth of it is made once
 The last column names missed goals: `growth`, if 4 n takes more than 0.1 s and more than 5 times the
 time of n, and `plain`, if it takes more than 0.9 of plain Rust's. Needs Linux.
 
-Some kinds are what a stranger would send to cost us time: names of one hash, two directions at
-once, or one fault in a large report. `--hostile` takes only these, in a few minutes. Their goals
-are 4.5 times the time of n, and 3 times that of plain Rust.
+Some kinds are what a stranger would send to cost us time or memory: names of one hash or in falling
+order, two directions at once, one fault, a header of empty cells, or a long text that is written
+into each fact. `--hostile` takes only these, in a few minutes. Their goals are 4.5 times the time
+of n, and 3 times that of plain Rust. Where a report grows in two directions, its facts or cells are
+16 times as many at 4 n, and the first goal is 18.
+
+A hostile kind is also converted with four workers at 4 n. The column `MB` has the most memory that
+this took, and the goal `memory` is 64 MB and 20 times the metadata's bytes, or as many times as the
+kind says. This needs GNU time.
 
 With --fault each report has a fault at its end: a row with one cell too many in the last table, or
 a dimension that no taxonomy has in the metadata. Then the run ends with that fault and explains it
@@ -58,13 +64,18 @@ class Report(NamedTuple):
 class Kind(NamedTuple):
     """A direction: what makes a report of a size, the smaller size, and the status.
 
-    `hostile` tells whether a stranger would make such a report to cost us time.
+    `hostile` tells whether a stranger would make such a report to cost us time or memory, and
+    `work` how many times the facts or cells of the smaller one it has at the greater size. `memory`
+    is how many times the metadata's bytes it may take, and `words` are further arguments.
     """
 
     make: Callable[[int], Report]
     size: int
     hostile: bool
     status: int
+    work: int
+    memory: int
+    words: list[str]
 
 
 KINDS: dict[str, Kind] = {}
@@ -73,17 +84,19 @@ COUNT = {"concept": "b:Count", "unit": "xbrli:pure"}
 LEVEL = {"entity": "e:BANK-1", "period": "2025"}
 
 
-def kind(size: int, hostile: bool = False, status: int = 0) -> Callable[[Callable[[int], Report]], Callable[[int], Report]]:
+def kind(
+    size: int, hostile: bool = False, status: int = 0, work: int = TIMES, memory: int = 20, words: Iterable[str] = ()
+) -> Callable[[Callable[[int], Report]], Callable[[int], Report]]:
     """Makes a kind of the function below it, with the smaller size."""
 
     def keep(make: Callable[[int], Report]) -> Callable[[int], Report]:
-        KINDS[make.__name__] = Kind(make, size, hostile, status)
+        KINDS[make.__name__] = Kind(make, size, hostile, status, work, memory, list(words))
         return make
 
     return keep
 
 
-def report(columns: Json, rows: Iterable[str], types: Iterable[str] = (), template: Json = {}, table: Json = {}, **other: Json) -> Report:
+def report(columns: Json, rows: Iterable[str], types: Iterable[str] = (), template: Json = {}, table: Json = {}, **other: Any) -> Report:
     """Makes a report of one table t with these columns and rows.
 
     `other` is added to the metadata.
@@ -136,7 +149,7 @@ def datapoints(n: int) -> Report:
 def group_columns(n: int) -> Report:
     """n columns of facts under one column of 100 property groups, in 100 rows."""
     groups = {g: {"dimensions": {"b:Key": g}} for g in names("g", 100)}
-    columns = {"group": {"propertyGroups": groups}, **{c: {**counts(), "propertiesFrom": ["group"]} for c in names("c", n)}}
+    columns: Json = {"group": {"propertyGroups": groups}, **{c: {**counts(), "propertiesFrom": ["group"]} for c in names("c", n)}}
     return report(columns, (f"{g}," + line(n) for g in groups))
 
 
@@ -202,7 +215,7 @@ def members(n: int) -> Report:
 @kind(500)
 def wide(n: int) -> Report:
     """n columns of facts that each refer to a column of their own."""
-    columns = {**{k: {} for k in names("k", n)}, **{c: counts(**{"b:Key": f"${k}"}) for c, k in zip(names("c", n), names("k", n))}}
+    columns: Json = {**{k: {} for k in names("k", n)}, **{c: counts(**{"b:Key": f"${k}"}) for c, k in zip(names("c", n), names("k", n))}}
     return report(columns, [line(2 * n)] * 2)
 
 
@@ -400,17 +413,24 @@ def hash_parameters(n: int) -> Report:
 
 
 @kind(1_000, hostile=True, status=1)
+def one_fault(n: int) -> Report:
+    """n columns of facts under n / 4 dimensions of the report; only one row has a bad fact."""
+    level, types = keys(n // 4)
+    return report({c: counts() for c in names("c", n)}, ["," * (n - 1) + "x"], types, dimensions={**LEVEL, **level})
+
+
+@kind(1_000, hostile=True, status=1, work=16)
 def bad_row(n: int) -> Report:
     """n columns of facts under n / 4 dimensions of the report; the last fact of one row is bad."""
     level, types = keys(n // 4)
     return report({c: counts() for c in names("c", n)}, [line(n - 1) + ",x"], types, dimensions={**LEVEL, **level})
 
 
-@kind(1_024, hostile=True, status=1)
+@kind(1_024, hostile=True, status=1, work=16)
 def bad_tables(n: int) -> Report:
     """n tables of one file of n columns, with four written dimensions, and a bad fact in each."""
     level, types = keys(4)
-    tables = {t: {"url": "t.csv", "template": "p"} for t in names("t", n)}
+    tables = {t: {"url": "t.csv", "template": "p"} for t in names("t", n - 1)}
     return report({c: counts() for c in names("c", n)}, ["," * (n - 1) + "x"], types, dimensions={**LEVEL, **level}, tables=tables)
 
 
@@ -421,14 +441,25 @@ def reference_cells(n: int) -> Report:
     return report({"key": {}, "count": counts()}, ["1,1"] * 8, types, dimensions={**LEVEL, **level})
 
 
-@kind(16_000, hostile=True)
-def falling_levels(n: int) -> Report:
-    """n dimensions of the report, and as many before them by name over 16 columns of facts."""
-    level, types = keys(n)
-    own = [f"b:J{i:07}" for i in range(n)]
-    types += [f"{d[2:]},typed" for d in own]
+def two_levels(n: int, general: str, special: str) -> Report:
+    """n dimensions of the report, and n over 16 columns of facts, with names of these letters."""
+    level = {f"b:{d}": "x" for d in names(general, n)}
+    own = [f"b:{d}" for d in names(special, n)]
+    types = [f"{d},typed" for letter in (general, special) for d in names(letter, n)]
     columns = {c: counts(**dict.fromkeys(own[i::16], "x")) for i, c in enumerate(names("c", 16))}
     return report(columns, [line(16)], types, dimensions={**LEVEL, **level})
+
+
+@kind(16_000, hostile=True)
+def falling_levels(n: int) -> Report:
+    """n dimensions of the report, and as many over 16 columns of facts, all after them by name."""
+    return two_levels(n, "K", "L")
+
+
+@kind(16_000, hostile=True)
+def rising_levels(n: int) -> Report:
+    """n dimensions of the report, and as many over 16 columns of facts, all before them by name."""
+    return two_levels(n, "L", "K")
 
 
 @kind(250_000, hostile=True)
@@ -438,11 +469,79 @@ def empty_header(n: int) -> Report:
     return made._replace(files={"t.csv": "," * n + made.files["t.csv"]})
 
 
-@kind(1_000, hostile=True)
+@kind(1_000, hostile=True, work=16)
 def good_facts(n: int) -> Report:
     """n columns of facts under n written dimensions of the report, and one row of n / 8 facts."""
     level, types = keys(n)
     return report({c: counts() for c in names("c", n)}, [line(n // 8) + "," * (n - n // 8)], types, dimensions={**LEVEL, **level})
+
+
+@kind(512, hostile=True, status=1, work=16, words=["--explain", "--faults", "faults"])
+def told_tables(n: int) -> Report:
+    """n tables of one file of n columns, with a bad fact in each, which is explained."""
+    return bad_tables(n)
+
+
+@kind(32_768, hostile=True, work=16)
+def waiting_literal(n: int) -> Report:
+    """A literal of n bytes in each of n / 8 facts, all in one table."""
+    return report({"count": counts()}, ["1"] * (n // 8), ["Long,typed"], dimensions={**LEVEL, "b:Long": "x" * n})
+
+
+@kind(65_536, hostile=True, work=16)
+def waiting_cell(n: int) -> Report:
+    """A cell of n bytes that each of n / 130 facts of its row refers to."""
+    columns: dict[str, Any] = {"key": {}}
+    columns.update({c: counts(**{"b:Key": "$key"}) for c in names("c", n // 130)})
+    return report(columns, ["x" * n + "," + line(n // 130)])
+
+
+@kind(16_384, hostile=True, work=16)
+def waiting_tables(n: int) -> Report:
+    """A literal of n bytes in each of n / 256 facts of 64 tables, which read one file."""
+    tables = {t: {"url": "t.csv", "template": "p"} for t in names("t", 63)}
+    columns = {"count": counts(**{"b:Long": "x" * n})}
+    return report(columns, ["1"] * (n // 256), ["Long,typed"], tables=tables)
+
+
+@kind(200, hostile=True, work=16)
+def group_frames(n: int) -> Report:
+    """n columns of facts under one column of n property groups, each in one row."""
+    groups = {g: {"dimensions": {"b:Key": g}} for g in names("g", n)}
+    columns: dict[str, Any] = {"group": {"propertyGroups": groups}}
+    columns.update({c: {**counts(), "propertiesFrom": ["group"]} for c in names("c", n)})
+    return report(columns, (f"{g}," + line(n) for g in groups))
+
+
+@kind(100_000, hostile=True, memory=130)
+def small_objects(n: int) -> Report:
+    """n objects of the metadata that mean nothing, with one member each."""
+    made: dict[str, Any] = {"b:x": [{"": 1}] * n}
+    return report({"count": counts()}, ["1"], **made)
+
+
+def colliding_long(n: int, length: int) -> list[str]:
+    """n names of one hash, whose first bytes are the same, all but the last 8 of this length."""
+    multiplier = 0x9E3779B97F4A7C15
+    state = 0x243F6A8885A308D3 + length
+    for _ in range((length - 32) // 16):
+        first, second = (int.from_bytes(b"x" * 8, "little") for _ in range(2))
+        state = folded(first ^ state, second ^ multiplier)
+    allowed = frozenset(b"0123456789ABCDEFGHIJKLMNOPQRSTUVWXYZabcdefghijklmnopqrstuvwxyz")
+    for i in itertools.count():
+        block = f"N{i:015}".encode()
+        first, second = (int.from_bytes(block[at : at + 8], "little") for at in (0, 8))
+        last = folded(first ^ state, second ^ multiplier).to_bytes(8, "little")
+        if allowed.issuperset(last):
+            start = "x" * (length - 32) + (block + last).decode()
+            return [f"{start}{at:08}" for at in range(n)]
+    raise AssertionError
+
+
+@kind(2_000, hostile=True)
+def long_hash_ids(n: int) -> Report:
+    """n rows whose identifiers of 1,024 bytes have one hash, and differ at their end."""
+    return identified(colliding_long(n, 1_024))
 
 
 def spoilt(made: Report, place: str) -> Report:
@@ -462,8 +561,8 @@ def write(made: Report, folder: Path) -> list[str]:
     records = "".join(f"{generate.NAMESPACE},{record}\n" for record in made.types)
     (folder / "types.csv").write_text("namespace,name,type\n" + records, encoding="utf-8")
     for name, text in made.files.items():
-        (folder / name).write_text(text, encoding="utf-8", newline="")
-    return [str(folder / "meta.json"), "--types", str(folder / "types.csv"), "--workers", "1"]
+        (folder / name).write_bytes(text.encode())
+    return [str(folder / "meta.json"), "--types", str(folder / "types.csv")]
 
 
 def run(command: list[str], limit: int, wanted: int) -> Optional[float]:
@@ -476,7 +575,21 @@ def run(command: list[str], limit: int, wanted: int) -> Optional[float]:
         return None
     if process.returncode != wanted:
         sys.exit(f"{' '.join(command)}: status {process.returncode}")
-    return usage.ru_utime + usage.ru_stime
+    return float(usage.ru_utime + usage.ru_stime)
+
+
+def peak(command: list[str], wanted: int) -> float:
+    """Returns the most memory that one run took, in MB."""
+    with tempfile.NamedTemporaryFile("r") as told:
+        done = subprocess.run(
+            ["/usr/bin/time", "-q", "-f", "%M", "-o", told.name, *command],
+            stdin=subprocess.DEVNULL,
+            stdout=subprocess.DEVNULL,
+            stderr=subprocess.DEVNULL if wanted else None,
+        )
+        if done.returncode != wanted:
+            sys.exit(f"{' '.join(command)}: status {done.returncode}")
+        return int(told.read().split()[-1]) / 1000
 
 
 def least(commands: list[list[str]], runs: int, limit: int, wanted: int) -> list[Optional[float]]:
@@ -507,9 +620,10 @@ def multiple(above: Optional[float], below: Optional[float]) -> str:
     return f"{above / below:.1f}" if above is not None and below else ""
 
 
-def missed(mine: list[Optional[float]], plain: list[Optional[float]], hostile: bool) -> str:
+def missed(mine: list[Optional[float]], plain: list[Optional[float]], hostile: bool, work: int) -> str:
     """The goals that are missed."""
     times, of_plain = (4.5, 3.0) if hostile else (5.0, 0.9)
+    times *= work / TIMES
     small, large = mine
     if small is None or large is None:
         return "growth"
@@ -520,14 +634,16 @@ def missed(mine: list[Optional[float]], plain: list[Optional[float]], hostile: b
 
 def measured(name: str, programs: list[str], folder: Path, options: argparse.Namespace) -> str:
     """A kind's line."""
-    make, n, hostile, status = KINDS[name]
+    make, n, hostile, status, work, times, more = KINDS[name]
     wanted = 1 if options.fault else status
     reports = [make(size) for size in (n, TIMES * n)]
     if options.fault:
         reports = [spoilt(it, options.fault) for it in reports]
-    sizes = [write(it, folder / str(i)) for i, it in enumerate(reports)]
+    written = [write(it, folder / str(i)) for i, it in enumerate(reports)]
     if options.fault:
-        sizes = [[*it, "--explain", "--faults", str(folder / "faults")] for it in sizes]
+        more = ["--explain", "--faults", "faults"]
+    more = [str(folder / word) if word == "faults" else word for word in more]
+    sizes = [[*it, "--workers", "1", *more] for it in written]
     taken = least([[program, *words] for program in programs for words in sizes], options.runs, options.limit, wanted)
     mine, plain = taken[:2], taken[2:]
     if mine[0] is not None and wanted == 0 and not same(programs, sizes[0]):
@@ -536,7 +652,13 @@ def measured(name: str, programs: list[str], folder: Path, options: argparse.Nam
     for figures in (mine, plain):
         cells += [seconds(each, options.limit) for each in figures] + [multiple(figures[1], figures[0])] if figures else []
     cells += [f"{mine[1] / plain[1]:.2f}" if plain and mine[1] is not None and plain[1] else ""] if plain else []
-    return "| " + " | ".join([*cells, missed(mine, plain, hostile)]) + " |"
+    misses = [missed(mine, plain, hostile, work)]
+    if options.hostile:
+        megabytes = peak([programs[0], *written[1], "--workers", "4", *more], wanted)
+        bound = 64 + times * (folder / "1/meta.json").stat().st_size / 1e6
+        cells.append(f"{megabytes:.0f} of {bound:.0f}")
+        misses += ["memory"] if megabytes > bound else []
+    return "| " + " | ".join([*cells, ", ".join(filter(None, misses))]) + " |"
 
 
 def words() -> argparse.Namespace:
@@ -568,6 +690,7 @@ def main() -> None:
         sys.exit("plain Rust explains no faults")
     programs = [os.path.abspath(program) for program in [options.program, *plain]]
     columns = ["Kind", "n", "s", f"at {TIMES} n", "times"] + (["plain Rust s", f"at {TIMES} n", "times", "of plain Rust"] if plain else [])
+    columns += ["MB"] if options.hostile else []
     print("| " + " | ".join([*columns, "missed"]) + " |\n" + "|---" * (len(columns) + 1) + "|")
     for name in chosen or [name for name, each in KINDS.items() if each.hostile or not options.hostile]:
         with tempfile.TemporaryDirectory() as folder:

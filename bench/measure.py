@@ -62,6 +62,7 @@ def document(command: list[str]) -> tuple[str, int]:
     """Runs a command and returns the hash and the length of its output."""
     digest, length = hashlib.sha256(), 0
     with subprocess.Popen(command, stdin=subprocess.DEVNULL, stdout=subprocess.PIPE) as process:
+        assert process.stdout is not None  # it is a pipe
         while piece := process.stdout.read(1 << 20):
             digest.update(piece)
             length += len(piece)
@@ -188,7 +189,7 @@ def kept(file: Path, machine: Json) -> Json:
     """Reads the figures that FILE has, which must be of this machine and program."""
     if not file.exists():
         return {"machine": machine, "reports": {}}
-    found = json.loads(file.read_text())
+    found: Json = json.loads(file.read_text())
     if found["machine"] != machine:
         sys.exit(f"{file} has figures of another machine or program: remove it first")
     return found

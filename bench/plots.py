@@ -152,12 +152,12 @@ def memory(results: Json) -> Picture:
     picture.line(left, TOP, left, bottom, "#333333")
     floor = bottom + 6.0
     for it in sorted(lines, key=lambda it: it.points[-1][1]):
-        at = [(left + x * wide, bottom - y * high) for x, y in it.points]
+        places = [(left + x * wide, bottom - y * high) for x, y in it.points]
         colour = COLOURS.get(it.run, OTHER)
-        picture.path(at, colour, DASHES[names.index(it.name) % len(DASHES)])
+        picture.path(places, colour, DASHES[names.index(it.name) % len(DASHES)])
         # From the lowest line up, each label is at least 16 above the one before.
-        floor = min(at[-1][1] + 4, floor - 16)
-        picture.line(*at[-1], WIDTH - right + 14, floor - 4, colour)
+        floor = min(places[-1][1] + 4, floor - 16)
+        picture.line(*places[-1], WIDTH - right + 14, floor - 4, colour)
         picture.text(WIDTH - right + 18, floor, f"{it.name}, {it.run}")
     return picture
 

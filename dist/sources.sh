@@ -113,7 +113,7 @@ note_built() {
 #
 # library_required: whether dist/lib must be there, `yes` or `no`. With `yes` .ci/run also builds the library, and compares dist/lib with it.
 # shellcheck disable=SC2034
-library_required=no
+library_required=yes
 library_built=crates/$library_crate/out/lib$library_crate.a
 library_built_note=crates/$library_crate/out/SOURCES
 library_files="libxbrl_json.a libxbrl_json.so.0 xbrl_json.pc"

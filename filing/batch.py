@@ -2,6 +2,7 @@
 
 from __future__ import annotations
 
+import gc
 import json
 import os
 import select
@@ -10,21 +11,24 @@ import signal
 import sys
 import time
 from collections import Counter
-from contextlib import suppress
+from contextlib import ExitStack, suppress
 from dataclasses import dataclass, replace
-from subprocess import PIPE, run
-from typing import Callable, Counter as Counted, Dict, Iterator, List, Optional
+from typing import Callable, Counter as Counted, Dict, Iterator, List, Optional, Sequence
 
 from .batch_words import Batch, read_batch
-from .digests import contents_of_disk, digest_of, digests_of
+from .converter_program import require_counts, version_of
+from .cache import digests_of_program
+from .digests import digest_of
+from .kept_module import hold
+from .many_summaries import ManySummaries
+from .marked_output import OTHER, PAGE, SUMMARY, check_inputs, check_place
 from .one_report import KEPT, Paths, Task, Told, begin, read_told
-from .nested import open_taxonomy
+from .nested import open_taxonomies
 from .outcomes import (
     BUSY,
     DONE,
     FIRST_BYTES,
     REFUSED,
-    SIGNAL,
     TO_RETRY,
     Outcome,
     OutcomeFile,
@@ -37,11 +41,12 @@ from .outcomes import (
     write_outcome,
 )
 from .outputs import same_file, stands_in
-from .packages import FolderPackage
-from .page_index import Listed, check_index, write_index
+from .packages import Package
+from .page_index import Listed, write_index
 from .progress import Progress
 from .refusals import FILES, WORDS, Refusal, cannot_write, printable
-from .stopping import Stopped, Stopping, temporary_folder, temporary_place, woken_by_signals
+from .stopping import Stopping, temporary_folder, temporary_place, woken_by_signals
+from .sums import sum_of
 
 GRACE = 5.0  # seconds from the asking of a process to end until it is made to
 SHOWN_EVERY = 0.5  # seconds between two lines of progress
@@ -63,19 +68,35 @@ class Running:
 
 
 def run_batch(
-    words: List[str], program: str, convert: Convert, progress: Progress, stopping: Stopping
+    words: List[str],
+    program: str,
+    convert: Callable[[List[str], List[Package]], int],
+    progress: Progress,
+    stopping: Stopping,
 ) -> int:
     """Convert all reports of a command line, and return the status of the run.
 
-    `convert` runs the command for one report. Each report that is not converted has a line on
-    standard error, and the last line counts.
+    `convert` runs the command for one report, over the taxonomy that is open. Each report that is
+    not converted has a line on standard error, and the last line counts.
     """
     batch = read_batch(words)
+    if batch.summary is not None:
+        require_counts(program)
+        for label in batch.settings.taxonomy:
+            sum_of(label)  # which the processes of all reports then know
     begun = time.monotonic()
-    common = common_digest(batch, program)
-    make_folder(batch)
-    with temporary_folder(temporary_place(), "xbrl-filing-", stopping) as folder:
-        crew = Crew(batch, common, folder, convert, progress, OutcomeFile(batch.outcomes))
+    with ExitStack() as at_end:
+        taxonomy = open_taxonomies(batch.settings.taxonomy, batch.settings.limit, at_end)
+        common = common_digest(batch, program, taxonomy)
+        make_folder(batch)
+        place = temporary_folder(temporary_place(), "xbrl-filing-", stopping)
+        folder = at_end.enter_context(place)
+        outcomes = OutcomeFile(batch.outcomes)
+        crew = Crew(
+            batch, program, common, folder, lambda given: convert(given, taxonomy), progress, outcomes
+        )
+        gc.collect()
+        gc.freeze()  # so that a report's process does not copy pages only to look for garbage
         with woken_by_signals() as woken:
             try:
                 crew.work(woken)
@@ -87,48 +108,28 @@ def run_batch(
                 progress.clear()
     crew.tell_total(time.monotonic() - begun)
     write_index(batch.page, crew.listed)
+    crew.summaries.write(time.monotonic() - begun)
     return status_of(crew.words)
 
 
-def common_digest(batch: Batch, program: str) -> str:
+def common_digest(batch: Batch, program: str, taxonomy: Sequence[Package]) -> str:
     """Return the digest of all that the reports have in common.
 
     That is the taxonomy packages, both programs, and the options that a document may depend on.
     """
-    packages = []
-    for label in batch.settings.taxonomy:
-        for package in open_taxonomy(label, batch.settings.limit):
-            packages.append([package.root, package.digest().hex()])
-            package.close()
-    own = os.path.dirname(os.path.abspath(__file__))
-    modules = sorted(it for it in os.listdir(own) if it.endswith(".py"))
-    paths = [os.path.join(own, it) for it in modules]
-    texts = digests_of([contents_of_disk(it, os.path.getsize(it), it) for it in paths])
     said = {
         "converter": version_of(program),
-        "program": [it.hex() for it in texts],
-        "packages": packages,
+        "program": digests_of_program(),
+        "packages": [[package.root, package.digest().hex()] for package in taxonomy],
         "limit": batch.settings.limit,
         "options": batch.settings.rest,
     }
     return digest_of(json.dumps(said, sort_keys=True).encode()).hex()
 
 
-def version_of(program: str) -> str:
-    """Return the version of xbrl-json. One that does not run ends the run before any report."""
-    try:
-        done = run([program, "--version"], stdin=PIPE, stdout=PIPE, stderr=PIPE, check=False)
-    except OSError as error:
-        raise Refusal(FILES, program, f"cannot run ({error.strerror})") from None
-    if done.returncode:
-        why = first_line(done.stderr) or f"it ends with status {done.returncode}"
-        raise Refusal(FILES, program, f"cannot run ({why})")
-    return done.stdout.decode("utf-8", "replace").strip()
-
-
 def make_folder(batch: Batch) -> None:
     """Make the folder of the run, if it does not exist; refuse one that has an input."""
-    check_index(batch)
+    check_marked(batch)
     folder = os.path.realpath(batch.into)
     for label in (*batch.reports, *batch.settings.taxonomy):
         path = os.path.realpath(label)
@@ -138,11 +139,29 @@ def make_folder(batch: Batch) -> None:
             raise cannot_write(batch.into, f"it stands inside of {label}, an input of this run")
         if batch.outcomes is not None and same_file(batch.outcomes, path):
             raise cannot_write(batch.outcomes, "it is an input of this run")
-    for it in (batch.into, cache_of(batch)):  # the first report makes the cache, others wait for it
+    # The first report makes the cache, others wait for it.
+    for place in (batch.into, cache_of(batch)):
         try:
-            os.makedirs(it, exist_ok=True)
+            os.makedirs(place, exist_ok=True)
         except OSError as error:
-            raise cannot_write(it, error) from None
+            raise cannot_write(place, error) from None
+
+
+def check_marked(batch: Batch) -> None:
+    """Refuse an index or a summary that cannot be written, or that another file of the run is."""
+    folder = os.path.realpath(batch.into)
+    taken = {path for name in batch.names for path in Paths.of(folder, name).all()}
+    if batch.outcomes is not None:
+        taken.add(os.path.realpath(batch.outcomes))
+    for path, kind in ((batch.page, PAGE), (batch.summary, SUMMARY)):
+        if path is None:
+            continue
+        check_place(path, kind, folder)
+        check_inputs(path, [*batch.reports, *batch.settings.taxonomy])
+        own = os.path.realpath(path)
+        if own in taken:
+            raise cannot_write(path, OTHER)
+        taken.add(own)
 
 
 def cache_of(batch: Batch) -> str:
@@ -156,6 +175,7 @@ class Crew:
     def __init__(
         self,
         batch: Batch,
+        program: str,
         common: str,
         folder: str,
         convert: Convert,
@@ -163,6 +183,8 @@ class Crew:
         outcomes: OutcomeFile,
     ) -> None:
         self.batch, self.common, self.folder = batch, common, folder
+        self.program = program
+        self.summaries = ManySummaries(batch.summary)
         self.convert, self.progress, self.outcomes = convert, progress, outcomes
         self.running: Dict[int, Running] = {}
         self.words: Counted[str] = Counter()
@@ -205,6 +227,9 @@ class Crew:
                 temporary=os.path.join(self.folder, str(number)),
                 memory_limit=self.batch.memory_limit,
                 has_page=self.batch.page is not None,
+                has_summary=self.batch.summary is not None,
+                program=self.program,
+                taxonomy=self.batch.settings.taxonomy,
             )
 
     def begin(self, task: Task) -> None:
@@ -228,34 +253,36 @@ class Crew:
     def longest_wait(self) -> float:
         """Return how long to wait at most: until a report is late, or the line is shown anew."""
         now = time.monotonic()
-        ends = [it.ends - now for it in self.running.values() if it.ends is not None]
+        ends = [running.ends - now for running in self.running.values() if running.ends is not None]
         return max(0.0, min([1.0, *ends]))
 
     def end_late(self) -> None:
         """Ask each report whose time is up to end, and after a while make it end."""
         now = time.monotonic()
-        for it in self.running.values():
-            if it.ends is not None and now >= it.ends:
-                send(it.process, signal.SIGKILL if it.late else signal.SIGTERM)
-                it.late, it.ends = True, now + GRACE
+        for running in self.running.values():
+            if running.ends is not None and now >= running.ends:
+                send(running.process, signal.SIGKILL if running.late else signal.SIGTERM)
+                running.late, running.ends = True, now + GRACE
 
     def take_ended(self) -> None:
         """Take the outcome of each report whose process has ended."""
-        for it in list(self.running.values()):
-            process, waited, usage = os.wait4(it.process, os.WNOHANG)
+        for running in list(self.running.values()):
+            process, waited, usage = os.wait4(running.process, os.WNOHANG)
             if process:
-                send(it.process, signal.SIGKILL)  # what it has left in its group
-                del self.running[it.process]
-                told = read_told(it.pipe)
-                os.close(it.pipe)
-                shutil.rmtree(it.task.temporary, ignore_errors=True)
+                send(running.process, signal.SIGKILL)  # what it has left in its group
+                del self.running[running.process]
+                told = read_told(running.pipe)
+                if told.module and self.batch.memory_limit is None:
+                    hold(told.module)  # for all later reports; it would count for their limit
+                os.close(running.pipe)
+                shutil.rmtree(running.task.temporary, ignore_errors=True)
                 with suppress(OSError):
-                    os.unlink(f"{it.task.paths.document}.new")
-                self.take(it.task, self.outcome_of(it, told, waited, usage.ru_maxrss << 10))
+                    os.unlink(f"{running.task.paths.document}.new")
+                self.take(running.task, self.outcome_of(running, told, waited, usage.ru_maxrss << 10))
 
-    def outcome_of(self, it: Running, told: Told, waited: int, memory: int) -> Outcome:
+    def outcome_of(self, running: Running, told: Told, waited: int, memory: int) -> Outcome:
         """Return what has become of a report."""
-        task, paths = it.task, it.task.paths
+        task, paths = running.task, running.task.paths
         if told.word == KEPT:
             earlier = read_outcome(paths.outcome)
             if earlier is not None:
@@ -272,13 +299,13 @@ class Crew:
             digest=told.digest,
             status=status,
             outcome=word,
-            seconds=round(time.monotonic() - it.begun, 3),
+            seconds=round(time.monotonic() - running.begun, 3),
             memory=memory,
             faults=faults,
             document=paths.document if word == DONE else "",
             line="" if word == DONE else first_line(log) or f"ended by signal {status - 128}",
         )
-        return limited(outcome, it.late and word != DONE, task.memory_limit)
+        return limited(outcome, running.late and word != DONE, task.memory_limit)
 
     def take(self, task: Task, outcome: Outcome) -> None:
         """Keep an outcome, and tell of a report that was not converted."""
@@ -290,6 +317,7 @@ class Crew:
         self.outcomes.add(outcome)
         if task.has_page:
             self.listed.append(Listed(outcome, task.paths.page))
+        self.summaries.add(outcome, task.paths.summary)
         if outcome.outcome != DONE and not self.stopped_by:
             self.progress.clear()
             line = outcome.line.removeprefix("xbrl-filing: ").removeprefix(f"{outcome.report}: ")
@@ -310,7 +338,7 @@ class Crew:
         self.progress.say(line)
 
     def counts(self) -> str:
-        retry = sum(self.words[it] for it in TO_RETRY)
+        retry = sum(self.words[word] for word in TO_RETRY)
         other = sum(self.words.values()) - self.words[DONE] - self.words[REFUSED] - retry
         counts = [f"{self.words[DONE]} done", f"{self.words[REFUSED]} refused"]
         return ", ".join([*counts, f"{other} failed", f"{retry} to try again"])
@@ -323,15 +351,15 @@ class Crew:
 
     def end_all(self) -> None:
         """Ask all processes to end, and wait until they have; make them after a while."""
-        for it in self.running.values():
-            send(it.process, signal.SIGTERM)
+        for running in self.running.values():
+            send(running.process, signal.SIGTERM)
         until = time.monotonic() + GRACE
-        for it in self.running.values():
-            while not os.waitpid(it.process, os.WNOHANG)[0]:
+        for running in self.running.values():
+            while not os.waitpid(running.process, os.WNOHANG)[0]:
                 if time.monotonic() > until:
-                    send(it.process, signal.SIGKILL)
+                    send(running.process, signal.SIGKILL)
                 time.sleep(0.01)
-            send(it.process, signal.SIGKILL)
+            send(running.process, signal.SIGKILL)
 
 
 def send(process: int, number: int) -> None:

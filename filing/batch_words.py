@@ -3,21 +3,23 @@
 from __future__ import annotations
 
 import os
+from argparse import Action, ArgumentParser, Namespace
 from dataclasses import dataclass
 from itertools import takewhile
-from typing import Dict, List, Optional, Tuple
+from typing import Any, Dict, List, Optional, Tuple
 
 from .digests import processors
 from .refusals import WORDS, Refusal
-from .words import RUNS, Settings, misuse, read_words
+from .words import RUNS, Once, Parser, Settings, dest_of, misuse, read_words
 
 INTO = "--into"
 OF_MANY_WITH_VALUE = (
-    INTO, "--jobs", "--outcomes", "--page", "--time-limit", "--memory-limit"
+    INTO, "--jobs", "--outcomes", "--page", "--summary", "--time-limit", "--memory-limit"
 )  # fmt: skip
-OF_MANY = (*OF_MANY_WITH_VALUE, "--again")
+AGAIN = "--again"
+OF_MANY = (*OF_MANY_WITH_VALUE, AGAIN)
 # The run gives these to xbrl-json itself, for each report.
-GIVEN = ("--out", "--faults", "--whole", "--progress")
+GIVEN = ("--out", "--faults", "--counts", "--whole", "--progress")
 MOST_JOBS = 1024
 LONGEST_TIME = 10**9  # seconds
 # A report package's name without this ending is the name of its document.
@@ -36,6 +38,7 @@ class Batch:
     jobs: int
     outcomes: Optional[str]
     page: Optional[str]  # the list of the reports; each of these has a page too
+    summary: Optional[str]  # of all reports; each of these has a summary too
     again: bool
     time_limit: Optional[float]
     memory_limit: Optional[int]
@@ -43,12 +46,12 @@ class Batch:
 
 def is_of_many(words: List[str]) -> bool:
     """Return whether the command line is of a run over many reports."""
-    return any(it.partition("=")[0] == INTO for it in words)
+    return any(word.partition("=")[0] == INTO for word in words)
 
 
 def read_batch(words: List[str]) -> Batch:
     """Return what the command line asks for; refuse with status 2 what is not a command line."""
-    reports = list(takewhile(lambda it: not it.startswith("--"), words))
+    reports = list(takewhile(lambda word: not word.startswith("--"), words))
     values, left = own_words(words[len(reports) :])
     if not reports:
         raise misuse("there is no REPORT: all reports stand before the first option")
@@ -58,41 +61,52 @@ def read_batch(words: List[str]) -> Batch:
         left += ["--workers", "1"]
     return Batch(
         reports=tuple(reports),
-        names=names_of(reports),
+        names=names_of(reports, "--summary" in values),
         words=tuple(left),
         settings=settings,
         into=values[INTO],
         jobs=whole("--jobs", values, 1, MOST_JOBS) or min(processors(), MOST_JOBS),
         outcomes=values.get("--outcomes"),
         page=values.get("--page"),
-        again="--again" in values,
+        summary=values.get("--summary"),
+        again=AGAIN in values,
         time_limit=seconds("--time-limit", values),
         memory_limit=whole("--memory-limit", values, 1, 1 << 62),
     )
 
 
+class OnceOfMany(Once):
+    """Takes the value of an option of a run over many reports."""
+
+    twice = "{} is given twice"
+
+
+class AgainOfMany(Action):
+    """Takes an option without a value."""
+
+    def __call__(
+        self,
+        parser: ArgumentParser,
+        namespace: Namespace,
+        values: Any,
+        option_string: Optional[str] = None,
+    ) -> None:
+        """Take the option, which is given once at most."""
+        if getattr(namespace, self.dest) is not None:
+            raise misuse(OnceOfMany.twice.format(option_string))
+        setattr(namespace, self.dest, "")
+
+
 def own_words(words: List[str]) -> Tuple[Dict[str, str], List[str]]:
     """Return the values of the options that only a run over many has, and all other words."""
-    values: Dict[str, str] = {}
-    left: List[str] = []
-    words = words[::-1]
-    while words:
-        word = words.pop()
-        name, equals, value = word.partition("=")
-        if name not in OF_MANY:
-            left.append(word)
-            continue
-        if name in values:
-            raise misuse(f"{name} is given twice")
-        if name in OF_MANY_WITH_VALUE:
-            if not equals and words and not words[-1].startswith("--"):
-                value = words.pop()
-            if value == "":
-                raise misuse(f"{name} needs a value")
-        elif equals:
-            raise misuse(f"{name} has no value")
-        values[name] = value
-    return values, left
+    parser = Parser()
+    for name in OF_MANY_WITH_VALUE:
+        parser.option(name, nargs="?", action=OnceOfMany)
+    parser.option(AGAIN, nargs=0, action=AgainOfMany)
+    found, left = parser.read(words)
+    taken = {name: getattr(found, dest_of(name)) for name in OF_MANY}
+    values = {name: value for name, value in taken.items() if value is not None}
+    return values, [word for words in left for word in words]
 
 
 def check_together(settings: Settings, left: List[str]) -> None:
@@ -103,7 +117,7 @@ def check_together(settings: Settings, left: List[str]) -> None:
 
 
 def left_has(left: List[str], name: str) -> bool:
-    return any(it == name or it.startswith(name + "=") for it in left)
+    return any(word == name or word.startswith(name + "=") for word in left)
 
 
 def whole(name: str, values: Dict[str, str], least: int, most: int) -> Optional[int]:
@@ -127,16 +141,21 @@ def seconds(name: str, values: Dict[str, str]) -> Optional[float]:
     return float(text)
 
 
-def names_of(reports: List[str]) -> Tuple[str, ...]:
-    """Return the name of each report's document; refuse two reports that have the same."""
+def names_of(reports: List[str], has_summaries: bool) -> Tuple[str, ...]:
+    """Return the name of each report's document; refuse two reports that have the same.
+
+    A summary is called NAME.summary.json, so `a.summary` is a name of both if `a` has one.
+    """
     first: Dict[str, str] = {}
+    summaries = {f"{name_of(report)}.summary": report for report in reports if has_summaries}
     for report in reports:
         name = name_of(report)
         if name in ("", ".", ".."):
             raise misuse(f"'{report}' has no name for its document")
-        if name in first:
+        other = first.get(name) or summaries.get(name)
+        if other is not None:
             why = f"would both be written as {name}.json: rename one, or take another {INTO}"
-            raise Refusal(WORDS, "", f"{first[name]} and {report} {why}")
+            raise Refusal(WORDS, "", f"{other} and {report} {why}")
         first[name] = report
     return tuple(first)
 

@@ -7,21 +7,34 @@ from __future__ import annotations
 
 import json
 import os
-from typing import Iterable, List, Optional, Sequence
+from functools import lru_cache
+from typing import Iterable, List, Optional, Sequence, Tuple
 
 from .cache_room import store, used
-from .digests import contents_of_disk, digest_of, digests_of
+from .digests import contents_of_disk, digest_of, digests_of, identity_of
 from .kinds import Kinds
 from .packages import Package
 
 
 def key_of(packages: Sequence[Package], entries: Sequence[str]) -> str:
     """Return the key of kinds: a digest of the packages, the entry points and this program."""
-    own = os.path.dirname(os.path.abspath(__file__))
-    modules = [os.path.join(own, it) for it in sorted(os.listdir(own)) if it.endswith(".py")]
-    program = [it.hex() for it in digests_of([contents_of_disk(it, os.path.getsize(it), it) for it in modules])]
-    said = {"program": program, "packages": [it.digest().hex() for it in packages], "entries": list(entries)}
+    said = {"program": digests_of_program(), "packages": [package.digest().hex() for package in packages], "entries": list(entries)}
     return digest_of(json.dumps(said, sort_keys=True).encode()).hex()
+
+
+@lru_cache(maxsize=1)
+def digests_of_program() -> Tuple[str, ...]:
+    """Return the digests of the modules of this program, in the order of their names.
+
+    The modules are loaded already, so a process has one answer.
+    """
+    own = os.path.dirname(os.path.abspath(__file__))
+    paths = [os.path.join(own, name) for name in sorted(os.listdir(own)) if name.endswith(".py")]
+    files = []
+    for path in paths:
+        known = os.stat(path)
+        files.append(contents_of_disk(path, known.st_size, path, identity_of(known)))
+    return tuple(digest.hex() for digest in digests_of(files))
 
 
 class Cache:

@@ -48,13 +48,13 @@ def trim(folder: str, newest: str) -> None:
     """
     found: List[Tuple[float, int, str]] = []
     with suppress(OSError), os.scandir(folder) as entries:
-        for it in entries:
+        for entry in entries:
             with suppress(OSError):
-                known = it.stat(follow_symlinks=False)
-                if ENTRY.fullmatch(it.name) and it.name != newest:
-                    found.append((known.st_mtime, known.st_size, it.path))
-                elif ASIDE.fullmatch(it.name) and known.st_mtime < time.time() - OLD:
-                    os.unlink(it.path)
+                known = entry.stat(follow_symlinks=False)
+                if ENTRY.fullmatch(entry.name) and entry.name != newest:
+                    found.append((known.st_mtime, known.st_size, entry.path))
+                elif ASIDE.fullmatch(entry.name) and known.st_mtime < time.time() - OLD:
+                    os.unlink(entry.path)
     with suppress(OSError):
         room = LIMIT - os.path.getsize(os.path.join(folder, newest))
         for _, size, path in sorted(found, reverse=True):

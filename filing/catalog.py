@@ -62,7 +62,7 @@ class Catalogs:
         self.elements = Elements(MOST_ELEMENTS, MOST_ELEMENTS)
         for package in packages:
             self.take(package)
-        self.starts = sorted(it for it in self.rewrites if len(it) <= LONGEST_URL)
+        self.starts = sorted(start for start in self.rewrites if len(start) <= LONGEST_URL)
         self.shorter = shorter_starts(self.starts)
 
     def take(self, package: Package) -> None:
@@ -135,7 +135,7 @@ def name_in_package(path: str, url: str, package: Package) -> str:
 
     Refuse a path that leads outside of the package.
     """
-    segments = [it for it in decoded(path).split("/") if it]
+    segments = [segment for segment in decoded(path).split("/") if segment]
     if ".." in segments:
         raise wrong(package.shown(CATALOG), f"leads {url} outside of the package")
-    return "/".join(it for it in segments if it != ".")
+    return "/".join(segment for segment in segments if segment != ".")

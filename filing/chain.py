@@ -50,7 +50,7 @@ class Metadata:
     def texts(self, name: str) -> List[str]:
         """Return a list of texts of `documentInfo`; an empty one if it is absent."""
         value = self.info.get(name, [])
-        if not isinstance(value, list) or not all(isinstance(it, str) for it in value):
+        if not isinstance(value, list) or not all(isinstance(text, str) for text in value):
             raise wrong(self.label, f"'documentInfo.{name}' is not a list of texts")
         return value
 
@@ -90,7 +90,7 @@ def read_metadata(found: Found, values: Values) -> Metadata:
     metadata = Metadata(found, value)
     if metadata.part("links"):
         raise wrong(found.label, "has 'links', which cannot be carried over")
-    metadata.extends = [joined(found.place, it) for it in metadata.texts("extends")]
+    metadata.extends = [joined(found.place, reference) for reference in metadata.texts("extends")]
     return metadata
 
 
@@ -152,9 +152,9 @@ class Chain:
         metadata = read_metadata(found, self.values)
         key = found.place.known()
         self.files[key] = metadata
-        self.down[key] = [it.known() for it in metadata.extends]
-        for it in self.down[key]:
-            self.up.setdefault(it, []).append(key)
+        self.down[key] = [place.known() for place in metadata.extends]
+        for place in self.down[key]:
+            self.up.setdefault(place, []).append(key)
         way[key] = iter(metadata.extends)
         files[found.file] = key
 
@@ -175,4 +175,4 @@ class Chain:
             if key not in found:
                 found.add(key)
                 waiting += ways.get(key, ())
-        return [it for key, it in self.files.items() if key in found]
+        return [metadata for key, metadata in self.files.items() if key in found]

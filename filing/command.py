@@ -4,8 +4,10 @@ from __future__ import annotations
 
 import os
 import sys
+import time
 from contextlib import ExitStack, suppress
-from typing import Dict, List, Optional, Tuple
+from dataclasses import dataclass
+from typing import Dict, List, NamedTuple, Optional, Tuple
 
 from .batch import run_batch
 from .batch_words import is_of_many
@@ -14,12 +16,16 @@ from .cache_room import claimed
 from .catalog import CATALOG
 from .chain import Chain
 from .converter_lines import ConverterLines, for_terminal, put
+from .converter_program import require_counts, version_of
 from .every_fault import Converter, Search, Unread, fault_list
+from .filed import filed_of
 from .final import check_final
 from .finding import Finder, Found
 from .kept_module import Joined, ModuleCache
-from .kinds import MONETARY, REASONS, Kinds, kind_of, kinds_of
+from .kinds import REASONS, Kinds, kind_of, kinds_of
 from .lost_cells import refuse_lost_cells
+from .marked_output import asked_for, check_asked
+from .members import member_places, takes_unread, unread_prefixes
 from .metadata import check_parts, merge
 from .named import Places, names_of
 from .nested import open_taxonomy
@@ -27,17 +33,17 @@ from .origins import Origins
 from .outputs import claim_outputs, refuse_outputs
 from .packages import Package, open_package
 from .page_lines import KeptLines
-from .page_output import check_page
-from .page_run import ListPage, RunPage, write_refusal_page
+from .page_run import ListPage, write_refusal_page, write_run_page
 from .parameter_list import parameter_list
 from .parameters import check_parameters, check_references, require_parameters
 from .prefixes import Renaming, lost_prefixes
-from .prepared import META, TYPES, Files, move_into, write_files
+from .prepared import META, TYPES, Files, Written, move_into, write_files
 from .progress import Progress
 from .refusals import FILES, WRONG, Refusal, cannot_write, printable, wrong
 from .report import find_report, report_by_itself
 from .schemas import Reference, read_schemas
 from .refused_faults import record_refusal
+from .run_notes import RunNotes
 from .stopping import (
     Stopped,
     Stopping,
@@ -46,8 +52,15 @@ from .stopping import (
     temporary_folder,
     temporary_place,
 )
+from .summary import (
+    CONVERTED,
+    REFUSED,
+    Summary,
+    is_shown,
+    table_lines,
+    write_refusal_summary,
+)
 from .types_table import types_table
-from .units import unitless, warning
 from .words import HELP, Settings, asked, read_words
 
 NAME = "xbrl-filing"
@@ -55,12 +68,15 @@ DEBUG = "XBRL_FILING_DEBUG"  # 1 lets the traceback of a fault of this program t
 NO_MEMORY = "there is not enough memory"
 
 
-def main(words: List[str], program: str) -> int:
-    """Run the command, and return the status. `program` is the path of xbrl-json."""
+def main(words: List[str], program: str, taxonomy: Optional[List[Package]] = None) -> int:
+    """Run the command, and return the status. `program` is the path of xbrl-json.
+
+    A run over many reports opens the packages of the taxonomy once, and gives them.
+    """
     progress, stopping = Progress(), Stopping()
     try:
         stopping.heed()
-        status, line = attempt(words, program, progress, stopping)
+        status, line = attempt(words, program, progress, stopping, taxonomy)
         progress.clear()
         if line:
             tell(f"{NAME}: {printable(line)}")
@@ -73,7 +89,13 @@ def main(words: List[str], program: str) -> int:
         return 128 + stopped.number
 
 
-def attempt(words: List[str], program: str, progress: Progress, stopping: Stopping) -> Tuple[int, str]:
+def attempt(
+    words: List[str],
+    program: str,
+    progress: Progress,
+    stopping: Stopping,
+    taxonomy: Optional[List[Package]] = None,
+) -> Tuple[int, str]:
     """Return the status of a run, and the line that says why it ended early, if it did."""
     try:
         wanted = asked(words)
@@ -82,13 +104,15 @@ def attempt(words: List[str], program: str, progress: Progress, stopping: Stoppi
         if wanted is not None:
             return run_program([program, wanted], stopping), ""
         if is_of_many(words):
-            return run_batch(words, program, lambda it: main(it, program), progress, stopping), ""
-        settings = read_words(words)
+            convert = lambda given, opened: main(given, program, opened)  # noqa: E731
+            return run_batch(words, program, convert, progress, stopping), ""
+        settings, began = read_words(words), time.monotonic()
         try:
-            return run(settings, program, progress, stopping), ""
+            return run(settings, program, progress, stopping, taxonomy), ""
         except Refusal as refusal:
             record_refusal(settings, refusal)
             write_refusal_page(settings, refusal)
+            write_refusal_summary(settings, refusal, program, time.monotonic() - began)
             raise
     except Refusal as refusal:
         return refusal.status, refusal.line
@@ -126,46 +150,64 @@ def put_out(text: str) -> int:
     return 0
 
 
-def run(settings: Settings, program: str, progress: Progress, stopping: Stopping) -> int:
+@dataclass(frozen=True)
+class Run:
+    """What the steps of a run have in common."""
+
+    settings: Settings
+    program: str
+    progress: Progress
+    stopping: Stopping
+    began: float  # by the clock of time.monotonic
+    taxonomy: Optional[List[Package]]  # if it is open already
+
+
+def run(
+    settings: Settings,
+    program: str,
+    progress: Progress,
+    stopping: Stopping,
+    taxonomy: Optional[List[Package]] = None,
+) -> int:
     """Make the two plain files and run xbrl-json over them, or print parameters or faults.
 
     With `--prepare` the files go into its folder, else into a temporary one. Return the status.
     """
-    check_page(settings)
+    here = Run(settings, program, progress, stopping, time.monotonic(), taxonomy)
+    check_asked(settings)
+    if settings.summary is not None:
+        require_counts(program)
     if settings.types is not None:
         with temporary_folder(temporary_place(), f"{NAME}-", stopping) as folder:
             page = ListPage(settings, settings.report, {})
-            return tell_faults(settings.report, settings.types, folder, None, program, progress, stopping, page)
+            return tell_faults(here, settings.types, folder, None, page)
     open_packages = ExitStack()
     try:
-        return run_opened(settings, open_packages, program, progress, stopping)
+        return run_opened(here, open_packages)
     finally:
         with stopping.held():
             open_packages.close()
 
 
-def run_opened(
-    settings: Settings,
-    open_packages: ExitStack,
-    program: str,
-    progress: Progress,
-    stopping: Stopping,
-) -> int:
+def run_opened(here: Run, open_packages: ExitStack) -> int:
     """Run over packages, which `open_packages` closes later."""
-    report, packages = open_inputs(settings)
+    settings, progress, stopping = here.settings, here.progress, here.stopping
+    report, packages = open_inputs(settings, here.taxonomy)
     for package in packages:
-        open_packages.callback(package.close)
+        if package not in (here.taxonomy or ()):
+            open_packages.callback(package.close)
     refuse_outputs(settings, packages, None)
     with stopping.held():
         claim_outputs(settings, open_packages)
     place = None if settings.prepare is None else place_of(settings.prepare)
     if settings.parameters:
         return tell_parameters(report, packages, progress)
-    origins, files, types = join(report, packages, settings, progress)
+    joined = join(report, packages, settings, progress)
+    _, files, types = joined
     refuse_outputs(settings, packages, files)
     progress.say("preparing the tables")
     if place is None:
-        return convert(origins, files, types, settings, program, progress, stopping)
+        return convert(here, joined)
     parent, name = place
     with temporary_folder(parent, f".{name}-", stopping) as folder:
         write_files(folder, files, types, copy=True)
@@ -176,47 +218,91 @@ def run_opened(
     return 0
 
 
-def convert(origins: Origins, files: Files, types: bytes, settings: Settings, program: str, progress: Progress, stopping: Stopping) -> int:
+def convert(here: Run, joined: Joined) -> int:
     """Run xbrl-json over a temporary folder, and return its status.
 
     With `--progress` xbrl-json writes to standard error itself, unless `--explain` is given too.
     """
-    with temporary_folder(temporary_place(), f"{NAME}-", stopping) as folder:
-        page = RunPage(settings, folder)
-        lines = KeptLines(origins, folder, write_files(folder, files, types, copy=False), page.is_explained)
+    settings, (origins, files, types) = here.settings, joined
+    with temporary_folder(temporary_place(), f"{NAME}-", here.stopping) as folder:
+        notes = RunNotes(settings, folder, here.program)
+        written = write_files(folder, files, types, copy=False)
+        lines = KeptLines(origins, folder, written.names, notes.is_explained)
+        meta, table = os.path.join(folder, META), os.path.join(folder, TYPES)
         if settings.every_fault:
             below = os.path.join(folder, os.urandom(8).hex())
             os.mkdir(below)
-            listed = ListPage(settings, os.path.join(folder, META), lines.names)
-            return tell_faults(listed.meta, os.path.join(folder, TYPES), below, lines, program, progress, stopping, listed)
-        progress.clear()
-        words = [program, os.path.join(folder, META), "--types", os.path.join(folder, TYPES), *page.words, *settings.rest]
+            return tell_faults(here, table, below, lines, ListPage(settings, meta, lines.names))
+        here.progress.clear()
+        words = [here.program, meta, "--types", table, *notes.words]
         heard = "--explain" in words or "--progress" not in settings.rest
-        status = run_program(words, stopping, lines.hear if heard and (sys.stderr or page.words) else None)
+        hear = lines.hear if heard and (sys.stderr or any(asked_for(settings))) else None
+        began = time.monotonic()
+        status = run_program(words, here.stopping, hear)
+        converting = time.monotonic() - began
         more = lines.end()
         if more:
             tell(f"{NAME}: {printable(more)}")
-        if status == 0 and files.unitless:
-            tell(f"{NAME}: {printable(warning(files.unitless))}")
-        page.write(status, lines, files)
+        if any(asked_for(settings)) and status <= WRONG:
+            sum_up(here, Converted(status, converting, files, written, lines, notes))
         return status
 
 
-def tell_faults(meta: str, types: str, folder: str, lines: Optional[ConverterLines], program: str, progress: Progress, stopping: Stopping, page: ListPage) -> int:
+class Converted(NamedTuple):
+    """What there is of a run of xbrl-json that has ended with status 0 or 1."""
+
+    status: int
+    seconds: float
+    files: Files
+    written: Written
+    lines: KeptLines
+    notes: RunNotes
+
+
+def sum_up(here: Run, made: Converted) -> None:
+    """Write the page and the summary of a run that has ended, as far as they are asked for."""
+    settings = here.settings
+    faults = made.notes.read_faults()
+    counts = made.notes.read_counts(made.status)
+    filed = filed_of(made.files, made.written, counts)
+    if settings.page is not None:
+        write_run_page(settings, made.status, made.lines, made.written, faults, filed)
+    if settings.summary is None:
+        return
+    summary = Summary(
+        settings=settings,
+        outcome=REFUSED if made.status else CONVERTED,
+        version=version_of(here.program),
+        seconds=time.monotonic() - here.began,
+        converting=made.seconds,
+        faults=faults[1],
+        filed=filed,
+        files=made.files,
+    )
+    summary.write()
+    if counts is not None and is_shown():
+        for line in table_lines(filed):
+            tell(line)
+
+
+def tell_faults(
+    here: Run, types: str, folder: str, lines: Optional[ConverterLines], page: ListPage
+) -> int:
     """Print the faults of a report in plain form, and return status 1 if there are some.
 
     `folder` is empty, and is used to look for them. If xbrl-json cannot list faults, hand on its
     lines and return its status.
     """
-    search = Search(meta, folder, Converter(program, types, folder, stopping))
+    search = Search(page.meta, folder, Converter(here.program, types, folder, here.stopping))
     try:
-        faults = search.faults_of_report(progress.say)
+        faults = search.faults_of_report(here.progress.say)
     except Unread as unread:
-        progress.clear()
+        here.progress.clear()
         hand_on(unread.said, lines)
         return unread.status
-    progress.clear()
-    faults = [it._replace(place=lines.place(it.place)) if lines else it for it in faults]
+    here.progress.clear()
+    if lines is not None:
+        faults = [fault._replace(place=lines.place(fault.place)) for fault in faults]
     put_out(fault_list(faults))
     for table in filter(search.cut.get, search.faults):
         tell(f"{NAME}: table {printable(table)}: {search.cut[table]}")
@@ -244,19 +330,23 @@ def tell_parameters(report: Found, packages: List[Package], progress: Progress) 
     check_parts(chain)
     renaming = Renaming(lost_prefixes(chain), lambda name: False)
     merged = merge(chain, renaming)
-    files = Files(report, merged)
+    files = Files.of(report, merged)
     files.require_parameters()
     progress.clear()
     return put_out(parameter_list(Origins(merged, chain, renaming), files))
 
 
-def open_inputs(settings: Settings) -> Tuple[Found, List[Package]]:
-    """Return the report's own file, and all packages.
+def open_inputs(
+    settings: Settings, taxonomy: Optional[List[Package]] = None
+) -> Tuple[Found, List[Package]]:
+    """Return the report's own file, and all packages; those of the taxonomy may be open already.
 
     The packages are in the order in which their catalogs count.
     """
     package = open_package(settings.report, settings.limit)
-    packages = [it for label in settings.taxonomy for it in open_taxonomy(label, settings.limit)]
+    packages = list(taxonomy or ())
+    if taxonomy is None:
+        packages = [package for label in settings.taxonomy for package in open_taxonomy(label, settings.limit)]
     if package is None:
         return report_by_itself(settings.report), packages
     return find_report(package), [package, *packages]
@@ -301,14 +391,18 @@ def join_anew(
     check_final(chain, lost)
     namespaces = namespaces_of(chain)
     kinds = read_kinds(chain, finder, packages, settings, progress)
-    renaming = Renaming(lost, lambda name: kind_of(name, namespaces, kinds) == "explicit")
+
+    def kind(name: str) -> Optional[str]:
+        return kind_of(name, namespaces, kinds)
+
+    renaming = Renaming(lost, lambda name: kind(name) == "explicit")
     merged = merge(chain, renaming)
     origins = Origins(merged, chain, renaming)
     named = names_of(merged.value)
     if module is not None:
         module.keep(chain, merged, named, renaming, namespaces, kinds)
-    files = Files(report, merged)
-    files.leave_out_absent()
+    files = Files.of(report, merged).without_absent()
+    merged = files.merged
     named = named.used_by(merged.value.get("tableTemplates", {}))
     refuse_impossible_concepts(origins, named.concepts, namespaces, kinds)
     refuse_unknown_dimensions(origins, named.dimensions, namespaces, kinds)
@@ -317,15 +411,15 @@ def join_anew(
     check_parameters(merged, renaming, files)
     check_references(merged, files, named.references)
     require_parameters(merged, files)
-    refuse_lost_cells(merged, lost, files, lambda name: kind_of(name, namespaces, kinds))
-    found = unitless(merged.value, lambda name: kind_of(name, namespaces, kinds) == MONETARY)
-    files.unitless = [it for name in sorted(found) for it in found[name]]
-    return origins, files, types_table(kinds, namespaces.values())
+    refuse_lost_cells(merged, lost, files, kind)
+    places = member_places(merged.value, unread_prefixes(namespaces, kinds), kind)
+    with_members = not takes_unread(places, merged, files)
+    return origins, files, types_table(kinds, namespaces.values(), with_members)
 
 
 def namespaces_of(chain: Chain) -> Dict[str, str]:
     """Return the prefixes of all files. Leave values that are not texts to xbrl-json."""
-    return {prefix: uri for it in chain for prefix, uri in it.info_part("namespaces").items() if isinstance(uri, str)}
+    return {prefix: uri for metadata in chain for prefix, uri in metadata.info_part("namespaces").items() if isinstance(uri, str)}
 
 
 def read_kinds(chain: Chain, finder: Finder, packages: List[Package], settings: Settings, progress: Progress) -> Kinds:
@@ -333,13 +427,13 @@ def read_kinds(chain: Chain, finder: Finder, packages: List[Package], settings: 
 
     Keep them in the cache, unless a file of the report may be among the schemas.
     """
-    entries = [Reference(place, it.label, "taxonomy", "") for it in chain for _, place in it.taxonomy()]
-    own = any(it.place.local for it in entries) or (finder.report in packages and finder.report.has(CATALOG))
+    entries = [Reference(place, metadata.label, "taxonomy", "") for metadata in chain for _, place in metadata.taxonomy()]
+    own = any(entry.place.local for entry in entries) or (finder.report in packages and finder.report.has(CATALOG))
     if settings.cache is None or own:
         return kinds_of(read_schemas(entries, finder, progress))
     cache = Cache(settings.cache)
     progress.say("looking into the cache")
-    taxonomy, urls = [it for it in packages if it is not finder.report], list(dict.fromkeys(it.place.known().text for it in entries))
+    taxonomy, urls = [package for package in packages if package is not finder.report], list(dict.fromkeys(entry.place.known().text for entry in entries))
     key = key_of(taxonomy, urls)
     kinds = cache.load(key, namespaces_of(chain).values())
     if kinds is None:
@@ -396,7 +490,14 @@ def place_of(prepare: str) -> Tuple[str, str]:
 
 
 def umask() -> int:
-    """Return the mask of new files, which the system gives only in exchange for another."""
+    """Return the mask of new files.
+
+    Without `/proc` the system gives it only in exchange for another, which all threads then have.
+    """
+    with suppress(OSError, ValueError), open("/proc/self/status", "rb") as file:
+        for line in file:
+            if line.startswith(b"Umask:"):
+                return int(line.split()[1], 8)
     mask = os.umask(0o077)
     os.umask(mask)
     return mask

@@ -70,14 +70,14 @@ class ConverterLines:
     def renamed(self, text: str) -> str:
         """Return a text with the filing's names for the files of the folder."""
         before, *behind = text.split(self.folder)
-        return before + "".join(self.named(it) for it in behind)
+        return before + "".join(self.named(part) for part in behind)
 
     def named(self, rest: str) -> str:
         """Return what follows the folder's path in a line, with the file's name in the filing.
 
         The longest name that fits counts.
         """
-        name = max((it for it in self.names if rest.startswith(it)), key=len, default="")
+        name = max((name for name in self.names if rest.startswith(name)), key=len, default="")
         return self.names[name] + rest[len(name) :] if name else self.folder + rest
 
 
@@ -88,7 +88,7 @@ def for_terminal(said: bytes) -> bytes:
     """
     if not (sys.stderr and sys.stderr.isatty()):
         return said
-    return "\n".join(escaped(it) for it in said.decode("utf-8", "surrogateescape").split("\n")).encode("utf-8", "surrogateescape")
+    return "\n".join(escaped(line) for line in said.decode("utf-8", "surrogateescape").split("\n")).encode("utf-8", "surrogateescape")
 
 
 def put(text: bytes) -> None:

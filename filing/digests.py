@@ -7,23 +7,33 @@ from __future__ import annotations
 
 import hashlib
 import os
+import time
 from contextlib import suppress
 from itertools import count
 from threading import Thread
-from typing import Callable, List, NamedTuple, Sequence, Union
+from typing import Callable, Dict, List, NamedTuple, Optional, Sequence, Tuple, Union
 
 from .refusals import cannot_read
 
 BLOCK = 1 << 20
 MOST_THREADS = 8
+STEADY = 10.0  # seconds since the last change, after which the next one has another time
+Identity = Tuple[int, ...]
+
+# The digests of files that this run, or the one that started it, has read.
+known_digests: Dict[Identity, bytes] = {}
 
 
 class Contents(NamedTuple):
-    """A file to digest: what opens it, its size when it was looked at, and its name in lines."""
+    """A file to digest: what opens it, its size when it was looked at, and its name in lines.
+
+    Its identity tells it from all other content; a file that was changed of late has none.
+    """
 
     opened: Callable[[], int]
     size: int
     label: str
+    identity: Optional[Identity] = None
 
 
 def digest_of(text: Union[bytes, memoryview]) -> bytes:
@@ -31,15 +41,39 @@ def digest_of(text: Union[bytes, memoryview]) -> bytes:
     return hashlib.blake2b(text, digest_size=32).digest()
 
 
-def contents_of_disk(path: str, size: int, label: str) -> Contents:
-    return Contents(lambda: os.open(path, os.O_RDONLY | os.O_CLOEXEC), size, label)
+def contents_of_disk(
+    path: str, size: int, label: str, identity: Optional[Identity] = None
+) -> Contents:
+    return Contents(lambda: os.open(path, os.O_RDONLY | os.O_CLOEXEC), size, label, identity)
+
+
+def identity_of(known: os.stat_result) -> Optional[Identity]:
+    """Return what a file's content is known by; None if it was changed a moment ago.
+
+    The system sets the time of a change itself, but two changes within a moment have one time.
+    """
+    if not max(known.st_mtime, known.st_ctime) < time.time() - STEADY:
+        return None
+    return known.st_dev, known.st_ino, known.st_size, known.st_mtime_ns, known.st_ctime_ns
 
 
 def digests_of(files: Sequence[Contents]) -> List[bytes]:
     """Return the digest of each file: that of the digests of its blocks.
 
-    Refuse the first file that cannot be read.
+    A file that was digested before is not read again. Refuse the first one that cannot be read.
     """
+    new = [file for file in files if file.identity not in known_digests]
+    made = iter(new_digests(new))
+    found: List[bytes] = []
+    for file in files:
+        kept = known_digests.get(file.identity) if file.identity is not None else None
+        found.append(next(made) if kept is None else kept)
+    known_digests.update((file.identity, digest) for file, digest in zip(files, found) if file.identity is not None)
+    return found
+
+
+def new_digests(files: Sequence[Contents]) -> List[bytes]:
+    """Return the digest of each file, which is read for it."""
     blocks = Blocks(files)
     blocks.work_on_threads()
     digests: List[List[bytes]] = [[] for _ in files]
@@ -49,7 +83,7 @@ def digests_of(files: Sequence[Contents]) -> List[bytes]:
         if not isinstance(found, bytes):
             raise found or MemoryError
         digests[number].append(found)
-    return [digest_of(b"".join(it)) for it in digests]
+    return [digest_of(b"".join(blocks)) for blocks in digests]
 
 
 class Blocks:
@@ -61,7 +95,7 @@ class Blocks:
 
     def __init__(self, files: Sequence[Contents]) -> None:
         self.files = files
-        self.places = [(number, at) for number, it in enumerate(files) for at in range(0, it.size or 1, BLOCK)]
+        self.places = [(number, at) for number, file in enumerate(files) for at in range(0, file.size or 1, BLOCK)]
         self.found: List[Union[bytes, Exception, None]] = [None] * len(self.places)
         self.turns = count()
         self.stopped = False

@@ -18,7 +18,7 @@ from .table_copy import TableCopy
 # The most rows of a table whose faults are printed.
 MOST = 100
 # The faults of only one row, by their numbers in docs/FAULTS.md. All others end the table.
-OF_A_ROW = frozenset((*range(26, 41), 44))
+OF_A_ROW = frozenset((*range(26, 41), *range(44, 48)))
 META, PARAMETERS, FAULTS = "meta.json", "parameters.csv", "faults.csv"
 TOO_MANY = f"{MOST} rows have a fault, and more may have one: mend these first"
 READ_ONCE = "more rows may have a fault: a file of the report cannot be read a second time"
@@ -97,15 +97,15 @@ class Search:
 
         Call `say` each time before tables are read again.
         """
-        again = [it.table for it in self.converter.run(self.meta) if self.keep(it)]
+        again = [fault.table for fault in self.converter.run(self.meta) if self.keep(fault)]
         while again:
             say(f"reading the tables again: {sum(map(len, self.faults.values()))} faults so far")
             refused = self.converter.run(self.rest_of_report(again))
             # The copies are of another report than the first run read.
-            if any(it.table not in again for it in refused):
+            if any(fault.table not in again for fault in refused):
                 self.cut.update(dict.fromkeys(again, CHANGED))
                 break
-            left = [it.table for it in refused if self.keep(it)]
+            left = [fault.table for fault in refused if self.keep(fault)]
             for table in set(again).difference(left):
                 os.unlink(self.copies[table].path)
             again = left
@@ -171,7 +171,7 @@ class Search:
     def rest_of_report(self, tables: List[str]) -> str:
         """Write metadata that has only the copies of these tables, and return its path."""
         value = self.value or {}
-        copies = {it: {**value["tables"][it], "url": os.path.basename(self.copies[it].path)} for it in tables}
+        copies = {table: {**value["tables"][table], "url": os.path.basename(self.copies[table].path)} for table in tables}
         path = os.path.join(self.folder, META)
         fill(path, iter([json.dumps({**value, "tables": copies}).encode("ascii")]))
         return path

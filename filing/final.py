@@ -12,14 +12,14 @@ from .prefixes import Renaming
 from .refusals import wrong
 
 KEYS: Dict[str, Callable[[Metadata], Iterable[str]]] = {
-    "namespaces": lambda it: it.info_part("namespaces"),
-    "taxonomy": lambda it: [place.text for _, place in it.taxonomy()],
-    "tables": lambda it: it.part("tables"),
-    "tableTemplates": lambda it: it.part("tableTemplates"),
-    "dimensions": lambda it: it.part("dimensions"),
-    "parameters": lambda it: it.part("parameters"),
-    "parameterURL": lambda it: [it.value["parameterURL"]] if isinstance(it.value.get("parameterURL"), str) else [],
-    "decimals": lambda it: ["decimals"] if "decimals" in it.value else [],
+    "namespaces": lambda metadata: metadata.info_part("namespaces"),
+    "taxonomy": lambda metadata: [place.text for _, place in metadata.taxonomy()],
+    "tables": lambda metadata: metadata.part("tables"),
+    "tableTemplates": lambda metadata: metadata.part("tableTemplates"),
+    "dimensions": lambda metadata: metadata.part("dimensions"),
+    "parameters": lambda metadata: metadata.part("parameters"),
+    "parameterURL": lambda metadata: [metadata.value["parameterURL"]] if isinstance(metadata.value.get("parameterURL"), str) else [],
+    "decimals": lambda metadata: ["decimals"] if "decimals" in metadata.value else [],
 }
 
 
@@ -32,7 +32,7 @@ def check_final(chain: Chain, lost: Dict[str, str]) -> None:
     for metadata in chain:
         for part in final_parts(metadata):
             one: Callable[[str], str] = renaming.qname if part == "dimensions" else as_written
-            there = {one(key) for it in chain.below(metadata) for key in KEYS[part](it)}
+            there = {one(key) for lower in chain.below(metadata) for key in KEYS[part](lower)}
             for above in chain.above(metadata):
                 for key in KEYS[part](above):
                     if one(key) not in there:

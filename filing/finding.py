@@ -123,8 +123,8 @@ class Finder:
     def missing(self, place: Place, asker: str, how: str) -> Refusal:
         if place.local:
             return wrong(asker, f"there is no {self.report.shown(place.path())} ({how})")
-        without = "".join(without_catalog(it) for it in self.packages if it is not self.report and not it.has(CATALOG))
-        none = "" if any(it is not self.report for it in self.packages) else "; there is no --taxonomy"
+        without = "".join(without_catalog(package) for package in self.packages if package is not self.report and not package.has(CATALOG))
+        none = "" if any(package is not self.report for package in self.packages) else "; there is no --taxonomy"
         other = self.other_scheme(place)
         there = f"; one has {other.text}" if other and self.published(other) else ""
         there = there or self.in_other_capitals(place)
@@ -134,7 +134,7 @@ class Finder:
         """Return what a line adds if a file exists whose URL differs only in capitals."""
         for package, path in self.catalogs.entries_in_any_capitals(place):
             name = name_in_package(path, place.text, package)
-            alike = (it for it in package.files_below("") if it.lower() == name.lower())
+            alike = (file for file in package.files_below("") if file.lower() == name.lower())
             found = next(filter(package.has, alike), None)
             if found is not None:
                 return f"; {package.shown(found)} differs in capitals alone"
@@ -163,6 +163,6 @@ def without_catalog(package: Package) -> str:
     It may be a collection of packages: supervisors publish several in one ZIP.
     """
     files, folders = package.children("")
-    inside = [it for it in files if it.lower().endswith(".zip")] + [it for it in folders if package.has(f"{it}/{CATALOG}")]
+    inside = [file for file in files if file.lower().endswith(".zip")] + [folder for folder in folders if package.has(f"{folder}/{CATALOG}")]
     held = f", but packages, which --taxonomy takes one by one: {', '.join(inside)}" if inside else ""
     return f"; {package.label} has no {CATALOG}{held}"

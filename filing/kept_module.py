@@ -13,8 +13,9 @@ from __future__ import annotations
 
 import json
 import os
-from dataclasses import dataclass
-from typing import Any, Callable, Dict, Iterator, List, NamedTuple, Optional, Set, Tuple
+from contextlib import contextmanager, suppress
+from dataclasses import dataclass, field, replace
+from typing import Any, Callable, Dict, Iterator, List, Mapping, NamedTuple, Optional, Set, Tuple
 
 from .cache import key_of
 from .cache_room import store, used
@@ -23,9 +24,10 @@ from .chain import Chain, Metadata, read_metadata
 from .digests import digest_of
 from .final import final_parts
 from .finding import Found
-from .kinds import MONETARY, REASONS, Kinds, kind_of
+from .kinds import REASONS, Kinds, kind_of
 from .lost_cells import mention_lost
-from .metadata import Merged, Path, objects
+from .members import MemberPlaces, member_places, takes_unread, unread_prefixes
+from .metadata import Merged, Merging, Path, compact, objects
 from .named import Named, names_of, reference
 from .origins import Origins
 from .packages import Package
@@ -40,7 +42,6 @@ from .prepared import Files
 from .refusals import Refusal
 from .strict_json import Json, Object, Values
 from .types_table import types_table
-from .units import unitless
 
 # What a report must leave to its module, at its top and in `documentInfo`.
 OF_THE_MODULE = ("tableTemplates", "tables", "dimensions", "decimals", "links")
@@ -59,6 +60,14 @@ class Block(NamedTuple):
     digest: str
 
 
+class Source(NamedTuple):
+    """A part of the metadata, and the file that gives it: a package's number and a name there."""
+
+    path: List[str]
+    package: int
+    name: str
+
+
 @dataclass(frozen=True)
 class Module:
     """The index of an entry."""
@@ -67,28 +76,28 @@ class Module:
     final: List[str]  # the parts to which a report may add nothing
     faulty: List[str]  # templates that name what the taxonomy does not have
     lost: Dict[str, str]  # the prefixes that are replaced
-    unitless: Dict[str, List[str]]  # what `units.unitless` returns
+    members: MemberPlaces
     types: Block
     templates: Dict[str, Block]
+    sources: List[Source]  # of the module's parameters
 
 
+@dataclass(frozen=True)
 class KeptMerged(Merged):
     """The merged metadata of a report, whose templates are texts."""
 
-    def __init__(self) -> None:
-        super().__init__()
-        self.texts: Dict[str, bytes] = {}
+    texts: Mapping[str, bytes] = field(default_factory=dict)
 
     def text(self) -> bytes:
         """Return the bytes that the metadata would have if the templates were values."""
-        members = [b"%b:%b" % (compact(it), self.member(it)) for it in sorted(self.value)]
+        members = [b"%b:%b" % (compact(name), self.member(name)) for name in sorted(self.value)]
         return b"{" + b",".join(members) + b"}\n"
 
     def member(self, name: str) -> bytes:
         if name != "tableTemplates":
             return compact(self.value[name])
         templates = sorted(self.value[name])
-        return b"{" + b",".join(b"%b:%b" % (compact(it), self.texts[it]) for it in templates) + b"}"
+        return b"{" + b",".join(b"%b:%b" % (compact(name), self.texts[name]) for name in templates) + b"}"
 
 
 class KeptOrigins(Origins):
@@ -119,10 +128,12 @@ class KeptOrigins(Origins):
 class ModuleCache:
     """The entry of the module that a report extends, if it can have one."""
 
+    last_used = ""  # the path of the entry that was used last
+
     def __init__(self, folder: str, report: Found, packages: List[Package]) -> None:
         """Find the entry's key. It is None if the report says more than its module allows for."""
         self.report = report
-        self.packages = [it for it in packages if it is not report.package]
+        self.packages = [package for package in packages if package is not report.package]
         self.folder = folder
         self.own = read_metadata(report, Values())
         self.key: Optional[str] = None
@@ -131,58 +142,82 @@ class ModuleCache:
             self.key = key_of(self.packages, self.urls())
 
     def urls(self) -> List[str]:
-        return [it.known().text for it in self.own.extends]
+        return [place.known().text for place in self.own.extends]
 
     def path(self) -> str:
         return os.path.join(self.folder, f"{self.key}.module")
+
+    def note_used(self) -> None:
+        """Note which entry this process has used: the run that started it may then hold it."""
+        ModuleCache.last_used = self.path()
 
     def join(self, anew: Callable[[], Joined]) -> Optional[Joined]:
         """Return what `anew` would, from the entry; None if only `anew` can."""
         if self.key is None:
             return None
         try:
-            with open(self.path(), "rb") as file:
-                module = read_index(file.readline())
-                start = file.tell()
-                if any(it in module.final for it in OF_BOTH if it in self.own.value):
+            with entry_at(self.path()) as (module, text_of):
+                if any(part in module.final for part in OF_BOTH if part in self.own.value):
                     return None
-                merged = self.merged(module)
-                files = Files(self.report, merged)
-                files.leave_out_absent()
-                files.require_parameters()
-                files.refuse_unread()
-                check_parameters(merged, Renaming(module.lost, lambda _: False), files)
-                check_references(merged, files, names_of(merged.value).references)
-                require_parameters(merged, files)
-                if mention_lost(files, module.lost):
+                files = Files.of(self.report, self.merged(module)).without_absent()
+                if not self.is_taken(files, module):
                     return None
-                used_templates = merged.value.get("tableTemplates", {})
-                if set(used_templates) & set(module.faulty):
-                    return None
-                for name in used_templates:
-                    merged.texts[name] = read_block(file, start, module.templates[name])
-                types = read_block(file, start, module.types)
-                found = {name: module.unitless.get(name, []) for name in used_templates}
-                files.unitless = [it for name in sorted(found) for it in found[name]]
+                used_templates = files.merged.value.get("tableTemplates", {})
+                blocks = {name: module.templates[name] for name in used_templates}
+                texts = {name: text_of(block) for name, block in blocks.items()}
+                types = text_of(module.types)
         except (OSError, ValueError, LookupError, TypeError, RecursionError, Refusal):
             return None
         used(self.path())
-        return KeptOrigins(anew), files, types
+        self.note_used()
+        merged = KeptMerged(files.merged.value, files.merged.origins, texts)
+        return KeptOrigins(anew), replace(files, merged=merged), types
 
-    def merged(self, module: Module) -> KeptMerged:
+    def is_taken(self, files: Files, module: Module) -> bool:
+        """Return whether the entry serves a report with these files. Refuse what has a fault."""
+        files.require_parameters()
+        files.refuse_unread()
+        check_parameters(files.merged, Renaming(module.lost, lambda _: False), files)
+        check_references(files.merged, files, names_of(files.merged.value).references)
+        require_parameters(files.merged, files)
+        if mention_lost(files, module.lost) or takes_unread(module.members, files.merged, files):
+            return False
+        return not set(files.merged.value.get("tableTemplates", {})) & set(module.faulty)
+
+    def merged(self, module: Module) -> Merged:
         """Return the merged metadata of the report, with the sketches of templates."""
-        merged = KeptMerged()
+        labels: Dict[Path, str] = {}
+        for path, package, file in module.sources:
+            labels[tuple(path)] = self.packages[package].shown(file)
+        merging = Merging()
         for name, text in self.own.part("parameters").items():
-            merged.put(("parameters", name), text, "")
+            merging.put(("parameters", name), text, self.own.label)
         if "parameterURL" in self.own.value:
-            merged.put(("parameterURL",), self.own.value["parameterURL"], "")
+            merging.put(("parameterURL",), self.own.value["parameterURL"], self.own.label)
         for part, value in module.rest.items():
             if part == "parameters" and isinstance(value, dict):
                 for name, text in value.items():
-                    merged.put((part, name), text, "")
+                    merging.put((part, name), text, labels.get((part, name), ""))
             else:
-                merged.put((part,), value, "")
-        return merged
+                merging.put((part,), value, "")
+        return Merged(merging.value, {**labels, **merging.origins})
+
+    def sources(self, merged: Merged, module_files: List[Metadata]) -> List[Source]:
+        """Return the files that give the module's parameters, at its top and in its tables."""
+        places = {metadata.label: metadata.found for metadata in module_files}
+        paths: Dict[Path, Found] = {}
+        for metadata in module_files:
+            for name in metadata.part("parameters"):
+                paths.setdefault(("parameters", name), metadata.found)
+        for table, owner in objects(merged.value, "tables"):
+            parameters = owner.get("parameters")
+            for name in parameters if isinstance(parameters, dict) else ():
+                path = ("tables", table, "parameters", name)
+                paths[path] = places[merged.origin(path)]
+        return [
+            Source(list(path), self.packages.index(found.package), found.name)
+            for path, found in paths.items()
+        ]
 
     def keep(
         self,
@@ -201,9 +236,11 @@ class ModuleCache:
         if faulty is None or not isinstance(merged.value.get("tableTemplates", {}), dict):
             return
         module_files = list(chain)[1:]
+        if any(metadata.found.package not in self.packages for metadata in module_files):
+            return
 
-        def is_monetary(name: str) -> bool:
-            return kind_of(name, namespaces, kinds) == MONETARY
+        def kind(name: str) -> Optional[str]:
+            return kind_of(name, namespaces, kinds)
 
         blocks: List[bytes] = []
         place = 0
@@ -217,23 +254,25 @@ class ModuleCache:
         templates = merged.value.get("tableTemplates", {})
         index = {
             "rest": self.rest(merged, module_files),
-            "final": sorted({part for it in module_files for part in final_parts(it)}),
+            "final": sorted({part for metadata in module_files for part in final_parts(metadata)}),
             "faulty": sorted(faulty),
             "lost": renaming.lost,
-            "unitless": unitless(merged.value, is_monetary),
-            "types": block(types_table(kinds, namespaces.values())),
-            "templates": {name: block(compact(it)) for name, it in templates.items()},
+            "members": member_places(merged.value, unread_prefixes(namespaces, kinds), kind),
+            "types": block(types_table(kinds, namespaces.values(), with_members=True)),
+            "templates": {name: block(compact(template)) for name, template in templates.items()},
+            "sources": self.sources(merged, module_files),
         }
         head = json.dumps(index).encode()
         if key_of(self.packages, self.urls()) == self.key:  # else it was changed while it was read
             store(self.path(), [digest_of(head).hex().encode(), b" ", head, b"\n", *blocks])
+            self.note_used()
 
     def rest(self, merged: Merged, module_files: List[Metadata]) -> Object:
         """Return the metadata without what the report gave, and with sketches of templates."""
-        rest = {name: it for name, it in merged.value.items() if name not in OF_BOTH}
+        rest = {name: value for name, value in merged.value.items() if name not in OF_BOTH}
         if "tableTemplates" in rest:
             templates = rest["tableTemplates"]
-            rest["tableTemplates"] = {name: sketch(it) for name, it in templates.items()}
+            rest["tableTemplates"] = {name: sketch(template) for name, template in templates.items()}
         for metadata in module_files:
             for name, text in metadata.part("parameters").items():
                 rest.setdefault("parameters", {}).setdefault(name, text)
@@ -244,9 +283,9 @@ class ModuleCache:
 
 def is_plain_report(own: Metadata) -> bool:
     """Return whether a report leaves all but its parameters to the module that it extends."""
-    leaves = not any(it in own.value for it in OF_THE_MODULE)
-    leaves = leaves and not any(it in own.info for it in INFO_OF_THE_MODULE)
-    return leaves and bool(own.extends) and not any(it.local for it in own.extends)
+    leaves = not any(part in own.value for part in OF_THE_MODULE)
+    leaves = leaves and not any(part in own.info for part in INFO_OF_THE_MODULE)
+    return leaves and bool(own.extends) and not any(place.local for place in own.extends)
 
 
 def faulty_templates(
@@ -260,11 +299,11 @@ def faulty_templates(
     def kind(name: str) -> Optional[str]:
         return kind_of(name, namespaces, kinds)
 
-    found = {template for it, template in named.concepts if REASONS.get(kind(it) or "")}
+    found = {template for concept, template in named.concepts if REASONS.get(kind(concept) or "")}
     if has_taxonomy:
         known = ("explicit", "typed")
-        found |= {template for it, template in named.dimensions if kind(it) not in known}
-    return None if None in found else {it for it in found if it is not None}
+        found |= {template for dimension, template in named.dimensions if kind(dimension) not in known}
+    return None if None in found else {template for template in found if template is not None}
 
 
 def sketch(template: Json) -> Json:
@@ -276,7 +315,7 @@ def sketch(template: Json) -> Json:
         columns = template["columns"]
         made["columns"] = columns
         if isinstance(columns, dict):
-            made["columns"] = {name: sketch_of_column(it) for name, it in columns.items()}
+            made["columns"] = {name: sketch_of_column(column) for name, column in columns.items()}
     return made
 
 
@@ -289,9 +328,9 @@ def sketch_of_column(column: Json) -> Json:
     if "propertyGroups" in column:
         groups: Dict[str, Json] = {}
         for _, group in objects(column, "propertyGroups"):
-            it = level(group)
-            groups.setdefault(json.dumps(it, sort_keys=True), it)
-        made["propertyGroups"] = {str(at): it for at, it in enumerate(groups.values())}
+            kept = level(group)
+            groups.setdefault(json.dumps(kept, sort_keys=True), kept)
+        made["propertyGroups"] = {str(at): level for at, level in enumerate(groups.values())}
     return made
 
 
@@ -314,10 +353,44 @@ def looked_at(dimensions: Object) -> Iterator[Tuple[str, Json]]:
             yield key, text
 
 
-def compact(value: Json) -> bytes:
-    """Return a value's bytes as those of the merged metadata are written."""
-    text = json.dumps(value, ensure_ascii=False, sort_keys=True, separators=(",", ":"))
-    return text.encode()
+class HeldEntry(NamedTuple):
+    """An entry that is in memory."""
+
+    module: Module
+    texts: Dict[Block, bytes]
+
+
+# By their paths: the entries that the run which started this process has read for all reports.
+held: Dict[str, HeldEntry] = {}
+MOST_HELD = 32 << 20  # bytes of an entry
+
+
+def hold(path: str) -> None:
+    """Read an entry into memory, unless it is large, not whole, or held already."""
+    if path in held:
+        return
+    with suppress(OSError, ValueError, LookupError, TypeError, RecursionError, MemoryError):
+        with open(path, "rb") as file:
+            if os.fstat(file.fileno()).st_size > MOST_HELD:
+                return
+            module = read_index(file.readline())
+            start = file.tell()
+            blocks = [module.types, *module.templates.values()]
+            texts = {block: read_block(file, start, block) for block in blocks}
+        held.clear()  # the reports of a run are mostly of one module
+        held[path] = HeldEntry(module, texts)
+
+
+@contextmanager
+def entry_at(path: str) -> Iterator[Tuple[Module, Callable[[Block], bytes]]]:
+    """Open an entry, and give its index and what returns the text of a block."""
+    if path in held:
+        yield held[path].module, held[path].texts.__getitem__
+        return
+    with open(path, "rb") as file:
+        module = read_index(file.readline())
+        start = file.tell()
+        yield module, lambda block: read_block(file, start, block)
 
 
 def read_index(line: bytes) -> Module:
@@ -326,8 +399,10 @@ def read_index(line: bytes) -> Module:
     if digest_of(head).hex() != digest.decode():
         raise ValueError("the index is not whole")
     index: Dict[str, Any] = json.loads(head)
+    index["members"] = MemberPlaces(*index["members"])
     index["types"] = Block(*index["types"])
-    index["templates"] = {name: Block(*it) for name, it in index["templates"].items()}
+    index["templates"] = {name: Block(*block) for name, block in index["templates"].items()}
+    index["sources"] = [Source(*source) for source in index["sources"]]
     return Module(**index)
 
 

@@ -1,14 +1,15 @@
-"""The kind of each concept and dimension.
+"""The kind of each concept, dimension and member.
 
 Substitution groups and types are followed to what the standards name.
 """
 
 from __future__ import annotations
 
-from typing import Callable, Dict, Optional, Set, TypeVar
+from typing import Callable, Dict, Optional, Set, Tuple, TypeVar
 
-from .markup import Name
-from .schemas import Declared, Element
+from .markup import LONGEST_URL, Name
+from .schemas import XS, Declared, Element
+from .urls import Place, decoded, joined
 
 XBRLI = "http://www.xbrl.org/2003/instance"
 XBRLDT = "http://xbrl.org/2005/xbrldt"
@@ -17,7 +18,8 @@ NUMERIC_REGISTRY = REGISTRY + "numeric"
 
 # What no fact can have, though metadata may name it: a refusal has the words of `REASONS`.
 TUPLE, FRACTION, UNKNOWN = "!tuple", "!fraction", "!unknown"
-MONETARY = "monetary"  # a kind of its own here, because its facts need a unit
+MEMBER = "member,,"  # an item that no fact can have: dimensions and enumerations may have it
+MOST_DOMAIN_FILES = 1000  # in which values of typed dimensions are looked up; modules have a few
 REASONS = {
     TUPLE: "is a tuple, which no table can have",
     FRACTION: "is a fraction, which xBRL-JSON cannot have",
@@ -33,21 +35,37 @@ def item_types(word: str, names: str) -> Dict[str, str]:
     return {f"{name}ItemType": word for name in names.split()}
 
 
+# The types of XML Schema that the types table has a word for.
+SIMPLE_TYPES = {
+    **{
+        name: name
+        for name in (
+            *("decimal", "integer", "nonPositiveInteger", "negativeInteger", "nonNegativeInteger"),
+            *("positiveInteger", "long", "int", "short", "byte"),
+            *("unsignedLong", "unsignedInt", "unsignedShort", "unsignedByte"),
+            *("double", "boolean", "date", "dateTime", "time", "duration"),
+            *("gYear", "gYearMonth", "gMonth", "gMonthDay", "gDay"),
+            *("language", "NCName", "hexBinary"),
+        )
+    },
+    "float": "double",
+    "QName": "qname",
+}
+
 # XBRL 2.1, section 5.1.1.3.
 INSTANCE_TYPES = {
-    **item_types("decimal", "decimal shares pure"),
-    **item_types(MONETARY, "monetary"),
-    **item_types("integer", "integer nonPositiveInteger negativeInteger nonNegativeInteger positiveInteger long int short byte"),
-    **item_types("integer", "unsignedLong unsignedInt unsignedShort unsignedByte"),
-    **item_types("double", "float double"),
+    **{f"{name}ItemType": word for name, word in SIMPLE_TYPES.items()},
+    **item_types("decimal", "pure"),
+    **item_types("monetary", "monetary"),
+    **item_types("shares", "shares"),
     **item_types("text", "string normalizedString token"),
-    **item_types("boolean", "boolean"),
-    **item_types("date", "date"),
-    **item_types("qname", "QName"),
-    **item_types("other", "language Name NCName anyURI hexBinary base64Binary duration dateTime time"),
-    **item_types("other", "gYear gYearMonth gMonth gMonthDay gDay"),
+    **item_types("other", "Name anyURI base64Binary"),
     **item_types(FRACTION, "fraction"),
 }
+
+# XML Schema, part 2, section 3.3, and XBRL 2.1, section 5.1.1.3: other types of typed domains.
+NAMES = dict.fromkeys(("ID", "IDREF", "ENTITY"), "NCName")
+INSTANCE_DECIMALS = ("decimal", "monetary", "shares", "pure", "nonZeroDecimal")
 
 # The Data Type Registry: names of its undated and dated namespaces.
 REGISTRY_TYPES = {
@@ -55,7 +73,7 @@ REGISTRY_TYPES = {
     **item_types("text", "textBlock escaped xml xmlNodes"),
     **item_types("decimal", "percent perShare area volume mass weight energy power length memory force frequency pressure temperature"),
     **item_types("decimal", "voltage electricCurrent electricCharge planeAngle ghgEmissions insolation irradiance speed flow massFlow"),
-    **item_types(MONETARY, "noDecimalsMonetary nonNegativeMonetary nonNegativeNoDecimalsMonetary"),
+    **item_types("monetary", "noDecimalsMonetary nonNegativeMonetary nonNegativeNoDecimalsMonetary"),
     **item_types("decimal", "monetaryPerLength monetaryPerArea"),
     **item_types("decimal", "monetaryPerVolume monetaryPerDuration monetaryPerEnergy monetaryPerMass energyPerMonetary"),
     **item_types("decimal", "ghgEmissionsPerMonetary volumePerMonetary perUnit"),
@@ -63,20 +81,31 @@ REGISTRY_TYPES = {
 
 # Extensible Enumerations 1.0, 1.1 and 2.0.
 ENUMERATIONS = {
-    ("http://xbrl.org/2014/extensible-enumerations", "enumerationItemType"): "qname",
-    ("http://xbrl.org/PWD/2016-10-12/extensible-enumerations-1.1", "enumerationItemType"): "qname",
+    ("http://xbrl.org/2014/extensible-enumerations", "enumerationItemType"): "enumeration",
+    ("http://xbrl.org/PWD/2016-10-12/extensible-enumerations-1.1", "enumerationItemType"): "enumeration",
     ("http://xbrl.org/PWD/2016-10-12/extensible-enumerations-1.1", "enumerationsItemType"): "other",
-    ("http://xbrl.org/2020/extensible-enumerations-2.0", "enumerationItemType"): "qname",
-    ("http://xbrl.org/2020/extensible-enumerations-2.0", "enumerationSetItemType"): "other",
+    ("http://xbrl.org/2020/extensible-enumerations-2.0", "enumerationItemType"): "enumeration",
+    ("http://xbrl.org/2020/extensible-enumerations-2.0", "enumerationSetItemType"): "enumerations",
 }
 
-# A word of the types table, MONETARY, or one of `REASONS`, by namespace and name.
+# The last three cells of a record of the types table, or one of `REASONS`, by namespace and name.
+# A namespace that has a schema is there, even if it has no such element.
 Kinds = Dict[str, Dict[str, str]]
 
 
-def table_word(kind: str) -> Optional[str]:
-    """Return the word of the types table for a kind; None for what no fact can have."""
-    return None if kind.startswith("!") else "decimal" if kind == MONETARY else kind
+def cells_of_kind(kind: str) -> Optional[str]:
+    """Return the last three cells of a record of the types table; None if there is no record.
+
+    An item that no fact can have may still be a member (Dimensions 1.0, section 2.5.3).
+    """
+    if kind == TUPLE:
+        return None
+    return MEMBER if kind.startswith("!") else kind
+
+
+def word_of(kind: str) -> str:
+    """Return the word of a kind, or the one of `REASONS` that it is."""
+    return kind.partition(",")[0]
 
 
 def known_word(name: Name) -> Optional[str]:
@@ -87,6 +116,16 @@ def known_word(name: Name) -> Optional[str]:
     if namespace.startswith(REGISTRY):
         return REGISTRY_TYPES.get(local) or ("decimal" if namespace == NUMERIC_REGISTRY else None)
     return ENUMERATIONS.get(name)
+
+
+def simple_word(name: Name) -> Optional[str]:
+    """Return the word of a simple type that the standards name; `other` if it has none."""
+    namespace, local = name
+    if namespace == XS.rstrip():
+        return SIMPLE_TYPES.get(local) or NAMES.get(local, "other")
+    if namespace == XBRLI:
+        return "decimal" if local in INSTANCE_DECIMALS else "other"
+    return None
 
 
 Known = TypeVar("Known")
@@ -108,7 +147,7 @@ def followed(
             break
         way.add(at)
         at = above(at)
-    kept.update((it, end or none) for it in way)
+    kept.update((name, end or none) for name in way)
     return end or none
 
 
@@ -123,6 +162,8 @@ class Chains:
         self.heads: Dict[Name, Name] = {}
         self.types: Dict[Name, Name] = {}
         self.words: Dict[Name, str] = {}
+        self.simple: Dict[Name, str] = {}
+        self.places: Dict[Tuple[Place, str], Place] = {}
         self.kinds: Dict[Element, Optional[str]] = {}
 
     def element(self, name: Name) -> Optional[Element]:
@@ -142,7 +183,7 @@ class Chains:
 
     def known_head(self, start: Optional[Name]) -> Name:
         """Return the head that the standards name, at the end of a chain of substitution groups."""
-        return followed(start, self.heads, lambda it: it if it in HEADS else None, self.head_of, NOWHERE)
+        return followed(start, self.heads, lambda name: name if name in HEADS else None, self.head_of, NOWHERE)
 
     def type_of(self, element: Element) -> Name:
         """Return an element's own type, else that of the head of its substitution group.
@@ -155,8 +196,27 @@ class Chains:
         """Return the word of a type: that of the first known type it is derived from."""
         return followed(start, self.words, known_word, self.declared.types.get, UNKNOWN)
 
+    def simple_base(self, name: Name) -> Optional[Name]:
+        """Return the base of a simple type, if the name is that of one."""
+        return None if name in self.declared.complex else self.declared.types.get(name)
+
+    def values(self, base: Place, reference: str) -> str:
+        """Return the word of the values of a typed dimension; empty if any text is one.
+
+        It is that of the type of the element to which the dimension refers, if the type is simple.
+        """
+        url, _, identifier = reference.partition("#")
+        place = self.places.get((base, url))
+        if place is None:
+            if len(url) > LONGEST_URL or len(self.places) == MOST_DOMAIN_FILES:
+                return ""
+            place = self.places[base, url] = joined(base, url).known()
+        start = self.declared.domains.get(place, {}).get(decoded(identifier))
+        word = followed(start, self.simple, simple_word, self.simple_base, "other")
+        return "" if word == "other" else word
+
     def kind(self, element: Element) -> Optional[str]:
-        """Return what an element is; None if no fact can have it.
+        """Return what an element is; None if no fact can have it, and no dimension as a member.
 
         See Dimensions 1.0, section 2, and XBRL 2.1, section 5.1.1.
         """
@@ -167,12 +227,15 @@ class Chains:
     def found_kind(self, element: Element) -> Optional[str]:
         head = self.known_head(element.head)
         if head == DIMENSION:
-            return "typed" if element.typed else "explicit"
+            return f"typed,,{self.values(*element.domain)}" if element.domain else "explicit,,"
         if head == TUPLES:
             return TUPLE
-        if head != ITEM or element.abstract:
+        if head != ITEM:
             return None
-        return self.word(self.type_of(element))
+        if element.abstract:
+            return MEMBER
+        word = self.word(self.type_of(element))
+        return word if word in REASONS else f"{word},{element.period},"
 
 
 def kinds_of(declared: Declared) -> Kinds:
@@ -180,13 +243,12 @@ def kinds_of(declared: Declared) -> Kinds:
     chains = Chains(declared)
     found: Kinds = {}
     for namespace, elements in declared.elements.items():
-        kinds = {name: kind for name, kind in ((it, chains.kind(element)) for it, element in elements.items()) if kind}
-        if kinds:
-            found[namespace] = kinds
+        found[namespace] = {name: kind for name, kind in ((name, chains.kind(element)) for name, element in elements.items()) if kind}
     return found
 
 
 def kind_of(name: str, namespaces: Dict[str, str], kinds: Kinds) -> Optional[str]:
-    """Return the kind of a QName of the metadata, or None."""
+    """Return the word of a QName of the metadata, or the one of `REASONS` that it is, or None."""
     prefix, _, local = name.partition(":")
-    return kinds.get(namespaces.get(prefix, ""), {}).get(local)
+    kind = kinds.get(namespaces.get(prefix, ""), {}).get(local)
+    return None if kind is None else word_of(kind)

@@ -3,13 +3,13 @@
 from __future__ import annotations
 
 from contextlib import ExitStack
-from typing import Dict, List, Optional, Sequence
+from typing import Dict, Optional, Sequence
 
 from .command import run
 from .finding import Finder
-from .kinds import kinds_of, table_word
-from .nested import open_taxonomy
-from .packages import Beside, Package
+from .kinds import cells_of_kind, kinds_of, word_of
+from .nested import open_taxonomies
+from .packages import Beside
 from .progress import Progress
 from .schemas import Reference, read_schemas
 from .stopping import Stopping
@@ -26,34 +26,28 @@ def prepare(
     Raise `refusals.Refusal` if the report, a package or the folder is refused: its `status` says
     whose fault it is, its `line` why.
     """
-    settings = Settings()
-    settings.report, settings.taxonomy = report, list(packages)
-    settings.prepare, settings.cache = folder, cache
+    settings = Settings(report, tuple(packages), prepare=folder, cache=cache)
     run(settings, "", silent(), Stopping())
 
 
 def kinds(packages: Sequence[str], entries: Sequence[str]) -> Dict[str, Dict[str, str]]:
-    """Return the word of each concept and dimension that entry points reach.
+    """Return the word of each concept, dimension and member that entry points reach.
 
     The answer is by namespace and name, and has the same words as a types table. Raise
     `refusals.Refusal` as `prepare` does.
     """
     with ExitStack() as opened:
-        taxonomy: List[Package] = []
-        for label in packages:
-            for package in open_taxonomy(label, DEFAULT_LIMIT):
-                opened.callback(package.close)
-                taxonomy.append(package)
+        taxonomy = open_taxonomies(packages, DEFAULT_LIMIT, opened)
         finder = Finder(Beside("entry points"), taxonomy)
-        asked = [Reference(Place(it), "entry points", "entry", "") for it in entries]
+        asked = [Reference(Place(entry), "entry points", "entry", "") for entry in entries]
         found = kinds_of(read_schemas(asked, finder, silent()))
-    return {namespace: words_of(kinds) for namespace, kinds in found.items()}
+    return {namespace: words_of(kinds) for namespace, kinds in found.items() if kinds}
 
 
 def words_of(kinds: Dict[str, str]) -> Dict[str, str]:
     """Return the words of the types table for the kinds that have one."""
-    words = ((name, table_word(kind)) for name, kind in kinds.items())
-    return {name: word for name, word in words if word is not None}
+    cells = ((name, cells_of_kind(kind)) for name, kind in kinds.items())
+    return {name: word_of(kind) for name, kind in cells if kind is not None}
 
 
 def silent() -> Progress:

@@ -7,22 +7,19 @@ only if a prefix is replaced and a table has it at all.
 
 from __future__ import annotations
 
-import csv
-import io
-import os
 import re
 from itertools import chain
-from typing import Callable, Dict, Iterable, Iterator, List, Optional, Set, Tuple
+from typing import Callable, Collection, Dict, Iterable, Iterator, List, Optional, Set
 
 from .metadata import Merged, objects
 from .named import reference
-from .packages import LARGEST_TEXT
 from .prepared import Files
 from .refusals import wrong
 from .strict_json import Json, Object
+from .table_cells import cells_of, pieces_of
 
 KindOf = Callable[[str], Optional[str]]  # the kind of a name of the metadata
-Cell = Tuple[int, str, str]  # a row, a column and a text
+FEW = 16  # prefixes that are faster to look for one by one
 
 
 def refuse_lost_cells(merged: Merged, lost: Dict[str, str], files: Files, kind_of: KindOf) -> None:
@@ -49,62 +46,21 @@ def refuse_lost_cells(merged: Merged, lost: Dict[str, str], files: Files, kind_o
 
 def mention_lost(files: Files, lost: Dict[str, str]) -> bool:
     """Return whether any table has the text of a replaced prefix."""
-    return bool(lost) and any(mentions(files, it, lost) for it in sorted(files.tables))
+    return bool(lost) and any(mentions(files, url, lost) for url in sorted(files.tables))
 
 
-def mentions(files: Files, url: str, lost: Dict[str, str]) -> bool:
-    """Return whether a table has the text of a replaced prefix. A pipe is left to xbrl-json."""
-    longest = max(len(it.encode()) for it in lost)
-    sought = re.compile(b"|".join(re.escape(f"{it}:".encode()) for it in lost))
+def mentions(files: Files, url: str, prefixes: Collection[str]) -> bool:
+    """Return whether a table has the text of one of these prefixes."""
+    longest = max(len(prefix.encode()) for prefix in prefixes)
+    sought = [f"{prefix}:".encode() for prefix in prefixes]
+    many = re.compile(b"|".join(map(re.escape, sought))) if len(sought) > FEW else None
     end = b""
     for piece in pieces_of(files, url):
-        if sought.search(end + piece):
+        text = end + piece
+        if many.search(text) if many else any(it in text for it in sought):
             return True
         end = (end + piece)[-longest:]
     return False
-
-
-def pieces_of(files: Files, url: str) -> Iterator[bytes]:
-    """Yield the bytes of a table that is a regular file."""
-    name = files.name(url)
-    if files.package.has(name):
-        path = files.package.path_on_disk(name)
-        if path is None or os.path.isfile(path):
-            yield from files.package.pieces(name)
-
-
-class Pieces(io.RawIOBase):
-    """A file that is read from pieces of bytes."""
-
-    def __init__(self, pieces: Iterator[bytes]) -> None:
-        super().__init__()
-        self.pieces, self.left = pieces, b""
-
-    def readable(self) -> bool:
-        """Return that it can be read."""
-        return True
-
-    def readinto(self, into: memoryview) -> int:  # type: ignore[override]
-        """Fill a part of `into`, and return how much of it."""
-        self.left = self.left or next(self.pieces, b"")
-        size = min(len(into), len(self.left))
-        into[:size] = self.left[:size]
-        self.left = self.left[size:]
-        return size
-
-
-def cells_of(files: Files, url: str, columns: Set[str]) -> Iterator[Cell]:
-    """Yield the cells of some columns of a table. What is wrong with it is left to xbrl-json."""
-    csv.field_size_limit(LARGEST_TEXT)
-    file = io.BufferedReader(Pieces(pieces_of(files, url)))
-    rows = csv.reader(io.TextIOWrapper(file, "utf-8-sig", "replace", newline=""))
-    try:
-        header: List[str] = next(rows, [])
-        places = [(at, name) for at, name in enumerate(header) if name in columns]
-        for number, row in enumerate(filter(None, rows), 1):
-            yield from ((number, name, row[at]) for at, name in places if at < len(row))
-    except csv.Error:
-        return
 
 
 def columns_of_texts(template: Object, report: Object, kind_of: KindOf) -> Set[str]:
@@ -116,8 +72,8 @@ def columns_of_texts(template: Object, report: Object, kind_of: KindOf) -> Set[s
         if "dimensions" not in column:
             continue
         levels = [dimensions_of(column), *groups_of(column, columns), *outer]
-        concepts = [it["concept"] for it in levels if "concept" in it]
-        if any(may_name(it, kind_of) for it in concepts):
+        concepts = [level["concept"] for level in levels if "concept" in level]
+        if any(may_name(concept, kind_of) for concept in concepts):
             found.add(name)
         found.update(typed_columns(levels, kind_of))
     return found
@@ -131,8 +87,8 @@ def dimensions_of(level: Object) -> Object:
 def groups_of(column: Object, columns: Dict[str, Object]) -> List[Object]:
     """Return the dimensions of the property groups that a column takes."""
     places = column.get("propertiesFrom")
-    givers = [it for it in places if isinstance(it, str)] if isinstance(places, list) else []
-    groups = chain.from_iterable(objects(columns.get(it, {}), "propertyGroups") for it in givers)
+    givers = [place for place in places if isinstance(place, str)] if isinstance(places, list) else []
+    groups = chain.from_iterable(objects(columns.get(giver, {}), "propertyGroups") for giver in givers)
     return [dimensions_of(group) for _, group in groups]
 
 

@@ -17,7 +17,7 @@ MOST_BASES = 100
 DEEPEST = 1000  # elements around one; schemas of supervisors have 20 at most
 LARGEST_TOKEN = 16 << 20  # of a tag, a comment or an instruction, which expat holds as a whole
 MOST_ELEMENTS = 10_000_000  # of the XML of a run; a module of 200 MB has 1.3 million
-FREE_ELEMENTS = 250_000  # of a run, which may be of any length
+FREE_ELEMENTS = 100_000  # of a run, which may be of any length
 A_REFERENCE = 10  # elements that take as long as a reference which is followed, or a base
 SHORTEST = 16  # bytes of each further element on average; those of modules have 130 to 150
 NO_MEMORY = expat.errors.codes[expat.errors.XML_ERROR_NO_MEMORY]
@@ -31,8 +31,8 @@ TAKEN: Dict[str, Optional[str]] = {
     **dict.fromkeys(
         [
             *("utf-32", "utf-16-be", "utf-16-le", "utf-32-be", "utf-32-le"),
-            *(f"iso8859-{it}" for it in (*range(2, 12), *range(13, 17))),
-            *(f"cp{it}" for it in range(1250, 1259)),
+            *(f"iso8859-{number}" for number in (*range(2, 12), *range(13, 17))),
+            *(f"cp{number}" for number in range(1250, 1259)),
             *("cp037", "cp273", "cp437", "cp500", "cp850", "cp852", "cp858", "cp866", "cp1140"),
             *("cp874", "tis-620", "koi8-r", "koi8-u", "mac-roman"),
             *("shift_jis", "cp932", "euc_jp", "iso2022_jp", "gb2312", "gbk", "gb18030"),
@@ -106,8 +106,8 @@ class Content:
         self.parser = None
 
     def elements(self) -> int:
-        """Return how many elements have come. A prefix that one declares counts as another."""
-        return self.started + self.declarations // 2
+        """Return how many elements have come. A prefix that one declares counts as two more."""
+        return self.started + self.declarations
 
     def start(self, name: str, attributes: Dict[str, str]) -> None:
         raise NotImplementedError

@@ -6,7 +6,8 @@ It has only the members that the converter reads.
 from __future__ import annotations
 
 import json
-from typing import Any, Dict, Iterator, Tuple
+from dataclasses import dataclass, replace
+from typing import Any, Container, Dict, Iterator, Mapping, Tuple, TypeVar
 
 from .chain import DOCUMENT_TYPE, Chain, Metadata
 from .prefixes import Renaming
@@ -21,8 +22,64 @@ COLUMN_MEMBERS = ("comment", "dimensions", "decimals", "propertyGroups", "proper
 GROUP_MEMBERS = ("dimensions", "decimals")
 
 
+@dataclass(frozen=True)
 class Merged:
-    """A metadata file that is being joined, and the file that each part of it came from."""
+    """The joined metadata, and the file that each part of it came from.
+
+    Nobody changes it: a step that leaves something out or renames something makes another.
+    """
+
+    value: Object
+    origins: Mapping[Path, str]
+
+    def origin(self, path: Path) -> str:
+        """Return the file that gave a part, or the part around it."""
+        return origin_of(self.origins, path)
+
+    def text(self) -> bytes:
+        """Return the file's bytes: compact, with members in the order of their names."""
+        return compact(self.value) + b"\n"
+
+    def without_tables(self: SomeMerged, names: Container[str]) -> SomeMerged:
+        """Return the metadata without some tables, and without the templates that only they use."""
+        left = {name: table for name, table in self.value["tables"].items() if name not in names}
+        return replace(self, value=with_used_templates({**self.value, "tables": left}))
+
+    def with_urls(self: SomeMerged, names: Mapping[str, str]) -> SomeMerged:
+        """Return the metadata with other URLs of tables and parameters, by those that they have."""
+        value = dict(self.value)
+        tables = value.get("tables")
+        if isinstance(tables, dict):
+            value["tables"] = {name: with_url(table, "url", names) for name, table in tables.items()}
+        return replace(self, value=with_url(value, "parameterURL", names))
+
+
+SomeMerged = TypeVar("SomeMerged", bound=Merged)
+
+
+def compact(value: Json) -> bytes:
+    """Return a value's bytes as those of the merged metadata are written."""
+    text = json.dumps(value, ensure_ascii=False, sort_keys=True, separators=(",", ":"))
+    return text.encode()
+
+
+def origin_of(origins: Mapping[Path, str], path: Path) -> str:
+    """Return the file that gave a part, or the part around it."""
+    while path not in origins and path:
+        path = path[:-1]
+    return origins.get(path, "the report")
+
+
+def with_url(owner: Json, member: str, names: Mapping[str, str]) -> Any:
+    """Return an object in which a URL has its new name, if it has one."""
+    url = owner.get(member) if isinstance(owner, dict) else None
+    if not isinstance(url, str) or url not in names:
+        return owner
+    return {**owner, member: names[url]}
+
+
+class Merging:
+    """A metadata file while it is joined."""
 
     def __init__(self) -> None:
         self.value: Object = {}
@@ -47,13 +104,9 @@ class Merged:
             raise self.conflict(path, label)
 
     def conflict(self, path: Path, label: str) -> Exception:
-        return wrong(label, f"'{'.'.join(path)}' has another value than in {self.origin(path)}")
-
-    def origin(self, path: Path) -> str:
-        """Return the file that gave a part, or the part around it."""
-        while path not in self.origins and path:
-            path = path[:-1]
-        return self.origins.get(path, "the report")
+        """Return the refusal of a part to which two files give different values."""
+        other = origin_of(self.origins, path)
+        return wrong(label, f"'{'.'.join(path)}' has another value than in {other}")
 
     def put_table(self, name: str, table: Json, label: str) -> None:
         """Join a table member by member: one file may give what another leaves open."""
@@ -73,58 +126,53 @@ class Merged:
             else:
                 self.put(("tables", name, member), value, label)
 
-    def text(self) -> bytes:
-        """Return the file's bytes: compact, with members in the order of their names."""
-        return (json.dumps(self.value, ensure_ascii=False, sort_keys=True, separators=(",", ":")) + "\n").encode()
-
 
 def merge(chain: Chain, renaming: Renaming) -> Merged:
     """Return the merged metadata of a chain."""
-    merged = Merged()
+    merging = Merging()
     for number, metadata in enumerate(chain):
         value, label = renaming.report(metadata), metadata.label
-        put_info(merged, metadata, number == 0)
+        put_info(merging, metadata, number == 0)
         for part in ("tableTemplates", "dimensions", "parameters"):
-            for name, it in value.get(part, {}).items():
-                merged.put((part, name), it, label)
-        for name, it in metadata.part("tables").items():
-            merged.put_table(name, it, label)
+            for name, given in value.get(part, {}).items():
+                merging.put((part, name), given, label)
+        for name, table in metadata.part("tables").items():
+            merging.put_table(name, table, label)
         for member in ("decimals", "parameterURL"):
             if member in value:
-                merged.put((member,), value[member], label)
+                merging.put((member,), value[member], label)
     for prefix in renaming.lost:
-        merged.value["documentInfo"]["namespaces"].pop(prefix, None)
-    prune(merged)
-    return merged
+        merging.value["documentInfo"]["namespaces"].pop(prefix, None)
+    return Merged(pruned(merging.value), merging.origins)
 
 
-def put_info(merged: Merged, metadata: Metadata, is_report: bool) -> None:
+def put_info(merging: Merging, metadata: Metadata, is_report: bool) -> None:
     """Join `documentInfo`: type, namespaces and entry points, and the report's `baseURL`."""
     label = metadata.label
-    merged.put(("documentInfo", "documentType"), DOCUMENT_TYPE, label)
-    put_namespaces(merged, metadata)
+    merging.put(("documentInfo", "documentType"), DOCUMENT_TYPE, label)
+    put_namespaces(merging, metadata)
     base = metadata.base_url()
     if is_report and base is not None:
-        merged.put(("documentInfo", "baseURL"), base, label)
+        merging.put(("documentInfo", "baseURL"), base, label)
     if "taxonomy" in metadata.info:
-        put_entries(merged, metadata)
+        put_entries(merging, metadata)
 
 
-def put_entries(merged: Merged, metadata: Metadata) -> None:
+def put_entries(merging: Merging, metadata: Metadata) -> None:
     """Add a file's entry points to those that are there, each once."""
-    entries = merged.value["documentInfo"].setdefault("taxonomy", [])
-    merged.origins.setdefault(ENTRIES, metadata.label)
+    entries = merging.value["documentInfo"].setdefault("taxonomy", [])
+    merging.origins.setdefault(ENTRIES, metadata.label)
     known = set(entries)
     for text, _ in metadata.taxonomy():
         if text not in known:
             known.add(text)
-            merged.origins[(*ENTRIES, str(len(entries)))] = metadata.label
+            merging.origins[(*ENTRIES, str(len(entries)))] = metadata.label
             entries.append(text)
 
 
-def put_namespaces(merged: Merged, metadata: Metadata) -> None:
+def put_namespaces(merging: Merging, metadata: Metadata) -> None:
     for prefix, uri in metadata.info_part("namespaces").items():
-        merged.put(("documentInfo", "namespaces", prefix), uri, metadata.label)
+        merging.put(("documentInfo", "namespaces", prefix), uri, metadata.label)
 
 
 def check_parts(chain: Chain) -> None:
@@ -132,40 +180,54 @@ def check_parts(chain: Chain) -> None:
 
     These are values that are not objects, and prefixes of two namespaces.
     """
-    merged = Merged()
+    merging = Merging()
     for metadata in chain:
         for part in ("tableTemplates", "tables", "dimensions", "parameters"):
             metadata.part(part)
-        put_namespaces(merged, metadata)
+        put_namespaces(merging, metadata)
 
 
-def prune(merged: Merged) -> None:
-    """Leave out templates that no table uses, and members that the converter does not read."""
-    value = merged.value
-    used = [it.get("template", name) for name, it in objects(value, "tables")]
-    named = {it for it in used if isinstance(it, str)}
+def pruned(value: Object) -> Object:
+    """Return metadata without templates that no table uses, and members that nobody reads.
+
+    Those are the members that the converter does not read.
+    """
+    value = with_used_templates(value)
     templates = value.get("tableTemplates", {})
-    if templates:
-        value["tableTemplates"] = {name: pruned_template(it) for name, it in templates.items() if name in named}
+    if not templates:
+        return value
+    kept = {name: pruned_template(template) for name, template in templates.items()}
+    return {**value, "tableTemplates": kept}
+
+
+def with_used_templates(value: Object) -> Object:
+    """Return metadata without the templates that no table uses."""
+    templates = value.get("tableTemplates", {})
+    if not templates:
+        return value
+    used = [table.get("template", name) for name, table in objects(value, "tables")]
+    named = {name for name in used if isinstance(name, str)}
+    kept = {name: template for name, template in templates.items() if name in named}
+    return {**value, "tableTemplates": kept}
 
 
 def pruned_template(template: Json) -> Json:
     kept = only(template, TEMPLATE_MEMBERS)
     if isinstance(kept, dict) and isinstance(kept.get("columns"), dict):
-        kept["columns"] = {name: pruned_column(it) for name, it in kept["columns"].items()}
+        kept["columns"] = {name: pruned_column(column) for name, column in kept["columns"].items()}
     return kept
 
 
 def pruned_column(column: Json) -> Json:
     kept = only(column, COLUMN_MEMBERS)
     if isinstance(kept, dict) and isinstance(kept.get("propertyGroups"), dict):
-        kept["propertyGroups"] = {name: only(it, GROUP_MEMBERS) for name, it in kept["propertyGroups"].items()}
+        kept["propertyGroups"] = {name: only(group, GROUP_MEMBERS) for name, group in kept["propertyGroups"].items()}
     return kept
 
 
 def only(value: Json, members: Tuple[str, ...]) -> Json:
     """Return an object with only some of its members. Return any other value unchanged."""
-    return {it: value[it] for it in members if it in value} if isinstance(value, dict) else value
+    return {name: value[name] for name in members if name in value} if isinstance(value, dict) else value
 
 
 def levels(report: Object) -> Iterator[Tuple[Path, Object]]:
@@ -184,6 +246,6 @@ def levels(report: Object) -> Iterator[Tuple[Path, Object]]:
 def objects(owner: Object, member: str) -> Iterator[Tuple[str, Object]]:
     """Yield the members of `owner[member]` that are objects, with their names."""
     inner = owner.get(member)
-    for name, it in (inner.items() if isinstance(inner, dict) else ()):
-        if isinstance(it, dict):
-            yield name, it
+    for name, part in (inner.items() if isinstance(inner, dict) else ()):
+        if isinstance(part, dict):
+            yield name, part

@@ -4,7 +4,7 @@ from __future__ import annotations
 
 import re
 from dataclasses import dataclass
-from typing import Container, Dict, Optional, Tuple
+from typing import Container, Dict, Iterator, Optional, Tuple
 
 from .metadata import Path, levels
 from .strict_json import Json, Object
@@ -34,7 +34,7 @@ class Named:
 
 def only_of(places: Places, templates: Container[Optional[str]]) -> Places:
     """Return the places of the report's own level and of some templates."""
-    return {it: path for it, path in places.items() if it[1] is None or it[1] in templates}
+    return {place: path for place, path in places.items() if place[1] is None or place[1] in templates}
 
 
 def names_of(report: Object) -> Named:
@@ -42,26 +42,37 @@ def names_of(report: Object) -> Named:
     found = Named({}, {}, {})
     for path, level in levels(report):
         template = path[1] if path else None
-        name = reference("decimals", level.get("decimals"))
         dimensions = level.get("dimensions")
         if isinstance(dimensions, dict):
             add_dimensions(found, dimensions, template, path)
-        if name is not None:
-            found.references.setdefault((name, template), (*path, "decimals"))
+        for name, place in references_of(path, level):
+            found.references.setdefault((name, template), place)
     return found
 
 
 def add_dimensions(found: Named, dimensions: Object, template: Optional[str], path: Path) -> None:
-    """Add what an object of `dimensions` names."""
+    """Add what an object of `dimensions` names, apart from references."""
     concept = dimensions.get("concept")
     if isinstance(concept, str):
         found.concepts.setdefault((concept, template), (*path, "dimensions", "concept"))
-    for key, text in dimensions.items():
+    for key in dimensions:
         if ":" in key:
             found.dimensions.setdefault((key, template), (*path, "dimensions", key))
+
+
+def references_of(path: Path, level: Object) -> Iterator[Tuple[str, Path]]:
+    """Yield each name that `dimensions` and `decimals` of a level refer to, and where.
+
+    It is the name of a column or a parameter.
+    """
+    dimensions = level.get("dimensions")
+    for key, text in dimensions.items() if isinstance(dimensions, dict) else ():
         name = reference(key, text)
         if name is not None:
-            found.references.setdefault((name, template), (*path, "dimensions", key))
+            yield name, (*path, "dimensions", key)
+    name = reference("decimals", level.get("decimals"))
+    if name is not None:
+        yield name, (*path, "decimals")
 
 
 def reference(key: str, text: Json) -> Optional[str]:

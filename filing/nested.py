@@ -2,17 +2,29 @@
 
 from __future__ import annotations
 
+import io
+import os
 from contextlib import ExitStack
-from typing import IO, Iterator, List, Tuple
+from typing import IO, Iterable, Iterator, List, Tuple
 
 from .catalog import CATALOG
-from .packages import Package, ZipPackage, is_zip, open_package
+from .packages import OwnPlace, Package, ZipPackage, is_zip, open_package
 from .refusals import cannot_write, wrong
 from .report import TAXONOMY_FILE
 from .stopping import temporary_place
 from .zip_entries import check_unpacked
 
 MOST_INSIDE = 200  # packages of one ZIP; each holds a file open
+
+
+def open_taxonomies(labels: Iterable[str], limit: int, opened: ExitStack) -> List[Package]:
+    """Return the packages of all paths, in order. `opened` closes them."""
+    found: List[Package] = []
+    for label in labels:
+        for package in open_taxonomy(label, limit):
+            opened.callback(package.close)
+            found.append(package)
+    return found
 
 
 def open_taxonomy(label: str, limit: int) -> List[Package]:
@@ -29,7 +41,7 @@ def open_taxonomy(label: str, limit: int) -> List[Package]:
         at_end.callback(package.close)
         with ExitStack() as opened:
             inside = packages_inside(package, limit, opened)
-            if any(it.has(CATALOG) for it in inside):
+            if any(package.has(CATALOG) for package in inside):
                 opened.pop_all()
                 return inside
         at_end.pop_all()
@@ -58,7 +70,7 @@ def packages_inside(package: ZipPackage, limit: int, opened: ExitStack) -> List[
 def zips_inside(package: ZipPackage) -> Iterator[Tuple[str, IO[bytes]]]:
     """Yield the names and the bytes of the ZIPs in a ZIP, in order."""
     for name in sorted(package.files):
-        is_left = any(it.startswith((".", "~$")) or it == "__MACOSX" for it in name.split("/"))
+        is_left = any(part.startswith((".", "~$")) or part == "__MACOSX" for part in name.split("/"))
         if not is_left and name.lower().endswith(".zip"):
             pieces = package.pieces_of(package.files[name], f"{package.label}/{name}")
             first = next(pieces, b"")
@@ -74,14 +86,12 @@ def unpacked_file(first: bytes, pieces: Iterator[bytes]) -> IO[bytes]:
     import tempfile  # takes long, and is seldom needed
 
     place = temporary_place()
-    with ExitStack() as opened:
-        try:
-            file = opened.enter_context(tempfile.TemporaryFile(dir=place))
+    try:
+        with tempfile.TemporaryFile(dir=place) as file:
             file.write(first)
             for piece in pieces:
                 file.write(piece)
             file.flush()
-        except OSError as error:
-            raise cannot_write(place, error) from None
-        opened.pop_all()
-    return file
+            return io.BufferedReader(OwnPlace(os.dup(file.fileno())))
+    except OSError as error:
+        raise cannot_write(place, error) from None

@@ -9,17 +9,21 @@ import signal
 import sys
 from contextlib import suppress
 from dataclasses import dataclass
-from typing import Callable, List, Optional, Tuple
+from functools import lru_cache
+from typing import Any, Callable, List, Optional, Tuple
 
 from .digests import digest_of
+from .kept_module import ModuleCache
 from .locks import locked
+from .marked_output import PAGE, SUMMARY, Kind, is_of_kind
 from .outcomes import BUSY, FINAL, Outcome, read_outcome, write_outcome
 from .packages import open_package
-from .page_output import is_page
 from .page_run import write_refusal_page
 from .refusals import FILES, Refusal, cannot_write, printable
+from .summary import write_refusal_summary
 from .words import Settings
 
+LONGEST_PATH = 1000  # of an entry that the run is told of
 KEPT = "kept"  # the report was converted before
 BEGUN = "begun"  # the outcome word while a report is in hand
 PR_SET_PDEATHSIG = 1
@@ -35,17 +39,18 @@ class Paths:
     log: str
     outcome: str
     page: str
+    summary: str
 
     @staticmethod
     def of(folder: str, name: str) -> Paths:
         """Return the paths for the report of this name."""
         front = os.path.join(folder, name)
-        endings = (".json", ".faults.csv", ".log", ".outcome", ".html")
-        return Paths(*(front + it for it in endings))
+        endings = (".json", ".faults.csv", ".log", ".outcome", ".html", ".summary.json")
+        return Paths(*(front + ending for ending in endings))
 
     def all(self) -> Tuple[str, ...]:
         """Return all of them."""
-        return self.document, self.faults, self.log, self.outcome, self.page
+        return self.document, self.faults, self.log, self.outcome, self.page, self.summary
 
 
 @dataclass(frozen=True)
@@ -61,6 +66,14 @@ class Task:
     temporary: str  # a folder of its own, for temporary files
     memory_limit: Optional[int]
     has_page: bool  # whether the report gets a page
+    has_summary: bool  # and a summary
+    program: str  # xbrl-json
+    taxonomy: Tuple[str, ...]
+
+    def asked_for(self) -> List[Tuple[str, Kind]]:
+        """Return the page and the summary that the report gets."""
+        found = [(self.paths.page, PAGE)] if self.has_page else []
+        return [*found, (self.paths.summary, SUMMARY)] if self.has_summary else found
 
 
 @dataclass
@@ -70,10 +83,12 @@ class Told:
     digest: str = ""
     word: str = ""
     line: str = ""
+    module: str = ""  # the path of the module's entry in the cache
 
     def write(self, pipe: int) -> None:
         """Write all of it at once: it is shorter than what a pipe takes in one piece."""
-        short = Told(self.digest, self.word, self.line[:500])
+        module = self.module if len(self.module) <= LONGEST_PATH else ""
+        short = Told(self.digest, self.word, self.line[:500], module)
         os.write(pipe, json.dumps(short.__dict__).encode() + b"\n")
 
 
@@ -89,6 +104,7 @@ def read_told(pipe: int) -> Told:
 def begin(task: Task, pipe: int, convert: Convert) -> int:
     """Start the process of a report, and return its number. It writes to `pipe` what it tells."""
     parent = os.getpid()
+    c_library()
     process = os.fork()
     if process:
         return process
@@ -107,12 +123,22 @@ def begin(task: Task, pipe: int, convert: Convert) -> int:
         os._exit(status)
 
 
-def end_with_parent(parent: int) -> None:
-    """Have the system end this process by SIGTERM once its parent is gone, if it can."""
+@lru_cache(maxsize=1)
+def c_library() -> Any:
+    """Return the C library with `prctl`, or None. It is loaded before the first process begins."""
     with suppress(ImportError, OSError, AttributeError):
         import ctypes
 
-        ctypes.CDLL(None).prctl(PR_SET_PDEATHSIG, int(signal.SIGTERM), 0, 0, 0)
+        libc = ctypes.CDLL(None)
+        return libc if libc.prctl else None
+    return None
+
+
+def end_with_parent(parent: int) -> None:
+    """Have the system end this process by SIGTERM once its parent is gone, if it can."""
+    libc = c_library()
+    if libc is not None:
+        libc.prctl(PR_SET_PDEATHSIG, int(signal.SIGTERM), 0, 0, 0)
     if os.getppid() != parent:
         os._exit(128 + signal.SIGTERM)
 
@@ -148,8 +174,9 @@ def work(task: Task, told: Told, pipe: int, convert: Convert) -> int:
     except Refusal as refusal:
         remove_earlier(task, "")
         os.write(2, f"xbrl-filing: {printable(refusal.line)}\n".encode())
-        if task.has_page:
-            write_refusal_page(page_settings(task), refusal)
+        settings = settings_of_refusal(task)
+        write_refusal_page(settings, refusal)
+        write_refusal_summary(settings, refusal, task.program, 0.0)
         return refusal.status
     if is_kept(task, told.digest):
         told.word = KEPT
@@ -162,14 +189,21 @@ def work(task: Task, told: Told, pipe: int, convert: Convert) -> int:
     paths = task.paths
     files = ["--out", paths.document, "--whole", "--faults", paths.faults]
     files += ["--page", paths.page] if task.has_page else []
-    return convert([task.report, *task.words, *files])
+    files += ["--summary", paths.summary] if task.has_summary else []
+    status = convert([task.report, *task.words, *files])
+    told.module = ModuleCache.last_used
+    told.write(pipe)
+    return status
 
 
-def page_settings(task: Task) -> Settings:
-    """Return the options of a page of a report that cannot be opened."""
-    settings = Settings()
-    settings.report, settings.page = task.report, task.paths.page
-    return settings
+def settings_of_refusal(task: Task) -> Settings:
+    """Return the options of the page and the summary of a report that cannot be opened."""
+    return Settings(
+        task.report,
+        task.taxonomy,
+        page=task.paths.page if task.has_page else None,
+        summary=task.paths.summary if task.has_summary else None,
+    )
 
 
 def open_log(path: str) -> int:
@@ -208,7 +242,7 @@ def is_kept(task: Task, digest: str) -> bool:
     outcome = read_outcome(task.paths.outcome)
     if outcome is None or outcome.digest != digest or outcome.outcome not in FINAL:
         return False
-    if task.has_page and not is_page(task.paths.page):
+    if not all(is_of_kind(path, kind) for path, kind in task.asked_for()):
         return False
     return not outcome.document or os.path.isfile(task.paths.document)
 
@@ -222,13 +256,14 @@ def remove_earlier(task: Task, digest: str) -> None:
     paths = task.paths
     made = [paths.document, f"{paths.document}.new", paths.faults]
     if not os.path.lexists(paths.outcome):
-        own = [*made, *([paths.page] if task.has_page else [])]
-        foreign = [it for it in own if os.path.lexists(it)]
+        own = [*made, *(path for path, _ in task.asked_for())]
+        foreign = [path for path in own if os.path.lexists(path)]
         foreign += [paths.log] if os.path.getsize(paths.log) else []
         if foreign:
             raise cannot_write(foreign[0], "it is there, and no run over many reports made it")
     write_outcome(paths.outcome, Outcome(task.report, digest, FILES, BEGUN))
     os.ftruncate(2, 0)
-    for path in [*made, *([paths.page] if is_page(paths.page) else [])]:
+    kinds = ((paths.page, PAGE), (paths.summary, SUMMARY))
+    for path in [*made, *(path for path, kind in kinds if is_of_kind(path, kind))]:
         with suppress(FileNotFoundError):
             os.unlink(path)

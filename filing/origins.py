@@ -19,7 +19,7 @@ class Origins:
     def __init__(self, merged: Merged, files: Iterable[Metadata], renaming: Renaming) -> None:
         self.merged = merged
         self.renaming = renaming
-        self.files = {it.label: it for it in files}  # the report's own is the first
+        self.files = {metadata.label: metadata for metadata in files}  # the report's own is the first
 
     def labels(self) -> List[str]:
         return list(self.files)
@@ -57,15 +57,15 @@ class Origins:
             return str(texts.index(entries[int(name)])) if int(name) < len(entries) else name
         if not isinstance(owner, dict) or name in owner:
             return name
-        return next((it for it in owner if self.renaming.qname(it) == name), name)
+        return next((own for own in owner if self.renaming.qname(own) == name), name)
 
 
 def path_of(pointer: str) -> Optional[Path]:
     """Return the names in a JSON pointer (RFC 6901, section 4); None for another text."""
     if not POINTER.fullmatch(pointer):
         return None
-    return tuple(it.replace("~1", "/").replace("~0", "~") for it in pointer[1:].split("/"))
+    return tuple(name.replace("~1", "/").replace("~0", "~") for name in pointer[1:].split("/"))
 
 
 def pointer_of(path: Iterable[str]) -> str:
-    return "".join("/" + it.replace("~", "~0").replace("/", "~1") for it in path)
+    return "".join("/" + name.replace("~", "~0").replace("/", "~1") for name in path)

@@ -29,6 +29,14 @@ TRY_AGAIN = 75
 OF_THE_SYSTEM = {16: MEMORY, 17: READ, 21: READ, 42: MEMORY, 43: THREAD, 53: MEMORY}
 FAULT_LINE = re.compile(rb"xbrl-json: .*: [A-Za-z]+ \(([0-9]+)\)")
 NO_MEMORY = b"xbrl-filing: there is not enough memory"
+# What the system refuses for now, by its words in a line of status 3.
+OF_THE_MOMENT = {
+    b"Cannot allocate memory": MEMORY,
+    b"Resource temporarily unavailable": THREAD,
+    b"Input/output error": READ,
+    b"Stale file handle": READ,
+}
+REFUSED_BY_SYSTEM = re.compile(rb"xbrl-filing: .*: cannot [a-z ]+ \(([A-Za-z/ ]+)\)")
 FIRST_BYTES = 1 << 20  # of a log; the line of a fault is among the first
 
 
@@ -55,7 +63,7 @@ class Outcome:
         return record(asdict(self).values())
 
 
-HEADER = record(it.name for it in fields(Outcome))
+HEADER = record(field.name for field in fields(Outcome))
 
 
 def read_outcome(path: str) -> Optional[Outcome]:
@@ -63,7 +71,7 @@ def read_outcome(path: str) -> Optional[Outcome]:
     with suppress(OSError, ValueError, TypeError, RecursionError):
         with open(path, "rb") as file:
             value = json.loads(file.read(FIRST_BYTES))
-        return Outcome(**{it.name: value[it.name] for it in fields(Outcome) if it.name in value})
+        return Outcome(**{field.name: value[field.name] for field in fields(Outcome) if field.name in value})
     return None
 
 
@@ -85,7 +93,7 @@ def count_faults(path: str) -> Tuple[int, List[int]]:
     try:
         with open(path, newline="", encoding="utf-8", errors="replace") as file:
             _, *rest = records(file.read())
-        return len(rest), [int(it[3]) for it in rest]
+        return len(rest), [int(fault[3]) for fault in rest]
     except (OSError, ValueError, IndexError):
         return 0, []
 
@@ -93,7 +101,7 @@ def count_faults(path: str) -> Tuple[int, List[int]]:
 def first_line(log: bytes) -> str:
     """Return the first line of a log that a program wrote."""
     lines = log.split(b"\n")
-    line = next((it for it in lines if it.startswith((b"xbrl-json: ", b"xbrl-filing: "))), lines[0])
+    line = next((line for line in lines if line.startswith((b"xbrl-json: ", b"xbrl-filing: "))), lines[0])
     return line.decode("utf-8", "surrogateescape")
 
 
@@ -108,11 +116,14 @@ def word_of(status: int, numbers: Iterable[int], log: bytes, signal: bool) -> st
     if status == 0:
         return DONE
     lines = log.split(b"\n")
-    found = (FAULT_LINE.fullmatch(it) for it in lines)
-    told = [*numbers, *(int(it[1]) for it in found if it)]
-    words = [OF_THE_SYSTEM[it] for it in told if it in OF_THE_SYSTEM]
+    found = (FAULT_LINE.fullmatch(line) for line in lines)
+    told = [*numbers, *(int(match[1]) for match in found if match)]
+    words = [OF_THE_SYSTEM[number] for number in told if number in OF_THE_SYSTEM]
     if NO_MEMORY in lines:
         words.append(MEMORY)
+    if status == FILES:
+        refused = (REFUSED_BY_SYSTEM.fullmatch(line) for line in lines)
+        words += [OF_THE_MOMENT[why[1]] for why in refused if why and why[1] in OF_THE_MOMENT]
     if words:
         return words[0]
     return REFUSED if status == WRONG else FAILED
@@ -129,7 +140,7 @@ def limited(outcome: Outcome, late: bool, memory_limit: Optional[int]) -> Outcom
 
 def status_of(words: Dict[str, int]) -> int:
     """Return the status of a whole run by how many reports have each outcome word."""
-    if any(words.get(it) for it in TO_RETRY):
+    if any(words.get(word) for word in TO_RETRY):
         return TRY_AGAIN
     if words.get(FAILED):
         return FILES

@@ -24,16 +24,16 @@ def refuse_outputs(settings: Settings, packages: List[Package], files: Optional[
 
     `files` is None before they are known, so that the packages are checked earlier.
     """
-    outputs = list(settings.outputs()) + [it for it in (settings.prepare, settings.cache) if it is not None]
-    folders = {it.top for it in packages if isinstance(it, FolderPackage)}
-    inputs = [os.path.realpath(it) for it in input_files(settings, files)]
+    outputs = list(settings.outputs()) + [folder for folder in (settings.prepare, settings.cache) if folder is not None]
+    folders = {package.top for package in packages if isinstance(package, FolderPackage)}
+    inputs = [os.path.realpath(file) for file in input_files(settings, files)]
     for output in outputs:
         path = os.path.realpath(output)
-        if any(path == it or same_file(path, it) for it in inputs):
+        if any(path == file or same_file(path, file) for file in inputs):
             raise cannot_write(output, "it is an input of this run")
-        if any(stands_in(path, it) for it in folders):
+        if any(stands_in(path, folder) for folder in folders):
             raise cannot_write(output, "it stands inside of a package that is an input of this run")
-        if any(linked_into(path, it) for it in folders):
+        if any(linked_into(path, folder) for folder in folders):
             raise cannot_write(output, "it is a link to a file of a package that is an input of this run")
     if settings.prepare is not None and settings.cache is not None:
         if stands_in(os.path.realpath(settings.cache), os.path.realpath(settings.prepare)):
@@ -46,7 +46,7 @@ def claim_outputs(settings: Settings, opened: ExitStack) -> None:
     Refuse one that another run has claimed, because both would write into it. A file that does not
     exist yet is claimed by its path. Pipes and devices are not claimed.
     """
-    for path, output in {os.path.realpath(it): it for it in settings.outputs()}.items():
+    for path, output in {os.path.realpath(output): output for output in settings.outputs()}.items():
         if os.path.exists(path) and not os.path.isfile(path):
             continue
         name = f"xbrl-filing-{digest_of(os.fsencode(path)).hex()}.lock"
@@ -70,7 +70,7 @@ def input_files(settings: Settings, files: Optional[Files]) -> Iterator[str]:
     yield settings.report
     yield from settings.taxonomy
     if files is not None:
-        for name in [*files.package.names_read(), *(files.name(it) for it in files.all())]:
+        for name in [*files.package.names_read(), *(files.name(url) for url in files.all())]:
             path = files.package.path_on_disk(name)
             if path is not None:
                 yield path
@@ -89,7 +89,7 @@ def linked_into(path: str, folder: str) -> bool:
         return False
     if known.st_nlink < 2 or not stat.S_ISREG(known.st_mode):
         return False
-    return any(same_file(path, os.path.join(at, it)) for at, _, names in os.walk(folder) for it in names)
+    return any(same_file(path, os.path.join(at, name)) for at, _, names in os.walk(folder) for name in names)
 
 
 def same_file(one: str, other: str) -> bool:

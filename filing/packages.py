@@ -6,6 +6,7 @@ All are read as names and pieces of bytes.
 from __future__ import annotations
 
 import errno
+import io
 import json
 import lzma
 import os
@@ -15,9 +16,9 @@ import zipfile
 import zlib
 from abc import ABC, abstractmethod
 from contextlib import contextmanager
-from typing import IO, Dict, Iterable, Iterator, List, Optional, Tuple
+from typing import IO, Any, Dict, Iterable, Iterator, List, Optional, Tuple
 
-from .digests import Contents, contents_of_disk, digest_of, digests_of
+from .digests import Contents, contents_of_disk, digest_of, digests_of, identity_of
 from .refusals import cannot_read, wrong
 from .zip_entries import Listing, checked_entries
 
@@ -101,9 +102,59 @@ class Package(ABC):
 
         The folder may have any name. `META-INF` and `reports` count only with a `META-INF` inside.
         """
-        folders = [it for it in self.children("")[1] if it != "__MACOSX"]
+        folders = [folder for folder in self.children("")[1] if folder != "__MACOSX"]
         if len(folders) == 1 and (folders[0] not in ("META-INF", "reports") or "META-INF" in self.children(folders[0])[1]):
             self.root = folders[0] + "/"
+
+
+class OwnPlace(io.RawIOBase):
+    """A file that is read from a place of its own.
+
+    Processes that share a descriptor have one place of the system, which each would move.
+    """
+
+    def __init__(self, file: int) -> None:
+        """Take a descriptor, which is closed with this file."""
+        super().__init__()
+        self.file, self.at = file, 0
+
+    def readable(self) -> bool:
+        return True
+
+    def seekable(self) -> bool:
+        return True
+
+    def fileno(self) -> int:
+        return self.file
+
+    def tell(self) -> int:
+        return self.at
+
+    def seek(self, offset: int, whence: int = os.SEEK_SET) -> int:
+        """Move to a place, which is not before the file's begin."""
+        start = {os.SEEK_SET: 0, os.SEEK_CUR: self.at}.get(whence)
+        at = offset + (os.fstat(self.file).st_size if start is None else start)
+        if at < 0:
+            raise OSError(errno.EINVAL, os.strerror(errno.EINVAL))
+        self.at = at
+        return at
+
+    def readinto(self, room: Any) -> int:
+        """Read what comes next, as much as the system gives at once."""
+        count = os.preadv(self.file, [room], self.at)
+        self.at += count
+        return count
+
+    def close(self) -> None:
+        """Close the descriptor."""
+        if not self.closed:
+            os.close(self.file)
+        super().close()
+
+
+def opened(path: str) -> IO[bytes]:
+    """Open a file to read it, from a place of its own."""
+    return io.BufferedReader(OwnPlace(os.open(path, os.O_RDONLY | os.O_CLOEXEC)))
 
 
 class ZipPackage(Package):
@@ -116,11 +167,11 @@ class ZipPackage(Package):
         """
         super().__init__(label)
         with damage_told(label):
-            self.file: IO[bytes] = open(label, "rb") if file is None else file
+            self.file: IO[bytes] = opened(label) if file is None else file
             self.archive = zipfile.ZipFile(self.file)
             self.size = os.fstat(self.file.fileno()).st_size
             self.files = checked_entries(self.archive, self.size, label, limit)
-        self.unpacked = sum(it.file_size for it in self.archive.infolist())
+        self.unpacked = sum(entry.file_size for entry in self.archive.infolist())
         self.listing = Listing(self.files)
         self.find_root()
 
@@ -152,7 +203,7 @@ class ZipPackage(Package):
 
     def files_below(self, folder: str) -> Iterator[str]:
         """Yield the names of the entries below a folder, without the folders, in order."""
-        return (it[len(self.root) :] for it in self.listing.below(self.root + folder))
+        return (name[len(self.root) :] for name in self.listing.below(self.root + folder))
 
     def close(self) -> None:
         """Close the ZIP."""
@@ -162,7 +213,9 @@ class ZipPackage(Package):
     def digest(self) -> bytes:
         """Return the digest of the file that is open: another may have taken its name since."""
         file = self.file.fileno()
-        return digests_of([Contents(lambda: os.dup(file), os.fstat(file).st_size, self.label)])[0]
+        known = os.fstat(file)
+        contents = Contents(lambda: os.dup(file), known.st_size, self.label, identity_of(known))
+        return digests_of([contents])[0]
 
 
 class FolderPackage(Package):
@@ -188,7 +241,7 @@ class FolderPackage(Package):
         A link to a folder is a folder.
         """
         found = entries_of(self.disk(folder), self.shown(folder))
-        return [it.name for it in found if not it.is_dir()], [it.name for it in found if it.is_dir()]
+        return [entry.name for entry in found if not entry.is_dir()], [entry.name for entry in found if entry.is_dir()]
 
     def files_below(self, folder: str) -> Iterator[str]:
         """Yield the names of all but the folders below a folder, in order.
@@ -208,12 +261,14 @@ class FolderPackage(Package):
         """
         links: List[Tuple[str, str]] = []
         files: Dict[str, Contents] = {}
-        for name, it in self.all_entries(""):
-            if it.is_symlink():
-                links.append((name, os.readlink(it.path)))
-            elif it.is_file():
-                files[name] = contents_of_disk(it.path, it.stat().st_size, f"{self.label}/{name}")
-        digests = [it.hex() for it in digests_of(list(files.values()))]
+        for name, entry in self.all_entries(""):
+            if entry.is_symlink():
+                links.append((name, os.readlink(entry.path)))
+            elif entry.is_file():
+                known, label = entry.stat(), f"{self.label}/{name}"
+                identity = identity_of(known)
+                files[name] = contents_of_disk(entry.path, known.st_size, label, identity)
+        digests = [digest.hex() for digest in digests_of(list(files.values()))]
         return digest_of(json.dumps([self.root, links, list(zip(files, digests))]).encode())
 
     def all_entries(self, folder: str) -> Iterator[Tuple[str, os.DirEntry[str]]]:
@@ -224,13 +279,13 @@ class FolderPackage(Package):
         ways = [self.way_into(folder)]
         while ways:
             at, entries = ways[-1]
-            it = next(entries, None)
-            if it is None:
+            entry = next(entries, None)
+            if entry is None:
                 ways.pop()
-            elif it.is_dir(follow_symlinks=False):
-                ways.append(self.way_into(f"{at}{it.name}/"))
+            elif entry.is_dir(follow_symlinks=False):
+                ways.append(self.way_into(f"{at}{entry.name}/"))
             else:
-                yield at + it.name, it
+                yield at + entry.name, entry
 
     def way_into(self, folder: str) -> Tuple[str, Iterator[os.DirEntry[str]]]:
         """Return a folder's name in the package's folder, and its entries."""
@@ -362,7 +417,7 @@ def entries_of(path: str, label: str) -> List[os.DirEntry[str]]:
     """
     try:
         with os.scandir(path) as found:
-            return sorted(found, key=lambda it: it.name)
+            return sorted(found, key=lambda entry: entry.name)
     except (FileNotFoundError, NotADirectoryError):
         return []
     except OSError as error:

@@ -7,7 +7,9 @@ import os
 from itertools import groupby
 from typing import Dict, List, Mapping, NamedTuple, Optional, Sequence, Tuple
 
+from .counts import Numbers
 from .every_fault import Fault
+from .filed import Filed
 from .metadata import objects
 from .page_rows import Budget, Near, all_spans, cells_of, read_table
 from .prepared import is_plain
@@ -33,6 +35,7 @@ class TableLine(NamedTuple):
     file: str
     size: Optional[int]
     rows: Optional[int]
+    numbers: Optional[Numbers] = None
 
 
 class Content(NamedTuple):
@@ -45,6 +48,7 @@ class Content(NamedTuple):
     found: int  # how many faults the run has found: the page may have only the first
     items: Sequence[Item] = ()
     tables: Sequence[TableLine] = ()
+    filed: Optional[Filed] = None
 
 
 class TableFile(NamedTuple):
@@ -78,12 +82,12 @@ def tables_of(value: Object, folder: str, names: Mapping[str, str]) -> List[Tabl
     `names` has what the filing calls a file; without a name it is its path.
     """
     found = []
-    for table, it in objects(value, "tables"):
-        url = it.get("url")
+    for table, member in objects(value, "tables"):
+        url = member.get("url")
         if isinstance(url, str) and is_plain(url):
             path = os.path.join(folder, *url.split("/"))
             found.append(TableFile(table, names.get(url, path), path))
-    return sorted(found, key=lambda it: it.table.encode("utf-8", "surrogatepass"))
+    return sorted(found, key=lambda table: table.table.encode("utf-8", "surrogatepass"))
 
 
 def filled(
@@ -96,25 +100,32 @@ def filled(
 
     Tables with faults are read first. `said` has the lines of `--explain`.
     """
-    budget, files = Budget(), {it.table: it for it in tables}
+    budget, files = Budget(), {table.table: table for table in tables}
     lines: Dict[str, TableLine] = {}
     items: List[Item] = []
-    for table, group in groupby(faults, lambda it: it.table):
+    for table, group in groupby(faults, lambda fault: fault.table):
         own = list(group)
         near: List[Optional[Near]] = [None] * len(own)
         if table in files:
             lines[table], near = looked_at(files[table], own, budget)
         file = files[table].label if table in files else ""
-        items += [Item(it, file, said.get(it, ()), rows) for it, rows in zip(own, near)]
-    for table, it in files.items():
+        items += [Item(one, file, said.get(one, ()), rows) for one, rows in zip(own, near)]
+    for table, of_table in files.items():
         if table not in lines:
-            lines[table], _ = looked_at(it, [], budget)
-    return content._replace(tables=[lines[table] for table in files], items=items)
+            lines[table], _ = looked_at(of_table, [], budget)
+    numbers = {table.table: table.numbers for table in content.filed.tables} if content.filed else {}
+    shown = [with_numbers(lines[table], numbers.get(table)) for table in files]
+    return content._replace(tables=shown, items=items)
+
+
+def with_numbers(line: TableLine, numbers: Optional[Numbers]) -> TableLine:
+    """Return a table's line with what the run has counted of it, if it has."""
+    return line if numbers is None else line._replace(rows=numbers.rows, numbers=numbers)
 
 
 def looked_at(
-    it: TableFile, faults: Sequence[Fault], budget: Budget
+    table: TableFile, faults: Sequence[Fault], budget: Budget
 ) -> Tuple[TableLine, List[Optional[Near]]]:
     """Return a table's line, and the rows round each of its faults."""
-    read = read_table(it.path, faults, budget)
-    return TableLine(it.table, it.label, read.size, read.rows), read.near
+    read = read_table(table.path, faults, budget)
+    return TableLine(table.table, table.label, read.size, read.rows), read.near

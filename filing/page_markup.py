@@ -6,7 +6,9 @@ import re
 from itertools import groupby
 from typing import Dict, Iterable, Iterator, List, Optional, Sequence, Tuple
 
+from .counts import Numbers
 from .every_fault import Fault
+from .filed import Filed
 from .page_content import LONGEST, Content, Item, TableLine
 from .page_remedies import FORMS, REMEDIES
 from .page_rows import LONGEST as SHORT
@@ -17,6 +19,10 @@ from .refused_faults import NAME as REFUSED_BY
 
 WHOLE_FILE = "(the whole file)"  # what `--explain` has for a place without a text
 NAME, CELL, LINE = 200, 400, 600  # characters of a name, a cell, a line that are shown
+MOST_NAMES = 10_000  # characters of a list of tables
+MOST_PARAMETERS = 1_000
+COUNTS = ("Facts", "Without unit", "Without decimals", "Without entity", "Without period")
+NONE: Tuple[Optional[int], ...] = (None,) * len(Numbers._fields)
 COLOURS = {
     **dict.fromkeys(("refused", "failed"), " bad-word"),
     **dict.fromkeys(("converted", "done", "no fault"), " good-word"),
@@ -47,7 +53,7 @@ def framed(title: str, body: str) -> str:
 
 def head(content: Content) -> str:
     """Return the outcome and what it means."""
-    notes = "".join(f'<p class="lead">{markup(it, LINE)}</p>\n' for it in content.notes)
+    notes = "".join(f'<p class="lead">{markup(note, LINE)}</p>\n' for note in content.notes)
     name = content.report.rstrip("/").rpartition("/")[2]
     facts = [("Report", content.report), ("Document", content.document)]
     lines = "".join(f"<dt>{a}</dt><dd>{markup(b, LINE)}</dd>\n" for a, b in facts if b)
@@ -71,7 +77,7 @@ def counted(number: int, thing: str) -> str:
 
 def groups(items: Iterable[Item]) -> Iterator[Tuple[str, List[Item]]]:
     """Yield the items of each table together."""
-    for table, found in groupby(items, lambda it: it.fault.table):
+    for table, found in groupby(items, lambda item: item.fault.table):
         yield table, list(found)
 
 
@@ -83,8 +89,8 @@ def faults_part(content: Content, numbers: Dict[str, int]) -> Iterator[str]:
     if content.found > len(content.items):
         first = f"These are the first {len(content.items):,} of {counted(content.found, 'fault')}."
         yield f"<p>{first}</p>\n"
-    if any(it.fault.row and not it.near for it in content.items):
-        shown = sum(1 for it in content.items if it.near)
+    if any(item.fault.row and not item.near for item in content.items):
+        shown = sum(1 for item in content.items if item.near)
         yield f"<p>Rows are shown for {counted(shown, 'fault')}.</p>\n"
     if len(content.items) > 1:
         yield filters(content.items, numbers)
@@ -97,8 +103,8 @@ def faults_part(content: Content, numbers: Dict[str, int]) -> Iterator[str]:
 def filters(items: Sequence[Item], numbers: Dict[str, int]) -> str:
     """Return the form that picks faults, which the script shows."""
     tables = [(str(at), name or "(no table)") for name, at in numbers.items()]
-    names = {it.fault.number: it.fault.name for it in items}
-    kinds = [(str(it), f"{names[it]} ({it})") for it in sorted(names)]
+    names = {item.fault.number: item.fault.name for item in items}
+    kinds = [(str(number), f"{names[number]} ({number})") for number in sorted(names)]
     return (
         '<form class="filters" hidden>\n'
         f"{choice('table', 'Table', tables)}{choice('fault', 'Fault', kinds)}"
@@ -179,7 +185,7 @@ def file_of(item: Item) -> str:
 
 def causes(said: Sequence[str]) -> str:
     """Return the places that the cause comes from."""
-    lines = "\n".join(markup(it, LINE) for it in said)
+    lines = "\n".join(markup(line, LINE) for line in said)
     return f"<p>It comes from:</p>\n<pre>{lines}</pre>\n"
 
 
@@ -199,8 +205,8 @@ def ticked(text: str) -> str:
 def rows(at: int, item: Item, near: Near) -> str:
     """Return the rows round a fault as a table, in which the cell with the fault is marked."""
     fault = item.fault
-    heads = "".join(header_cell(*it, fault) for it in zip(near.columns, near.header))
-    lines = "".join(row(it, near.columns, fault) for it in near.rows)
+    heads = "".join(header_cell(*column, fault) for column in zip(near.columns, near.header))
+    lines = "".join(row(near_row, near.columns, fault) for near_row in near.rows)
     return (
         f'<div class="wide rows" tabindex="0" role="region" aria-label="Rows of fault {at}">\n'
         f"<table>\n<caption>{file_of(item)}</caption>\n"
@@ -217,12 +223,12 @@ def header_cell(column: int, text: Optional[str], fault: Fault) -> str:
     return f'<th scope="col">{shown}</th>'
 
 
-def row(it: Row, columns: List[int], fault: Fault) -> str:
+def row(shown: Row, columns: List[int], fault: Fault) -> str:
     """Return a row. The row with the fault is marked if no cell of it is."""
-    is_bad = it.number == fault.row
-    cells = "".join(cell(a, is_bad and fault.column == b) for a, b in zip(it.cells, columns))
+    is_bad = shown.number == fault.row
+    cells = "".join(cell(a, is_bad and fault.column == b) for a, b in zip(shown.cells, columns))
     start = '<tr class="bad">' if is_bad and not fault.column else "<tr>"
-    line = f'<th scope="row">{number_or_not(it.line)}</th><td>{it.number:,}</td>'
+    line = f'<th scope="row">{number_or_not(shown.line)}</th><td>{shown.number:,}</td>'
     return f"{start}{line}{cells}</tr>\n"
 
 
@@ -237,7 +243,7 @@ def cell(text: Optional[str], is_bad: bool) -> str:
 
 def forms_part(items: Sequence[Item]) -> Iterator[str]:
     """Yield the forms in which filers meet the faults of the page."""
-    numbers = {it.fault.number: it.fault.name for it in items if it.fault.number in FORMS}
+    numbers = {item.fault.number: item.fault.name for item in items if item.fault.number in FORMS}
     if not numbers:
         return
     yield '<section id="forms">\n<h2>What filers often write</h2>\n'
@@ -265,26 +271,68 @@ def tables_part(content: Content, numbers: Dict[str, int]) -> Iterator[str]:
         for at, item in enumerate(content.items, 1):
             firsts.setdefault(item.fault.table, at)
             counts[item.fault.table] = counts.get(item.fault.table, 0) + 1
+        total = content.filed.total() if content.filed else None
+        heads = ("Rows", *(COUNTS if total else ()), "Bytes")
         yield '<section id="tables">\n<h2>Tables</h2>\n<div class="wide"><table class="plain">\n'
         yield f"<caption>{counted(len(content.tables), 'table')}, by identifier</caption>\n"
         yield '<thead><tr><th scope="col">Table</th><th scope="col">File</th>'
-        yield '<th scope="col" class="count">Rows</th><th scope="col" class="count">Bytes</th>'
+        yield "".join(f'<th scope="col" class="count">{head}</th>' for head in heads)
         yield '<th scope="col">Faults</th></tr></thead>\n<tbody>\n'
-        for it in content.tables:
-            yield table_line(it, counts.get(it.table, 0), firsts.get(it.table, 0))
+        for table in content.tables:
+            yield table_line(table, counts.get(table.table, 0), firsts.get(table.table, 0), total)
+        if total and len(content.tables) > 1:
+            yield total_line(total)
         yield "</tbody></table></div>\n</section>\n"
+    if content.filed:
+        yield from filed_part(content.filed)
     yield "</main>\n"
 
 
-def table_line(it: TableLine, faults: int, first: int) -> str:
+def table_line(table: TableLine, faults: int, first: int, total: Optional[Numbers]) -> str:
     """Return a line of the list of tables, with a link to the table's first fault."""
     told = f'<a href="#f{first}">{counted(faults, "fault")}</a>' if faults else "none"
+    facts: Sequence[Optional[int]] = (table.numbers or NONE)[1:] if total else ()
+    cells = "".join(count_cell(number) for number in (table.rows, *facts, table.size))
     return (
-        f'<tr><th scope="row">{markup(it.table, NAME)}</th>'
-        f'<td class="path">{markup(it.file, LINE)}</td>'
-        f'<td class="count">{number_or_not(it.rows)}</td>'
-        f'<td class="count">{number_or_not(it.size)}</td><td>{told}</td></tr>\n'
+        f'<tr><th scope="row">{markup(table.table, NAME)}</th>'
+        f'<td class="path">{markup(table.file, LINE)}</td>{cells}<td>{told}</td></tr>\n'
     )
+
+
+def total_line(total: Numbers) -> str:
+    """Return the last line of the list, which has the sums of all tables."""
+    cells = "".join(map(count_cell, total))
+    return f'<tr><th scope="row">All tables</th><td></td>{cells}<td></td><td></td></tr>\n'
+
+
+def count_cell(number: Optional[int]) -> str:
+    """Return a cell with a number for people; a dash if it is not known."""
+    return f'<td class="count">{number_or_not(number)}</td>'
+
+
+def filed_part(filed: Filed) -> Iterator[str]:
+    """Yield what is not filed, what filing indicators say against the tables, and parameters."""
+    lists = [
+        ("Optional tables without a file", [absent.table for absent in filed.absent]),
+        ("Filing indicators that are true without facts", filed.without_facts()),
+        ("Filing indicators that are false with facts", filed.not_announced()),
+    ]
+    told = [(title, names) for title, names in lists if names]
+    if told:
+        yield '<section id="filed">\n<h2>What is filed</h2>\n<dl>\n'
+        for title, names in told:
+            yield f"<dt>{title}</dt><dd>{markup(', '.join(names), MOST_NAMES)}</dd>\n"
+        yield "</dl>\n</section>\n"
+    if filed.parameters:
+        yield '<section id="parameters">\n<h2>Parameters</h2>\n'
+        yield '<div class="wide"><table class="plain">\n'
+        yield f"<caption>{counted(len(filed.parameters), 'value')}, by name</caption>\n"
+        yield '<thead><tr><th scope="col">Parameter</th><th scope="col">Value</th>'
+        yield '<th scope="col">File</th></tr></thead>\n<tbody>\n'
+        for name, value, file in filed.parameters[:MOST_PARAMETERS]:
+            yield f'<tr><th scope="row">{markup(name, NAME)}</th><td>{markup(value, CELL)}</td>'
+            yield f'<td class="path">{markup(file, LINE)}</td></tr>\n'
+        yield "</tbody></table></div>\n</section>\n"
 
 
 def number_or_not(number: Optional[int]) -> str:

@@ -64,8 +64,9 @@ REMEDIES: Dict[int, Tuple[str, str]] = {
     14: (
         "the types table is malformed",
         (
-            "save as UTF-8 with commas; use the types of `xbrl-json --help`; `boolean`, `date` "
-            "and `qname` need the header `type2`"
+            "save as UTF-8 with commas; use the types of `xbrl-json --help` that the header "
+            "allows (`boolean`, `date` and `qname` need `type2`); under `type3` write five cells "
+            "a record"
         ),
     ),
     15: ("a file passes a limit", "split the report; delete unused types"),
@@ -145,9 +146,24 @@ REMEDIES: Dict[int, Tuple[str, str]] = {
     43: ("no worker could be started", "run again with `--workers 1`"),
     44: (
         "the cell of a boolean, date or name is not well-formed, or its prefix is not declared",
+        "",
+    ),
+    45: (
+        "the unit is not the one that the concept wants, or is missing",
+        "write `iso4217:EUR` for `monetary`, `xbrli:shares` for `shares`, also for `#nil`",
+    ),
+    46: (
+        "the period is not of the type that the concept wants, or is missing",
         (
-            "write `true`, `false`, `1` or `0`; `2025-09-30` without a time zone; `eg:Name`; "
-            "`#nil` for no value"
+            "for `instant` write `2025-09-30T00:00:00` or `2025Q3@end`; for `duration` `2025Q3`, "
+            "or nothing for ever"
+        ),
+    ),
+    47: (
+        "the types table names no such member",
+        (
+            "correct the name, or add it as a `member` to the types table, or its package to "
+            "`--taxonomy`"
         ),
     ),
 }
@@ -250,6 +266,11 @@ FORMS: Dict[int, List[Tuple[str, str, str]]] = {
         ),
         ('`"en_GB"`', "not a language tag", "`en-GB`"),
         ('`"North"`, `"xx:North"`', "a member needs a declared prefix", "`eg:North`"),
+        (
+            '`"7d0"`, `"x"`',
+            "a typed dimension has a type under `type3`",
+            "a value of that type; numbers have no suffix here",
+        ),
     ],
     40: [
         (
@@ -268,5 +289,42 @@ FORMS: Dict[int, List[Tuple[str, str, str]]] = {
         ('`"(5)"`, `"−5"` (U+2212)', "the minus is the hyphen of the keyboard", "`-5`"),
         ('`"5d"`, `"5d2.5"`', "after `d` are the decimals: a whole number or `INF`", "`5d2`"),
         ('`"INF"`, `"NaN"`', "cannot be carried over", "empty the cell"),
+        (
+            '`"300"`, `"-1"`, `"+1"`',
+            (
+                "the number is out of the bounds of its type under `type3`; the unsigned ones "
+                "take no sign"
+            ),
+            "a number of that type",
+        ),
+    ],
+    44: [
+        (
+            "`boolean`, `qname`",
+            "yes or no; a name with a declared prefix",
+            "`true`, `false`, `1` or `0`; `eg:Name`",
+        ),
+        (
+            "`date`, `dateTime`, `time`",
+            "with or without `Z` or `+02:00`",
+            "`2025-09-30`; `2025-09-30T12:00:00.5`; `24:00:00`",
+        ),
+        (
+            "`gYear`, `gYearMonth`, `gMonth`, `gMonthDay`, `gDay`",
+            "the same",
+            "`2025`, `2025-09`, `--09`, `--09-30`, `---30`",
+        ),
+        ("`duration`", "any of its parts, in this order", "`P1Y2M3DT4H5M6.7S`; `-P1D`"),
+        (
+            "`language`, `NCName`, `hexBinary`",
+            "a tag; a name without a colon; pairs of digits",
+            "`en-GB`; `North`; `0FB7`",
+        ),
+        ("`enumeration`", "one member", "`eg:North`"),
+        (
+            "`enumerations`",
+            "members with blanks between them, none twice",
+            "`eg:North eg:South`; `#empty` for none",
+        ),
     ],
 }

@@ -78,7 +78,7 @@ def read_table(path: str, faults: Sequence[Fault], budget: Budget) -> Reading:
         if size and budget.bytes >= 0:
             with mmap.mmap(file.fileno(), 0, access=mmap.ACCESS_READ) as data:
                 table = Table(data, faults, budget)
-                return Reading(size, table.rows, [table.near(it) for it in faults])
+                return Reading(size, table.rows, [table.near(fault) for fault in faults])
         budget.bytes += size
     return Reading(size, 0 if size == 0 else None, [None] * len(faults))
 
@@ -124,7 +124,7 @@ class Table:
         width = max(len(self.header), len(self.cells(fault.row, len(self.header) + MORE)))
         columns = columns_near(fault.column or width, width)
         numbers = range(max(fault.row - BEFORE, 1), fault.row + AFTER + 1)
-        rows = [self.row(it, columns, fault) for it in numbers if it in self.spans]
+        rows = [self.row(shown, columns, fault) for shown in numbers if shown in self.spans]
         self.budget.shown -= len(columns) * (len(rows) + 1)
         return Near(columns, chosen(self.header, columns), rows)
 
@@ -151,8 +151,8 @@ class Table:
 def numbers_shown(faults: Iterable[Fault]) -> Dict[int, None]:
     """Return the numbers of the records that are shown for some faults."""
     numbers = {0: None}
-    for it in faults:
-        numbers.update(dict.fromkeys(range(max(it.row - BEFORE, 0), it.row + AFTER + 1)))
+    for fault in faults:
+        numbers.update(dict.fromkeys(range(max(fault.row - BEFORE, 0), fault.row + AFTER + 1)))
     return numbers
 
 
@@ -166,7 +166,7 @@ def columns_near(column: int, width: int) -> List[int]:
 
 def chosen(cells: Sequence[str], columns: Iterable[int]) -> Cells:
     """Return the cells of some columns, None for those past the record's end."""
-    return [cells[it - 1] if it <= len(cells) else None for it in columns]
+    return [cells[column - 1] if column <= len(cells) else None for column in columns]
 
 
 def all_spans(data: mmap.mmap) -> Iterator[Span]:

@@ -4,51 +4,42 @@ from __future__ import annotations
 
 import json
 import os
-from typing import Dict, List, Mapping, Sequence
+from typing import Dict, List, Mapping, Sequence, Tuple
 
 from .every_fault import Fault
-from .page_content import MOST, Content, Item, TableFile, faults_of, filled, tables_of
+from .filed import Filed
+from .marked_output import PAGE, check_inputs, write_marked
+from .page_content import MOST, Content, Item, TableFile, filled, tables_of
 from .page_lines import KeptLines
 from .page_markup import page
-from .page_output import check_inputs, write_page
-from .prepared import Files
-from .refusals import FILES, WRONG, Refusal, printable
+from .prepared import Written
+from .refusals import WRONG, Refusal, printable
 from .refused_faults import NAME
 from .words import Settings
 
 CONVERTED, REFUSED, CLEAN = "Converted", "Refused", "No fault"
 
 
-class RunPage:
-    """The page of a run of xbrl-json, if one is asked for, and the options that it needs."""
+def write_run_page(
+    settings: Settings,
+    status: int,
+    lines: KeptLines,
+    written: Written,
+    faults: Tuple[Sequence[Fault], int],
+    filed: Filed,
+) -> None:
+    """Write the page of a run over a report that has ended with status 0 or 1.
 
-    def __init__(self, settings: Settings, folder: str) -> None:
-        """Take a folder of the run, for a file of faults if no other is asked for."""
-        self.settings = settings
-        asked = next(settings.outputs(["--faults"]), None)
-        self.faults = asked or os.path.join(folder, f"{os.urandom(8).hex()}.csv")
-        self.words: List[str] = []
-        # Whether the lines of `--explain` go on to standard error, if there are some.
-        self.is_explained = settings.page is None or "--explain" in settings.rest
-        if settings.page is not None:
-            self.words += [] if asked else ["--faults", self.faults]
-            self.words += [] if self.is_explained else ["--explain"]
-
-    def write(self, status: int, lines: KeptLines, files: Files) -> None:
-        """Write the page of a run that has ended. At a status above 1 the file is unchanged."""
-        if self.settings.page is None or status > WRONG:
-            return
-        try:
-            found, count = faults_of(self.faults)
-        except (OSError, ValueError) as error:
-            raise Refusal(FILES, self.faults, f"cannot read ({error})") from None
-        said = {it._replace(place=lines.place(it.place)): lines.of(it) for it in found}
-        out = next(self.settings.outputs(["--out"]), "standard output")
-        content = Content(CONVERTED, self.settings.report, out, ["No fault was found."], count)
-        if status:
-            content = content._replace(word=REFUSED, document="", notes=notes_of(count))
-        tables = tables_of(files.merged.value, lines.folder, lines.names)
-        finish(self.settings, content, tables, list(said), said)
+    `faults` are the first ones, and how many the run has found.
+    """
+    found, count = faults
+    said = {fault._replace(place=lines.place(fault.place)): lines.of(fault) for fault in found}
+    out = next(settings.outputs(["--out"]), "standard output")
+    content = Content(CONVERTED, settings.report, out, ["No fault was found."], count, filed=filed)
+    if status:
+        content = content._replace(word=REFUSED, document="", notes=notes_of(count))
+    tables = tables_of(written.merged.value, lines.folder, lines.names)
+    finish(settings, content, tables, list(said), said)
 
 
 def notes_of(count: int) -> List[str]:
@@ -100,7 +91,7 @@ def write_refusal_page(settings: Settings, refusal: Refusal) -> None:
     why, file = printable(refusal.what), printable(refusal.file)
     items = [Item(Fault("", 0, 0, 0, NAME, "", "", why, file), "", (), None)]
     notes = ["The filing is refused before its tables are read."]
-    write_page(settings.page, page(Content(REFUSED, settings.report, "", notes, 1, items)))
+    write_marked(settings.page, PAGE, page(Content(REFUSED, settings.report, "", notes, 1, items)))
 
 
 def finish(
@@ -112,5 +103,5 @@ def finish(
 ) -> None:
     """Write the page of a run that has read its tables."""
     if settings.page is not None:
-        check_inputs(settings.page, [it.path for it in tables])
-        write_page(settings.page, page(filled(content, tables, faults, said)))
+        check_inputs(settings.page, [table.path for table in tables])
+        write_marked(settings.page, PAGE, page(filled(content, tables, faults, said)))

@@ -26,7 +26,7 @@ def cut(text: str, most: int) -> str:
 
 def plain(text: str, most: int) -> str:
     """Return a text for a title or an attribute."""
-    return escape("".join(it for it, _ in seen(cut(text, most))))
+    return escape("".join(letter for letter, _ in seen(cut(text, most))))
 
 
 def markup(text: str, most: int) -> str:
@@ -34,7 +34,7 @@ def markup(text: str, most: int) -> str:
     short = cut(text, most)
     if PLAIN.fullmatch(short):
         return escape(short)
-    parts = (f"<i>{it}</i>" if is_code else escape(it) for it, is_code in seen(short))
+    parts = (f"<i>{letter}</i>" if is_code else escape(letter) for letter, is_code in seen(short))
     return f"<bdi>{''.join(parts)}</bdi>"
 
 
@@ -51,7 +51,7 @@ def is_hidden(letter: str) -> bool:
     """Return whether a letter prints as nothing, or is a control or a broken byte."""
     if not letter.isprintable() or letter in BLANK:
         return True
-    return any(ord(letter) in it for it in SELECTORS)
+    return any(ord(letter) in selectors for selectors in SELECTORS)
 
 
 def code(letter: str) -> str:

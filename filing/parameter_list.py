@@ -5,9 +5,16 @@ from __future__ import annotations
 from typing import Dict, Iterator, List, Set, Tuple
 
 from .csv_text import record
-from .metadata import Merged, Path, objects
+from .metadata import Merged, Path, levels, objects
+from .named import references_of
 from .origins import Origins
-from .parameters import ROW_NUMBER, columns_of, parameters_of_file, parameters_of_metadata, placed_references, template_without
+from .parameters import (
+    ROW_NUMBER,
+    columns_of,
+    parameters_of_file,
+    parameters_of_metadata,
+    template_without,
+)
 from .prepared import Files
 
 HEADER = "parameter", "value", "file", "references", "first reference"
@@ -39,10 +46,12 @@ def references_by_name(merged: Merged, given: Set[str]) -> Dict[str, List[Path]]
     """
     columns = {name: columns_of(template) for name, template in objects(merged.value, "tableTemplates")}
     places: Dict[str, List[Path]] = {}
-    for name, path in placed_references(merged):
-        owner = path[1] if path[0] == "tableTemplates" else None
-        if name != ROW_NUMBER and name in given or template_without(name, owner, columns) is not None:
-            places.setdefault(name, []).append(path)
+    for at, level in levels(merged.value):
+        owner = at[1] if at else None
+        for name, path in references_of(at, level):
+            is_given = name != ROW_NUMBER and name in given
+            if is_given or template_without(name, owner, columns) is not None:
+                places.setdefault(name, []).append(path)
     return places
 
 

@@ -11,7 +11,7 @@ import io
 from itertools import islice
 from typing import Dict, Iterator, List, Optional, Tuple
 
-from .metadata import Merged, Path, levels, objects
+from .metadata import Merged, objects
 from .named import Places, reference
 from .packages import LARGEST_TEXT
 from .prefixes import Renaming
@@ -96,16 +96,16 @@ def takes_from_report(template: Object, key: str) -> bool:
     It does if neither it, nor its property groups, nor the template has the dimension.
     """
     columns = dict(objects(template, "columns"))
-    facts = [it for it in columns.values() if "dimensions" in it and member(it, "dimensions", key) is None]
-    return member(template, "dimensions", key) is None and not all(groups_give(it, columns, key) for it in facts)
+    facts = [column for column in columns.values() if "dimensions" in column and member(column, "dimensions", key) is None]
+    return member(template, "dimensions", key) is None and not all(groups_give(column, columns, key) for column in facts)
 
 
 def groups_give(column: Object, columns: Object, key: str) -> bool:
     """Return whether a column takes property groups that all give a dimension."""
     places = column.get("propertiesFrom")
-    givers = [columns.get(it, {}) for it in places if isinstance(it, str)] if isinstance(places, list) else []
-    groups = [[member(group, "dimensions", key) for _, group in objects(it, "propertyGroups")] for it in givers]
-    return any(it and None not in it for it in groups)
+    givers = [columns.get(name, {}) for name in places if isinstance(name, str)] if isinstance(places, list) else []
+    groups = [[member(group, "dimensions", key) for _, group in objects(giver, "propertyGroups")] for giver in givers]
+    return any(level and None not in level for level in groups)
 
 
 def member(owner: Object, part: str, name: str) -> Json:
@@ -125,23 +125,7 @@ def template_without(name: str, owner: Optional[str], columns: Dict[str, Object]
     Then only a parameter can have the name. `owner` is the template that refers, or None for the
     report's own level, which all templates have.
     """
-    return None if name == ROW_NUMBER else next((it for it in (columns if owner is None else [owner]) if name not in columns[it]), None)
-
-
-def placed_references(merged: Merged) -> Iterator[Tuple[str, Path]]:
-    """Yield each name that `dimensions` and `decimals` refer to, and where.
-
-    It is the name of a column or a parameter.
-    """
-    for path, level in levels(merged.value):
-        dimensions = level.get("dimensions")
-        for key, text in dimensions.items() if isinstance(dimensions, dict) else ():
-            name = reference(key, text)
-            if name is not None:
-                yield name, (*path, "dimensions", key)
-        name = reference("decimals", level.get("decimals"))
-        if name is not None:
-            yield name, (*path, "decimals")
+    return None if name == ROW_NUMBER else next((template for template in (columns if owner is None else [owner]) if name not in columns[template]), None)
 
 
 def parameters_of_metadata(merged: Merged) -> Iterator[Tuple[str, str, str]]:
@@ -170,7 +154,7 @@ def is_faulty(files: Files) -> bool:
     That is another header, or a record that does not have two fields.
     """
     records = list(records_of_file(files))
-    return files.parameters is not None and (records[:1] != [["name", "value"]] or any(len(it) != 2 for it in records))
+    return files.parameters is not None and (records[:1] != [["name", "value"]] or any(len(record) != 2 for record in records))
 
 
 def records_of_file(files: Files) -> Iterator[List[str]]:
@@ -184,6 +168,6 @@ def records_of_file(files: Files) -> Iterator[List[str]]:
     csv.field_size_limit(LARGEST_TEXT)
     try:
         lines = io.TextIOWrapper(io.BytesIO(data), "utf-8-sig", "replace", newline="")
-        yield from islice((it for it in csv.reader(lines) if it), MOST_RECORDS + 1)
+        yield from islice((record for record in csv.reader(lines) if record), MOST_RECORDS + 1)
     except csv.Error:
         yield []

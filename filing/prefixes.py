@@ -25,7 +25,7 @@ def lost_prefixes(files: Iterable[Metadata]) -> Dict[str, str]:
     lost: Dict[str, str] = {}
     left: Set[str] = set()
     for metadata in files:
-        own = [it for it in metadata.info_part("namespaces").items() if isinstance(it[1], str)]
+        own = [pair for pair in metadata.info_part("namespaces").items() if isinstance(pair[1], str)]
         left.update(uri for uri, times in Counter(uri for _, uri in own).items() if times > 1)
         for prefix, uri in own:
             if first.setdefault(uri, prefix) != prefix:
@@ -48,11 +48,11 @@ class Renaming:
         return f"{self.lost[prefix]}:{rest}" if colon and prefix in self.lost else text
 
     def unit(self, text: str) -> str:
-        return MEASURE_PREFIX.sub(lambda it: self.lost.get(it[0], it[0]), text)
+        return MEASURE_PREFIX.sub(lambda found: self.lost.get(found[0], found[0]), text)
 
     def lost_in(self, text: str) -> Optional[str]:
         """Return a lost prefix that a text seems to need, as a name or as a unit."""
-        return next((it for it in MEASURE_PREFIX.findall(text) if it in self.lost), None)
+        return next((name for name in MEASURE_PREFIX.findall(text) if name in self.lost), None)
 
     def value(self, dimension: str, value: Json) -> Json:
         """Return a dimension's value. References and special values have no prefix to lose."""
@@ -83,11 +83,11 @@ class Renaming:
 
     def template(self, template: Json, label: str, where: str) -> Json:
         made = self.level(template, label, where)
-        return each(made, "columns", lambda name, it: self.column(it, label, f"{where}, column '{name}'"))
+        return each(made, "columns", lambda name, column: self.column(column, label, f"{where}, column '{name}'"))
 
     def column(self, column: Json, label: str, where: str) -> Json:
         made = self.level(column, label, where)
-        return each(made, "propertyGroups", lambda name, it: self.level(it, label, f"{where}, group '{name}'"))
+        return each(made, "propertyGroups", lambda name, group: self.level(group, label, f"{where}, group '{name}'"))
 
     def report(self, metadata: Metadata) -> Object:
         """Return the whole of a metadata file."""
@@ -96,7 +96,7 @@ class Renaming:
         label = metadata.label
         made: Object = self.level(metadata.value, label, "the report's dimensions")
         changed: Object = each(
-            made, "tableTemplates", lambda name, it: self.template(it, label, f"template '{name}'")
+            made, "tableTemplates", lambda name, template: self.template(template, label, f"template '{name}'")
         )
         return changed
 
@@ -105,4 +105,4 @@ def each(owner: Json, member: str, change: Callable[[str, Json], Json]) -> Any:
     """Return an object in which each value of one of its objects is changed."""
     if not isinstance(owner, dict) or not isinstance(owner.get(member), dict):
         return owner
-    return {**owner, member: {name: change(name, it) for name, it in owner[member].items()}}
+    return {**owner, member: {name: change(name, value) for name, value in owner[member].items()}}

@@ -11,11 +11,12 @@ import re
 import shutil
 import stat
 from contextlib import contextmanager
+from dataclasses import dataclass, replace
 from itertools import groupby
-from typing import Any, Dict, Iterable, Iterator, List, Optional, Set
+from typing import Dict, FrozenSet, Iterable, Iterator, List, NamedTuple, Optional, Tuple
 
 from .finding import Found
-from .metadata import Merged, objects, prune
+from .metadata import Merged, objects
 from .packages import Package, mode_of, pieces_of_disk
 from .refusals import cannot_read, cannot_write, wrong
 from .report import REPORTS, reports_in
@@ -41,23 +42,36 @@ def is_csv(path: str) -> bool:
     These are `._t.csv`, `.ipynb_checkpoints`, `__MACOSX`, and `~$t.csv` while Excel has a file
     open.
     """
-    left = (it.startswith((".", "~$")) or it == "__MACOSX" for it in path.split("/"))
+    left = (part.startswith((".", "~$")) or part == "__MACOSX" for part in path.split("/"))
     return path.lower().endswith(".csv") and not any(left)
 
 
+@dataclass(frozen=True)
 class Files:
     """The tables and the parameters file of a report, by the URLs of the merged metadata."""
 
-    def __init__(self, report: Found, merged: Merged) -> None:
-        self.package: Package = report.package
-        self.report = report.label
-        self.folder = report.name[: report.name.rfind("/") + 1]
-        self.merged = merged
-        tables = merged.value.get("tables", {}).values()
-        self.tables: Set[str] = {it["url"] for it in tables if isinstance(it, dict) and is_plain(it.get("url"))}
+    package: Package
+    report: str  # how lines name the report's own file
+    folder: str
+    merged: Merged
+    tables: FrozenSet[str]  # also those without a file
+    parameters: Optional[str]
+    left_out: Tuple[Tuple[str, str], ...] = ()  # optional tables without a file, and their URLs
+
+    @staticmethod
+    def of(report: Found, merged: Merged) -> Files:
+        """Return the files that the merged metadata of a report names."""
+        tables = objects(merged.value, "tables")
+        urls = frozenset(table["url"] for _, table in tables if is_plain(table.get("url")))
         parameters = merged.value.get("parameterURL")
-        self.parameters: Optional[str] = parameters if is_plain(parameters) else None
-        self.unitless: List[str] = []  # monetary concepts whose facts have no unit
+        return Files(
+            package=report.package,
+            report=report.label,
+            folder=report.name[: report.name.rfind("/") + 1],
+            merged=merged,
+            tables=urls,
+            parameters=parameters if is_plain(parameters) else None,
+        )
 
     def all(self) -> List[str]:
         return sorted(self.tables | ({self.parameters} if self.parameters is not None else set()))
@@ -89,34 +103,37 @@ class Files:
         is left to xbrl-json.
         """
         tables = self.merged.value.get("tables", {}).values()
-        urls = [it.get("url") if isinstance(it, dict) else None for it in tables]
+        urls = [table.get("url") if isinstance(table, dict) else None for table in tables]
         if not all(map(is_plain, urls)) or (self.parameters is None and "parameterURL" in self.merged.value):
             return
         name = next(self.unread(), None)
-        if name is None or any(self.package.children(self.name(it)) != ([], []) for it in self.all()):
+        if name is None or any(self.package.children(self.name(url)) != ([], []) for url in self.all()):
             return
         if name.startswith(self.folder):
             raise wrong(self.package.shown(name), "is not read: no table of the joined metadata has this url (names are compared exactly)")
         raise wrong(self.package.shown(name), f"is not read: it stands above '{self.folder[:-1]}', the folder of the report, in which tables are looked for")
 
-    def leave_out_absent(self) -> None:
-        """Leave out optional tables without a file, and the templates that only they use.
+    def without_absent(self) -> Files:
+        """Return the same without optional tables that have no file.
 
         They give no facts, so their metadata costs nothing then, and a slip in it does not stop a
-        filing that has no such table.
+        filing that has no such table. The templates that only they use are left out too.
         """
-        tables = self.merged.value.get("tables", {})
-        for name, table in list(objects(self.merged.value, "tables")):
+        absent = {}
+        for name, table in objects(self.merged.value, "tables"):
             url: Json = table.get("url")
             if table.get("optional") is True and is_plain(url) and self.is_absent(url):
-                del tables[name]
-        prune(self.merged)
+                absent[name] = url
+        if not absent:
+            return self
+        merged = self.merged.without_tables(absent)
+        return replace(self, merged=merged, left_out=tuple(sorted(absent.items())))
 
     def is_absent(self, url: str) -> bool:
         """Return whether nothing is at a table's path, not even a folder."""
         name = self.name(url)
         folders = [name[:at] for at, letter in enumerate(name) if letter == "/"]
-        too_long = any(len(os.fsencode(it)) > LONGEST_NAME for it in name.split("/"))
+        too_long = any(len(os.fsencode(part)) > LONGEST_NAME for part in name.split("/"))
         if too_long or len(os.fsencode(name)) > LONGEST_PATH:
             return False  # xbrl-json refuses it, as the system does
         path = self.package.path_on_disk(name)
@@ -137,18 +154,18 @@ class Files:
 
         The files in and below the report's folder are first, then those above it.
         """
-        read = {self.package.identity(self.name(it)) for it in self.all()}
-        found = (it for it in self.package.files_below(self.folder) if is_csv(it[len(self.folder) :]) and self.package.has(it))
-        for folder, names in groupby((it for it in found if self.package.identity(it) not in read), self.part):
+        read = {self.package.identity(self.name(url)) for url in self.all()}
+        found = (name for name in self.package.files_below(self.folder) if is_csv(name[len(self.folder) :]) and self.package.has(name))
+        for folder, names in groupby((name for name in found if self.package.identity(name) not in read), self.part):
             if not self.is_of_another_report(folder):
                 yield from names
-        yield from (it for it in self.files_above() if is_csv(it) and self.package.has(it) and self.package.identity(it) not in read)
+        yield from (name for name in self.files_above() if is_csv(name) and self.package.has(name) and self.package.identity(name) not in read)
 
     def files_above(self) -> Iterator[str]:
         """Yield the files that are directly in a folder above the report's, from the root down."""
         folder = ""
         for below in self.folder.split("/")[:-1]:
-            yield from (folder + it for it in self.package.children(folder.rstrip("/"))[0])
+            yield from (folder + name for name in self.package.children(folder.rstrip("/"))[0])
             folder += below + "/"
 
     def part(self, name: str) -> str:
@@ -169,40 +186,38 @@ class Files:
     def new_names(self) -> Dict[str, str]:
         """Return a new name for each file that has the name of the metadata or the types table."""
         urls = self.all()
-        taken = {it.split("/")[0] for it in urls} | {META, TYPES}
+        taken = {url.split("/")[0] for url in urls} | {META, TYPES}
         names = {}
         for reserved in (META, TYPES):
             new = reserved
             while new in taken:
                 new = "filed-" + new
-            names.update({it: new + it[len(reserved) :] for it in urls if it.split("/")[0] == reserved})
+            names.update({url: new + url[len(reserved) :] for url in urls if url.split("/")[0] == reserved})
         return names
 
-    def rename(self, names: Dict[str, str]) -> None:
-        """Write the new names into the metadata."""
-        value: Dict[str, Any] = self.merged.value
-        for table in value.get("tables", {}).values():
-            if isinstance(table, dict) and isinstance(table.get("url"), str):
-                table["url"] = names.get(table["url"], table["url"])
-        if self.parameters is not None:
-            value["parameterURL"] = names.get(self.parameters, self.parameters)
+
+class Written(NamedTuple):
+    """What a folder was filled with: the metadata, and how lines name the files there."""
+
+    merged: Merged
+    names: Dict[str, str]
 
 
-def write_files(folder: str, files: Files, types: bytes, copy: bool) -> Dict[str, str]:
-    """Fill a folder, and return how lines name the files in it.
+def write_files(folder: str, files: Files, types: bytes, copy: bool) -> Written:
+    """Fill a folder.
 
     Files that are on the disk are linked; with `copy` they are copied.
     """
     names = files.new_names()
-    files.rename(names)
+    merged = files.merged.with_urls(names)
     shown: Dict[str, str] = {}
     for url in files.all():
         target, name = names.get(url, url), files.name(url)
         shown[target] = files.package.shown(name)
         put_file(os.path.join(folder, *target.split("/")), files.package, name, copy)
     fill(os.path.join(folder, TYPES), iter([types]))
-    fill(os.path.join(folder, META), iter([files.merged.text()]))
-    return shown
+    fill(os.path.join(folder, META), iter([merged.text()]))
+    return Written(merged, shown)
 
 
 def put_file(target: str, package: Package, name: str, copy: bool) -> None:
@@ -266,7 +281,7 @@ def move_into(folder: str, made: str) -> None:
             os.rename(os.path.join(made, name), os.path.join(folder, name))
             moved.append(name)
     except OSError as error:
-        remove_all(os.path.join(folder, it) for it in moved)
+        remove_all(os.path.join(folder, name) for name in moved)
         raise cannot_write(folder, error) from None
 
 

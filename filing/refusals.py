@@ -48,4 +48,4 @@ def escaped(text: str) -> str:
 
     So a line stays one line.
     """
-    return "".join(it if it.isprintable() else it.encode("unicode_escape").decode() for it in text)
+    return "".join(letter if letter.isprintable() else letter.encode("unicode_escape").decode() for letter in text)

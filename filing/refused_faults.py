@@ -37,7 +37,7 @@ def is_free(path: str, settings: Settings) -> bool:
     """Return whether a path is outside of all packages, and free or a file of faults."""
     place = os.path.realpath(path)
     inputs = (settings.report, *settings.taxonomy)
-    if any(stands_in(place, os.path.realpath(it)) for it in inputs):
+    if any(stands_in(place, os.path.realpath(path)) for path in inputs):
         return False
     try:
         mode = os.stat(place).st_mode

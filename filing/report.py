@@ -17,7 +17,7 @@ REPORTS = "reports/"
 PACKAGE_ENDINGS = (".zip", ".xbr", ".xbri")
 PACKAGE_FILE = "META-INF/reportPackage.json"
 TAXONOMY_FILE = "META-INF/taxonomyPackage.xml"
-PACKAGE_TYPES = ["https://xbrl.org/report-package/2023" + it for it in ("", "/xbr", "/xbri")]
+PACKAGE_TYPES = ["https://xbrl.org/report-package/2023" + ending for ending in ("", "/xbr", "/xbri")]
 
 
 def document_type(value: Json) -> object:
@@ -50,14 +50,14 @@ def find_report(package: Package) -> Found:
     """Return the one xBRL-CSV report of a package, in `reports` or else in the folders there."""
     check_package_file(package)
     passed: List[Tuple[str, object]] = []
-    levels = [[REPORTS], [f"{REPORTS}{it}/" for it in package.children("reports")[1]]]
+    levels = [[REPORTS], [f"{REPORTS}{folder}/" for folder in package.children("reports")[1]]]
     for folders in levels:
         found = [name for folder in folders for name in reports_in(package, folder, passed)]
         if len(found) > 1:
             raise wrong(package.label, f"has several xBRL-CSV reports: {', '.join(found)}")
         if found:
             return report_at(package, found[0])
-    broken = next((it for _, it in passed if isinstance(it, Refusal)), None)
+    broken = next((why for _, why in passed if isinstance(why, Refusal)), None)
     if broken:
         raise broken
     others = "".join(

@@ -11,7 +11,7 @@ from typing import Deque, Dict, List, NamedTuple, Optional, Set, Tuple
 from xml.parsers import expat
 
 from .finding import Finder, Found
-from .markup import A_REFERENCE, DEEPEST, XML_BASE, Content, Name, parse
+from .markup import A_REFERENCE, DEEPEST, LONGEST_URL, XML_BASE, Content, Name, parse
 from .progress import Progress
 from .refusals import wrong
 from .urls import Place, joined
@@ -21,10 +21,13 @@ LINK = "http://www.xbrl.org/2003/linkbase "
 HREF = "http://www.w3.org/1999/xlink href"
 ROLE = "http://www.w3.org/1999/xlink role"
 TYPED_DOMAIN = "http://xbrl.org/2005/xbrldt typedDomainRef"
+PERIOD_TYPE = "http://www.xbrl.org/2003/instance periodType"
+PERIODS = ("instant", "duration")
 
 SCHEMA, LINKBASE = XS + "schema", LINK + "linkbase"
 ELEMENT, INCLUDE = XS + "element", XS + "include"
-NAMED_TYPES = (XS + "complexType", XS + "simpleType")
+COMPLEX = XS + "complexType"
+NAMED_TYPES = (COMPLEX, XS + "simpleType")
 DERIVATIONS = (XS + "restriction", XS + "extension")
 WAY_TO_A_BASE = frozenset([*NAMED_TYPES, *DERIVATIONS, XS + "simpleContent", XS + "complexContent"])
 REDEFINITIONS = (XS + "redefine", XS + "override")
@@ -32,9 +35,9 @@ LINKBASE_REF = LINK + "linkbaseRef"
 FOLLOWED = {
     XS + "import": "schemaLocation",
     INCLUDE: "schemaLocation",
-    **{LINK + it: HREF for it in ("linkbaseRef", "loc", "roleRef", "arcroleRef")},
+    **{LINK + name: HREF for name in ("linkbaseRef", "loc", "roleRef", "arcroleRef")},
 }
-PASSED_OVER = frozenset(f"http://www.xbrl.org/2003/role/{it}LinkbaseRef" for it in ("label", "reference"))
+PASSED_OVER = frozenset(f"http://www.xbrl.org/2003/role/{role}LinkbaseRef" for role in ("label", "reference"))
 MOST_ENDED = 1 << 16  # elements of a linkbase that are counted together
 NCNAME = (
     "[A-Z_a-z\u00c0-\u00d6\u00d8-\u00f6\u00f8-\u02ff\u0370-\u037d\u037f-\u1fff\u200c\u200d\u2070-\u218f\u2c00-\u2fef\u3001-\ud7ff"
@@ -45,26 +48,31 @@ NCNAME = (
 
 
 class Element(NamedTuple):
-    """What a global element declares: its head, its type, whether it is abstract and typed.
+    """What a global element declares.
 
-    The type may be the base of the type inside of it.
+    The type may be the base of the type inside of it. `domain` is what a typed dimension refers to:
+    the base of the reference, and its text.
     """
 
     head: Optional[Name]
     type: Optional[Name]
     abstract: bool
-    typed: bool
+    period: str  # empty, or one of PERIODS
+    domain: Optional[Tuple[Place, str]]
 
 
 class Declared:
     """The global elements of all schemas, and the base of each global type.
 
-    The elements are by namespace and name.
+    The elements are by namespace and name. A namespace without an element has a schema too.
     """
 
     def __init__(self) -> None:
         self.elements: Dict[str, Dict[str, Element]] = {}
         self.types: Dict[Name, Optional[Name]] = {}
+        self.complex: Set[Name] = set()  # the types that are not simple
+        # The type of each element without a head, by schema and id; None if it is not simple.
+        self.domains: Dict[Place, Dict[str, Optional[Name]]] = {}
 
 
 class Reference(NamedTuple):
@@ -87,6 +95,7 @@ class TaxonomyFile(Content):
 
     def __init__(self, found: Found, adopts: str, reading: Reading) -> None:
         super().__init__(found.place, found.label)
+        self.place = found.place
         self.adopts = adopts
         self.reading = reading
         self.made: Optional[Referring] = None
@@ -143,9 +152,11 @@ class Referring(Content):
             return
         self.asked.add(key)
         self.started += A_REFERENCE
-        how = f"{name.rpartition(' ')[2]}, line {self.line()}"
         place = joined(self.base(), reference.strip())
-        self.reading.ask(Reference(place, self.label, how, self.adopts if includes else ""))
+        adopts = self.adopts if includes else ""
+        if self.reading.is_new(place, self.label, adopts):
+            how = f"{name.rpartition(' ')[2]}, line {self.line()}"
+            self.reading.waiting.append(Reference(place, self.label, how, adopts))
 
 
 class LinkbaseFile(Referring):
@@ -204,14 +215,17 @@ class SchemaFile(Referring):
     ) -> None:
         super().__init__(file, reading)
         self.declared, self.shared = reading.declared, reading.shared
+        self.place = file.place.known()
         own = attributes.get("targetNamespace", "").strip()
         self.has_namespace: bool = own != ""
         self.namespace = self.adopts = own or adopts
+        self.declared.elements.setdefault(self.namespace, {})
         # A global element or type whose content is still to come.
         self.open: Optional[Tuple[bool, str, Dict[str, str]]] = None
         # How many elements are open in it that are not on the way to its base.
         self.astray = 0
         self.derived_from: Optional[Name] = None
+        self.is_complex = False  # whether it is, or has, a complex type
         self.is_ncname = re.compile(NCNAME).fullmatch
         # By what the attributes say, while the prefixes in scope are the same.
         self.made: Dict[object, Element] = {}
@@ -250,6 +264,7 @@ class SchemaFile(Referring):
                 self.close()
         elif name in NAMED_TYPES:
             self.open = (False, self.ncname(attributes), attributes)
+            self.is_complex = name == COMPLEX
         elif name in REDEFINITIONS:
             raise wrong(self.label, f"has a '{name.rpartition(' ')[2]}', which is not taken (line {self.line()})")
 
@@ -258,6 +273,8 @@ class SchemaFile(Referring):
 
         Derivations of elements further inside do not count.
         """
+        if name == COMPLEX and not self.astray:
+            self.is_complex = True
         if name not in WAY_TO_A_BASE:
             self.astray += 1
         elif name in DERIVATIONS and self.derived_from is None and not self.astray and "base" in attributes:
@@ -271,12 +288,18 @@ class SchemaFile(Referring):
         assert self.open is not None
         is_element, name, attributes = self.open
         if is_element:
-            elements = self.declared.elements.setdefault(self.namespace, {})
-            if name not in elements:
-                elements[name] = self.element(attributes)
-        else:
-            self.declared.types.setdefault((self.namespace, name), self.derived_from)
+            element = self.element(attributes)
+            self.declared.elements[self.namespace].setdefault(name, element)
+            if "id" in attributes and element.head is None:
+                domains = self.declared.domains.setdefault(self.place, {})
+                kind = None if self.is_complex else element.type
+                domains.setdefault(attributes["id"].strip(), kind)
+        elif (self.namespace, name) not in self.declared.types:
+            self.declared.types[self.namespace, name] = self.derived_from
+            if self.is_complex:
+                self.declared.complex.add((self.namespace, name))
         self.open = self.derived_from = None
+        self.is_complex = False
 
     def element(self, attributes: Dict[str, str]) -> Element:
         """Return what an element declares.
@@ -284,17 +307,30 @@ class SchemaFile(Referring):
         Equal ones share one tuple, so that a large taxonomy takes little memory.
         """
         head, type_name, abstract = attributes.get("substitutionGroup"), attributes.get("type"), attributes.get("abstract")
-        key = (head, type_name, abstract, self.derived_from, TYPED_DOMAIN in attributes, self.declarations)
+        period, domain = attributes.get(PERIOD_TYPE, "").strip(), self.domain(attributes)
+        key = (head, type_name, abstract, self.derived_from, period, domain, self.declarations)
         made = self.made.get(key)
         if made is None:
             made = Element(
                 None if head is None else self.name(head, self.adopted()),
                 self.derived_from if type_name is None else self.name(type_name, self.adopted()),
                 (abstract or "").strip() in ("true", "1"),
-                TYPED_DOMAIN in attributes,
+                period if period in PERIODS else "",
+                domain,
             )
             made = self.made[key] = self.shared.setdefault(made, made)
         return made
+
+    def domain(self, attributes: Dict[str, str]) -> Optional[Tuple[Place, str]]:
+        """Return what a typed dimension refers to (Dimensions 1.0, section 2.5.2.1).
+
+        It is joined to its base later, because bases may be long.
+        """
+        reference = attributes.get(TYPED_DOMAIN)
+        if reference is None:
+            return None
+        self.started += A_REFERENCE
+        return self.base(), reference.strip()[: LONGEST_URL + 1]
 
     def adopted(self) -> str:
         """Return the namespace of unprefixed names.
@@ -321,13 +357,14 @@ class Reading:
         self.asked: Set[Tuple[Place, str]] = set()
         self.with_namespace: Set[Place] = set()
 
-    def ask(self, reference: Reference) -> None:
-        """Ask for a file, unless it was asked for before in the same way."""
-        key = (reference.place.known(), reference.adopts)
-        if key not in self.asked:
-            self.asked.add(key)
-            self.finder.count(reference.place, reference.asker)
-            self.waiting.append(reference)
+    def is_new(self, place: Place, asker: str, adopts: str) -> bool:
+        """Count a file that is asked for, unless it was asked for before in the same way."""
+        key = (place.known(), adopts)
+        if key in self.asked:
+            return False
+        self.asked.add(key)
+        self.finder.count(place, asker)
+        return True
 
     def read(self, reference: Reference, progress: Progress) -> None:
         """Read a file, unless it was read before and adopts no namespace."""
@@ -347,7 +384,8 @@ def read_schemas(entries: List[Reference], finder: Finder, progress: Progress) -
     """Read all schemas and linkbases that the entry points reach, in the order of their finding."""
     reading = Reading(finder)
     for entry in entries:
-        reading.ask(entry)
+        if reading.is_new(entry.place, entry.asker, entry.adopts):
+            reading.waiting.append(entry)
     while reading.waiting:
         reading.read(reading.waiting.popleft(), progress)
     return reading.declared

@@ -41,15 +41,15 @@ class Stopping:
 
     def heed(self) -> None:
         """Begin to take signals, but not those that the caller ignores."""
-        for it in SIGNALS:
-            if signal.getsignal(it) not in (signal.SIG_IGN, None):
-                signal.signal(it, lambda number, _: self.ask(number))
+        for taken in SIGNALS:
+            if signal.getsignal(taken) not in (signal.SIG_IGN, None):
+                signal.signal(taken, lambda number, _: self.ask(number))
 
     def heed_no_more(self) -> None:
         """Leave signals to the system, once nothing is left that must be removed."""
-        for it in SIGNALS:
-            if signal.getsignal(it) not in (signal.SIG_IGN, None):
-                signal.signal(it, signal.SIG_DFL)
+        for number in SIGNALS:
+            if signal.getsignal(number) not in (signal.SIG_IGN, None):
+                signal.signal(number, signal.SIG_DFL)
 
     def ask(self, number: int) -> None:
         self.asked = self.asked or number
@@ -138,9 +138,9 @@ def listen(child: subprocess.Popen[bytes], reader: int, hear: Optional[Hear]) ->
     ended = False
     while not ended:
         ended = child.poll() is not None  # before it is listened to, so that nothing is missed
-        for it in select.select([reader, *said], [], [], 0 if ended else LONGEST_WAIT)[0]:
-            piece = os.read(it, PIECE)
-            if it != reader and hear:
+        for ready in select.select([reader, *said], [], [], 0 if ended else LONGEST_WAIT)[0]:
+            piece = os.read(ready, PIECE)
+            if ready != reader and hear:
                 ended = False
                 hear(piece)
                 said = said if piece else []

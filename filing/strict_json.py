@@ -53,11 +53,11 @@ class Text:
     are left out of the count.
     """
 
-    def __init__(self, label: str) -> None:
+    def __init__(self, label: str, before: int = 0) -> None:
         self.label = label
         self.data = bytearray()
-        self.most = 0  # as many values the text has at most
-        self.values = 0  # as many it has at least, in the part that was looked at
+        self.most = before  # as many values the text has at most, with those before it
+        self.values = before  # as many it has at least, in the part that was looked at
         self.looked_at = 0
         self.in_text = False
 
@@ -100,7 +100,8 @@ def read_json(pieces: Iterable[bytes], label: str, values: Optional[Values] = No
     Refuse what is not JSON for xbrl-json, a repeated key, and a text of too many values, alone or
     with the files that `values` has counted.
     """
-    text = Text(label)
+    values = values or Values()
+    text = Text(label, values.count)
     for piece in pieces:
         text.add(piece)
     has_surrogates = bool(SURROGATE.search(text.data))
@@ -125,7 +126,7 @@ def read_json(pieces: Iterable[bytes], label: str, values: Optional[Values] = No
         raise wrong(label, f"is nested more than {DEEPEST} levels deep")
     if repeated:
         raise RepeatedKey(label, repeated[0])
-    (values or Values()).add(count, label)
+    values.add(count, label)
     return value
 
 
@@ -185,8 +186,8 @@ def measured(value: Json) -> Tuple[int, int]:
     while level:
         depth += 1
         count += sum(map(len, level))
-        inner = (it.values() if isinstance(it, dict) else it for it in level)
-        level = [it for values in inner for it in values if isinstance(it, (dict, list))]
+        inner = (value.values() if isinstance(value, dict) else value for value in level)
+        level = [value for values in inner for value in values if isinstance(value, (dict, list))]
     return depth, count
 
 

@@ -6,6 +6,7 @@
 from __future__ import annotations
 
 import re
+from functools import lru_cache
 from typing import List, NamedTuple, Optional, Tuple
 from urllib.parse import unquote
 
@@ -15,7 +16,10 @@ PARTS = re.compile(r"(?:([A-Za-z][A-Za-z0-9+.-]*):)?(?://([^/?#]*))?([^?#]*)(\?[
 
 ESCAPE = re.compile(r"%([0-9A-Fa-f]{2})")
 UNRESERVED = frozenset("ABCDEFGHIJKLMNOPQRSTUVWXYZabcdefghijklmnopqrstuvwxyz0123456789-._~")
-NORMAL = re.compile(r"https?://[a-z0-9.-]+/[^%?#]*")  # what most URLs are, if no segment is a dot
+NORMAL = re.compile(r"https?://[a-z0-9.-]+/")  # how most URLs begin that are normal already
+# A reference to a file in the same folder or below it, as most are.
+PLAIN = re.compile(r"[A-Za-z0-9_~-][A-Za-z0-9._~-]*(?:/[A-Za-z0-9_~-][A-Za-z0-9._~-]*)*")
+MOST_FOLDERS = 64  # of the last bases, whose parts are kept
 DEFAULT_PORTS = {"http": ":80", "https": ":443"}
 
 
@@ -51,7 +55,7 @@ class Place(NamedTuple):
         Percent signs are decoded, and empty or `.` segments between others left out.
         """
         *folders, name = decoded(self.text).split("/")
-        kept = [it for at, it in enumerate(folders) if it not in ("", ".") or it == "" and at == 0]
+        kept = [folder for at, folder in enumerate(folders) if folder not in ("", ".") or folder == "" and at == 0]
         return "/".join([*kept, name])
 
 
@@ -72,7 +76,7 @@ def normal(url: str) -> str:
     if it needs none, and `.` segments are removed. A `..` that is written with escapes stays, so
     that the catalogs refuse it.
     """
-    if NORMAL.fullmatch(url) and "/." not in url:
+    if is_plainly_normal(url):
         return url
     scheme, host, path, query = parts(url)
     if scheme is None or host is None or "#" in url:
@@ -82,6 +86,11 @@ def normal(url: str) -> str:
     host = host.lower().removesuffix(DEFAULT_PORTS.get(scheme, "\0")) if path else host.lower()
     path = "/".join(map(normal_segment, path.split("/")))
     return f"{scheme}://{user}{at}{host}{without_dots(path)}{query}"
+
+
+def is_plainly_normal(url: str) -> bool:
+    """Return whether a URL is seen at a glance to be in its normal form, as most are."""
+    return bool(NORMAL.match(url)) and not ("%" in url or "?" in url or "#" in url or "/." in url)
 
 
 def normal_segment(segment: str) -> str:
@@ -125,11 +134,14 @@ def without_dots(path: str) -> str:
 
 def joined(base: Place, reference: str) -> Place:
     """Return the place that a reference names in a file at `base` (RFC 3986, section 5.2)."""
+    if PLAIN.fullmatch(reference):
+        return Place(folder_of(base) + reference, base.local)
+    if is_plainly_normal(reference):
+        return Place(reference)
     scheme, host, path, query = parts(reference)
     if scheme is not None:
         return Place(f"{scheme}:{'' if host is None else '//' + host}{without_dots(path)}{query}")
-    base_scheme, base_host, base_path, base_query = (None, None, base.text, "") if base.local else parts(base.text)
-    front = "" if base_scheme is None else base_scheme + ":"
+    front, base_host, base_path, base_query = parts_of_base(base)
     if host is not None:
         return Place(f"{front}//{host}{without_dots(path)}{query}")
     if base_host is not None:
@@ -137,6 +149,27 @@ def joined(base: Place, reference: str) -> Place:
     if path == "":
         return Place(f"{front}{base_path}{query or base_query}", base.local)
     if not path.startswith("/"):
-        folder = base_path[: base_path.rfind("/") + 1]
-        path = ("/" if base_host and not base_path else folder) + path
+        path = folder_in(base_host, base_path) + path
     return Place(f"{front}{without_dots(path)}{query}", base.local)
+
+
+@lru_cache(MOST_FOLDERS)
+def parts_of_base(base: Place) -> Tuple[str, Optional[str], str, str]:
+    """Return the scheme of a base with its colon, and its authority, path and query."""
+    if base.local:
+        return "", None, base.text, ""
+    scheme, host, path, query = parts(base.text)
+    return "" if scheme is None else scheme + ":", host, path, query
+
+
+def folder_in(host: Optional[str], path: str) -> str:
+    """Return the part of a base's path before its last name (RFC 3986, section 5.2.3)."""
+    return "/" if host and not path else path[: path.rfind("/") + 1]
+
+
+@lru_cache(MOST_FOLDERS)
+def folder_of(base: Place) -> str:
+    """Return the text to which a plain reference in a file at `base` is added."""
+    front, host, path, _ = parts_of_base(base)
+    authority = "" if host is None else "//" + host
+    return front + authority + without_dots(folder_in(host, path))

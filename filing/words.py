@@ -2,7 +2,9 @@
 
 from __future__ import annotations
 
-from typing import Iterator, List, Optional, Sequence, Set
+from argparse import Action, ArgumentError, ArgumentParser, Namespace
+from dataclasses import dataclass
+from typing import Any, FrozenSet, Iterator, List, Optional, Sequence, Set, Tuple
 
 from .refusals import WORDS, Refusal
 from .zip_entries import DEFAULT_LIMIT
@@ -37,6 +39,9 @@ REPORT                  a report package (a ZIP or an unpacked folder), or a
 --page FILE             write a page for a browser: the outcome, the tables, and
                         each fault with the rows round it; with --into, FILE
                         lists the reports, and each has NAME.html
+--summary FILE          write what was filed as JSON: rows and facts by table,
+                        what has no unit, parameters, digests; with --into, FILE
+                        has all reports, and each has NAME.summary.json
 --cache FOLDER          keep there what was read from the taxonomy, for the
                         next filing of it
 --unpacked-limit BYTES  how much one ZIP may unpack to ({DEFAULT_LIMIT})
@@ -53,7 +58,8 @@ REPORT                  a report package (a ZIP or an unpacked folder), or a
 -V, --version           print the version of xbrl-json
 
 All other options go to xbrl-json: --out FILE, --whole, --workers N, --ring K,
---layout LAYOUT, --explain, --faults FILE, --progress (see `xbrl-json --help`).
+--layout LAYOUT, --explain, --no-explain, --faults FILE, --counts FILE,
+--progress (see `xbrl-json --help`).
 Nothing is ever downloaded: a URL that no package has is an error. Inputs are
 not changed.
 
@@ -64,38 +70,41 @@ reports are to be tried again, by the same command. The variable XBRL_JSON may
 name another xbrl-json.
 """
 # The options of xbrl-json.
-OUTPUTS = ("--out", "--faults")
+OUTPUTS = ("--out", "--faults", "--counts")
 WITH_VALUE = (*OUTPUTS, "--workers", "--ring", "--layout")
-WITHOUT_VALUE = ("--progress", "--explain", "--whole")
-OWN_WITH_VALUE = ("--prepare", "--cache", "--types", "--page", "--unpacked-limit")
+WITHOUT_VALUE = ("--progress", "--explain", "--no-explain", "--whole")
+TAXONOMY, LIMIT = "--taxonomy", "--unpacked-limit"
+OWN_WITH_VALUE = ("--prepare", "--cache", "--types", "--page", "--summary")
 OWN_WITHOUT_VALUE = ("--parameters", "--every-fault")
 # The options that are each a run of its own, in which nothing is converted.
 RUNS = ("--prepare", "--parameters", "--every-fault")
 # What means nothing with --types: it is of packages.
-OF_PACKAGES = ("--taxonomy", "--cache", "--unpacked-limit")
+OF_PACKAGES = (TAXONOMY, "--cache", LIMIT)
 # The options that ask for something instead of a run, and what.
 ASKING = {"-h": "--help", "--help": "--help", "-V": "--version", "--version": "--version"}
+HIDDEN = "\0"  # before a word that argparse must not take as an option; no word has it
 
 
+@dataclass(frozen=True)
 class Settings:
     """The options of the command line. `rest` goes to xbrl-json unchanged."""
 
-    def __init__(self) -> None:
-        self.report = ""
-        self.taxonomy: List[str] = []
-        self.prepare: Optional[str] = None
-        self.parameters = False
-        self.every_fault = False
-        self.types: Optional[str] = None
-        self.cache: Optional[str] = None
-        self.page: Optional[str] = None
-        self.limit = DEFAULT_LIMIT
-        self.rest: List[str] = []
-        self.given: Set[str] = set()  # the options of this program that are given
+    report: str = ""
+    taxonomy: Tuple[str, ...] = ()
+    prepare: Optional[str] = None
+    parameters: bool = False
+    every_fault: bool = False
+    types: Optional[str] = None
+    cache: Optional[str] = None
+    page: Optional[str] = None
+    summary: Optional[str] = None
+    limit: int = DEFAULT_LIMIT
+    rest: Tuple[str, ...] = ()
+    given: FrozenSet[str] = frozenset()  # the options of this program that are given
 
     def outputs(self, names: Sequence[str] = OUTPUTS) -> Iterator[str]:
         """Yield the files that xbrl-json is told to write, by these options."""
-        for word, after in zip(self.rest, self.rest[1:] + [""]):
+        for word, after in zip(self.rest, (*self.rest[1:], "")):
             name, equals, value = word.partition("=")
             output = value if equals else after
             if name in names and output:
@@ -103,6 +112,7 @@ class Settings:
 
 
 def misuse(what: str) -> Refusal:
+    """Return the refusal of a command line."""
     return Refusal(WORDS, "", f"{what}; try --help")
 
 
@@ -115,89 +125,193 @@ def asked(words: List[str]) -> Optional[str]:
     for word in left:
         if word in ASKING:
             return ASKING[word]
-        if word in WITH_VALUE or word in OWN_WITH_VALUE:
+        if word in WITH_VALUE or word in OWN_WITH_VALUE or word == LIMIT:
             next(left, None)
     return None
 
 
-def read_words(words: List[str]) -> Settings:
-    """Return the settings of a command line. Refuse a wrong one with status 2."""
-    settings = Settings()
-    at = 0
-    while at < len(words):
-        name, equals, value = words[at].partition("=")
-        at += 1
-        if name in ("--taxonomy", *OWN_WITH_VALUE, *OWN_WITHOUT_VALUE):
-            settings.given.add(name)
-        if name == "--taxonomy":
-            packages = [value] if equals else []
-            while at < len(words) and not words[at].startswith("--"):
-                packages.append(words[at])
-                at += 1
-            if "" in packages or not packages:
-                raise misuse("--taxonomy names no package")
-            settings.taxonomy += packages
-        elif name in OWN_WITHOUT_VALUE:
-            if equals:
-                raise misuse(f"{name} has no value")
-            setattr(settings, name[2:].replace("-", "_"), True)
-        elif name in OWN_WITH_VALUE:
-            if not equals:
-                value = words[at] if at < len(words) and not words[at].startswith("--") and words[at] not in ASKING else ""
-                at += 1
-            take_own(settings, name, value)
-        elif name.startswith("--"):
-            at = take_other(settings, words, at)
-        elif settings.report or not words[at - 1]:
-            raise misuse(f"'{words[at - 1]}' is one word too many")
-        else:
-            settings.report = words[at - 1]
-    return checked(settings)
+class Parser(ArgumentParser):
+    """Reads words of which only some are its own.
 
-
-def take_own(settings: Settings, name: str, value: str) -> None:
-    """Take an option of this program."""
-    if value == "":
-        raise misuse(f"{name} needs a value")
-    if name == "--unpacked-limit":
-        if not (value.isascii() and value.isdigit() and len(value) < 20):
-            raise misuse(f"--unpacked-limit is a number of bytes, and '{value}' is none")
-        settings.limit = int(value)
-        return
-    if getattr(settings, name[2:]) is not None:
-        raise misuse(f"{name} stands twice")
-    setattr(settings, name[2:], value)
-
-
-def take_other(settings: Settings, words: List[str], at: int) -> int:
-    """Take an option of xbrl-json, and the next word if that is its value.
-
-    An option that is not known may have a value, once there is a REPORT.
+    The others are given back in their order. A word with one hyphen is a plain word here.
     """
-    word = words[at - 1]
-    settings.rest.append(word)
-    plain = at < len(words) and not words[at].startswith("--")
-    may_have_one = bool(settings.report) and word not in WITHOUT_VALUE and "=" not in word
-    if at < len(words) and (word in WITH_VALUE or (plain and may_have_one)):
-        settings.rest.append(words[at])
-        at += 1
-    return at
+
+    def __init__(self, with_value: Sequence[str] = ()) -> None:
+        """Take the options of others that are left together with the next word."""
+        super().__init__("xbrl-filing", add_help=False, allow_abbrev=False, exit_on_error=False)
+        self.own: Set[str] = set()
+        self.with_value = with_value
+
+    def option(self, name: str, **more: Any) -> None:
+        """Add an option of its own."""
+        self.own.add(name)
+        self.add_argument(name, **more)
+
+    def read(self, words: Sequence[str]) -> Tuple[Namespace, List[List[str]]]:
+        """Return the values of its options, and the words that are left."""
+        given: List[List[str]] = []  # the words of others, which argparse gets as numbers
+        coded: List[str] = []
+        waiting = list(words)[::-1]
+        while waiting:
+            word = waiting.pop()
+            name, equals, value = word.partition("=")
+            if not word.startswith("--"):
+                coded.append(HIDDEN + word if word.startswith("-") else word)
+            elif name in self.own:
+                has_more = name == TAXONOMY and equals  # more packages may follow
+                coded += [name, HIDDEN + value] if has_more else [word]
+            else:
+                coded.append(f"--{HIDDEN}{len(given)}")
+                has_value = bool(waiting) and word in self.with_value
+                given.append([word, waiting.pop()] if has_value else [word])
+        try:
+            found, left = self.parse_known_args(coded)
+        except ArgumentError as error:  # all options take words as they come, so it has a value
+            raise misuse(f"{error.argument_name} has no value") from None
+        front = f"--{HIDDEN}"
+        return found, [
+            given[int(word[len(front) :])] if word.startswith(front) else [shown(word)] for word in left
+        ]
+
+
+def shown(word: str) -> str:
+    """Return a word as it was given."""
+    return word.replace(HIDDEN, "")
+
+
+class Once(Action):
+    """Takes the value of an option, which is given once at most."""
+
+    twice = "{} stands twice"
+
+    def __call__(
+        self,
+        parser: ArgumentParser,
+        namespace: Namespace,
+        values: Any,
+        option_string: Optional[str] = None,
+    ) -> None:
+        """Take a value. Without one it is the empty text."""
+        value, name = shown(values or ""), str(option_string)
+        if value == "" or value in ASKING:
+            raise misuse(f"{name} needs a value")
+        if getattr(namespace, self.dest) is not None:
+            raise misuse(self.twice.format(name))
+        setattr(namespace, self.dest, value)
+
+
+class Packages(Action):
+    """Takes the packages of one --taxonomy."""
+
+    def __call__(
+        self,
+        parser: ArgumentParser,
+        namespace: Namespace,
+        values: Any,
+        option_string: Optional[str] = None,
+    ) -> None:
+        """Add the packages to those of the options before."""
+        packages = list(map(shown, values or ()))
+        if not packages or "" in packages:
+            raise misuse(f"{TAXONOMY} names no package")
+        namespace.taxonomy = [*(namespace.taxonomy or ()), *packages]
+
+
+class Limit(Action):
+    """Takes a number of bytes. The last one counts."""
+
+    def __call__(
+        self,
+        parser: ArgumentParser,
+        namespace: Namespace,
+        values: Any,
+        option_string: Optional[str] = None,
+    ) -> None:
+        """Take a value. Without one it is the empty text."""
+        value = shown(values or "")
+        if value == "" or value in ASKING:
+            raise misuse(f"{LIMIT} needs a value")
+        if not (value.isascii() and value.isdigit() and len(value) < 20):
+            raise misuse(f"{LIMIT} is a number of bytes, and '{value}' is none")
+        namespace.limit = int(value)
+
+
+def parser_of_words() -> Parser:
+    """Return what reads the command line of one report."""
+    parser = Parser(WITH_VALUE)
+    parser.add_argument("report", nargs="?")
+    parser.option(TAXONOMY, nargs="*", action=Packages)
+    for name in OWN_WITH_VALUE:
+        parser.option(name, nargs="?", action=Once)
+    for name in OWN_WITHOUT_VALUE:
+        parser.option(name, action="store_true", default=None)
+    parser.option(LIMIT, nargs="?", dest="limit", action=Limit)
+    return parser
+
+
+def read_words(words: Sequence[str]) -> Settings:
+    """Return the settings of a command line. Refuse a wrong one with status 2."""
+    found, left = parser_of_words().read(words)
+    if found.report == "":
+        raise misuse("'' is one word too many")
+    refuse_more(left)
+    own = (TAXONOMY, LIMIT, *OWN_WITH_VALUE, *OWN_WITHOUT_VALUE)
+    given = frozenset(name for name in own if getattr(found, dest_of(name)) is not None)
+    return checked(
+        Settings(
+            report=shown(found.report or ""),
+            taxonomy=tuple(found.taxonomy or ()),
+            prepare=found.prepare,
+            parameters=bool(found.parameters),
+            every_fault=bool(found.every_fault),
+            types=found.types,
+            cache=found.cache,
+            page=found.page,
+            summary=found.summary,
+            limit=DEFAULT_LIMIT if found.limit is None else found.limit,
+            rest=tuple(word for words in left for word in words),
+            given=given,
+        )
+    )
+
+
+def dest_of(name: str) -> str:
+    """Return the name under which argparse keeps an option."""
+    return "limit" if name == LIMIT else name[2:].replace("-", "_")
+
+
+def refuse_more(left: Sequence[Sequence[str]]) -> None:
+    """Refuse a second REPORT. An option that is not known may have a value."""
+    may_have_one = False
+    for word, *_ in left:
+        is_option = word.startswith("--")
+        if not is_option and not may_have_one:
+            raise misuse(f"'{word}' is one word too many")
+        known = word in WITHOUT_VALUE or word in WITH_VALUE
+        may_have_one = is_option and not known and "=" not in word
 
 
 def checked(settings: Settings) -> Settings:
+    """Return settings, but refuse options that mean nothing together."""
     if not settings.report:
-        raise misuse("there is no REPORT" + (": all words behind --taxonomy are packages, so it stands before" if settings.taxonomy else ""))
-    runs = [it for it in RUNS if it in settings.given]
+        order = ": all words behind --taxonomy are packages, so it stands before"
+        raise misuse(f"there is no REPORT{order if settings.taxonomy else ''}")
+    runs = [name for name in RUNS if name in settings.given]
     if len(runs) > 1:
         raise misuse(f"{runs[0]} and {runs[1]} stand together, and each is a run of its own")
     if settings.types is not None:
         if not settings.every_fault:
-            raise misuse("--types stands with --every-fault alone: else it is made from the taxonomy")
-        beside = next((it for it in OF_PACKAGES if it in settings.given), None)
+            why = "else it is made from the taxonomy"
+            raise misuse(f"--types stands with --every-fault alone: {why}")
+        beside = next((name for name in OF_PACKAGES if name in settings.given), None)
         if beside:
-            raise misuse(f"--types is of a report without packages, so {beside} means nothing")
-    if runs and settings.page is not None and not settings.every_fault:
-        raise misuse(f"with {runs[0]} nothing is converted, so '--page' means nothing")
-    if runs and settings.rest:
-        raise misuse(f"with {runs[0]} nothing is converted, so '{settings.rest[0]}' means nothing")
+            why = f"so {beside} means nothing"
+            raise misuse(f"--types is of a report without packages, {why}")
+    unused = list(settings.rest[:1])
+    if settings.page is not None and not settings.every_fault:
+        unused.insert(0, "--page")
+    if settings.summary is not None:
+        unused.insert(0, "--summary")
+    if runs and unused:
+        raise misuse(f"with {runs[0]} nothing is converted, so '{unused[0]}' means nothing")
     return settings

@@ -29,8 +29,9 @@ def checked_entries(
     unpacked = 0
     for entry in archive.infolist():
         # Newer Pythons take the second name from an extra field.
-        for given in (entry.orig_filename, entry.filename):
-            refuse(label, given, fault_of_name(given))
+        refuse(label, entry.orig_filename, fault_of_name(entry.orig_filename))
+        if entry.filename != entry.orig_filename:
+            refuse(label, entry.filename, fault_of_name(entry.filename))
         name = entry.filename.rstrip("/")
         refuse(label, entry.orig_filename, fault_of_entry(entry) or ("stands twice" if name in seen else None))
         seen.add(name)
@@ -103,7 +104,7 @@ class Listing:
     """
 
     def __init__(self, names: Iterable[str]) -> None:
-        self.names = sorted(it.replace("/", "\0") for it in names)
+        self.names = sorted(name.replace("/", "\0") for name in names)
 
     def children(self, folder: str) -> Tuple[List[str], List[str]]:
         """Return the names of the files and of the folders in a folder, in order."""

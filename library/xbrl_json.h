@@ -1,4 +1,4 @@
-/* xbrl_json.h: converts xBRL-CSV reports to xBRL-JSON. README.md in this folder has an example.
+/* xbrl_json.h: converts xBRL-CSV reports to xBRL-JSON. docs/MANUAL.md has a program that calls it.
  *
  * A report is a few files: the metadata file, the types table, the tables, and the parameters file
  * if the metadata names one. You give them in memory, each with its path. No function opens a file,
@@ -12,12 +12,15 @@
  * - No change. The files and paths stay as they are until the call returns. They may overlap, and
  *   several calls may share them. If a file is mapped, nobody makes it shorter meanwhile.
  * - An answer of its own. During a call nothing else reads, writes or points to the answer.
- * - Threads. A call uses only the thread that makes it. Calls on different threads need no lock. Do
- *   not call in a signal handler, or in a child that was forked from a process with threads.
+ * - Threads. A call uses only the thread that makes it, whose stack has 256 KiB left. Calls on
+ *   different threads need no lock. Do not call in a signal handler, or in a child that was forked
+ *   from a process with threads.
  * - Memory. The library calls the program's `malloc`, `realloc` and `free`, which belong together
  *   and align blocks as C asks.
  *
- * Names and layouts do not change as long as the library is libxbrl_json.so.0.
+ * A call for which this holds never ends the process: if memory runs out, the status says so. Names
+ * and layouts do not change as long as the library is libxbrl_json.so.0. library/README.md gives
+ * the layouts for languages that do not read this header.
  */
 #ifndef XBRL_JSON_H
 #define XBRL_JSON_H
@@ -42,7 +45,8 @@ typedef struct {
     xbrl_json_text bytes;
 } xbrl_json_file;
 
-/* How a conversion ended. Initialize it with XBRL_JSON_ANSWER, and pass it to xbrl_json_free. */
+/* How a conversion ended. Initialize it with XBRL_JSON_ANSWER, and pass it to xbrl_json_free. Each
+ * text with a length above 0 is memory of its own, which `free` frees. */
 typedef struct {
     /* 0: the document is whole. 1: the report has a fault, or memory ran out for a table. 2: the
      * call is wrong: a path is not UTF-8, or the layout is not one of the two. 3: memory ran out,
@@ -80,8 +84,8 @@ uint32_t xbrl_json_convert(const xbrl_json_file *files, size_t count,
                            const uint8_t *types, size_t types_len,
                            uint32_t layout, xbrl_json_answer *answer);
 
-/* Gives the version of xbrl-json that the library is a part of, and the kit that proved it. Never
- * free this text. */
+/* Gives the version of xbrl-json that the library is a part of, and the kit that proved it, as in
+ * `0.20.0 (proved with KIT)`. Never free this text. */
 void xbrl_json_version(xbrl_json_text *version);
 
 /* Frees the texts of an answer, which may then be used for another call. */

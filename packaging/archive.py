@@ -3,10 +3,16 @@
 
     packaging/archive.py
 
-It writes crates/xbrl_json_c/out/libxbrl_json_c.a, as `rt lib` does there, with the same bytes. The
-crate itself is proved again, which takes a minute or two. `rt lib` would also prove the libraries
-below it again, because it takes only those that `rt check` left. Ends with status 1 if a library is
-not there, or is not as the kit built it. Needs the kit's command `rt` and Python 3.9 or later.
+It writes to crates/xbrl_json_c/out:
+
+    libxbrl_json_c.a            what is shipped, with the bytes that `rt lib` writes there
+    libxbrl_json_c.by-rattle.a  the same by Rattle's own compiler, for the tests
+
+The crate itself is proved again, which takes a minute or two, and then compiled twice. If Rattle's
+own compiler refuses it, a line says so, as `rt ci` does for a program. `rt lib` would also prove
+the libraries below it again, because it takes only those that `rt check` left. Ends with status 1
+if a library is not there, or is not as the kit built it. Needs the kit's command `rt` and Python
+3.9 or later.
 """
 from __future__ import annotations
 
@@ -14,11 +20,14 @@ import importlib
 import os
 import subprocess
 import sys
+import tempfile
 from pathlib import Path
-from typing import Any, List
+from typing import Any, Iterable, List
 
 TOP = Path(__file__).resolve().parent.parent
 CRATE = "xbrl_json_c"
+# What only the proof takes.
+OF_PROOF = ("--logic-built", "--jobs")
 
 
 def kit_module() -> Any:
@@ -30,8 +39,34 @@ def kit_module() -> Any:
     return importlib.import_module("rtlib")
 
 
+def without(words: List[str], options: Iterable[str]) -> List[str]:
+    """Returns the words without these options and their values."""
+    left = list(words)
+    for option in options:
+        at = left.index(option)
+        del left[at:at + 2]
+    return left
+
+
+def prove_and_compile(module: Any, crate: Any, name: str) -> int:
+    """Proves a static library in this folder, and compiles it. Returns the status."""
+    words = crate.words([], keeps=False)
+    shipped, other = f"out/lib{name}.a", f"out/lib{name}.by-rattle.a"
+    with tempfile.TemporaryDirectory() as folder:
+        checked = os.path.join(folder, "checked")
+        status = int(crate.call(module.RATTLE, "check", *words, "-o", checked))
+        words = ["build", *without(words, OF_PROOF), "--crate-checked", checked]
+        words += ["--toolchain", f"{module.KIT}/toolchain"]
+        if status or crate.call(module.RATTLE, *words, "--backend", "llvm", "-o", shipped):
+            return status or 1
+        if crate.call(module.RATTLE, *words, "--backend", "rattle", "-o", other):
+            print("packaging/archive.py: Rattle's own compiler refuses this library")
+            Path(other).unlink(missing_ok=True)
+    return 0
+
+
 def build(top: Path, name: str) -> int:
-    """Proves a static library over those that are there, and compiles it. Returns the status."""
+    """Builds a static library over those that are there. Returns the status."""
     module = kit_module()
     folder = top / "crates" / name
     os.chdir(folder)
@@ -41,9 +76,7 @@ def build(top: Path, name: str) -> int:
         print(f"packaging/archive.py: not built here: {' '.join(missing)}", file=sys.stderr)
         return 1
     os.makedirs("out", exist_ok=True)
-    words = [*crate.words([], keeps=False), "--toolchain", f"{module.KIT}/toolchain"]
-    words += ["--backend", "llvm", "-o", f"out/lib{name}.a"]
-    return int(crate.call(module.RATTLE, "build", *words))
+    return prove_and_compile(module, crate, name)
 
 
 def main(words: List[str]) -> int:

@@ -3,12 +3,15 @@
 #
 #     packaging/bare.sh FOLDER [SUITE]
 #
-# FOLDER has the packages that packaging/deb.py made, and may have the wheel. SUITE is a release of Debian, `bookworm`
-# without an argument. Needs root, debootstrap and a mirror: the variable MIRROR may name one. The
-# bare system is in a temporary folder, which is removed. The last line is `bare SUITE: passed`.
+# FOLDER has the packages that packaging/deb.py made, and may have the wheel. SUITE is a release of
+# Debian, `bookworm` without an argument. The programs, the C library with a compiler, and the Python
+# package are each installed by one command, and the programs of docs/MANUAL.md convert an example.
+# Needs root, debootstrap and a mirror: the variable MIRROR may name one, and BASE the folder of a
+# system that debootstrap has made. The bare system is in a temporary folder, which is removed. The
+# last line is `bare SUITE: passed`.
 set -euo pipefail
 
-[[ $# -ge 1 && $# -le 2 ]] || { sed -n '2,10s/^# \{0,1\}//p' "$0"; exit 2; }
+[[ $# -ge 1 && $# -le 2 ]] || { sed -n '2,11s/^# \{0,1\}//p' "$0"; exit 2; }
 debs=$(readlink -f -- "$1")
 suite=${2-bookworm}
 top=$(dirname -- "$(readlink -f -- "$0")")/..
@@ -21,52 +24,85 @@ stop() {
     exit 1
 }
 
+# Runs a command in the folder /root of the system.
 in_system() {
-    chroot "$root" env DEBIAN_FRONTEND=noninteractive PATH=/usr/sbin:/usr/bin:/sbin:/bin "$@"
+    chroot "$root" env -C /root DEBIAN_FRONTEND=noninteractive PATH=/usr/sbin:/usr/bin:/sbin:/bin "$@"
 }
 
-# A release that is newer than debootstrap is made as the newest that it knows.
-script=/usr/share/debootstrap/scripts/$suite
-[[ -e $script ]] || script=${script%/*}/sid
-debootstrap --variant=minbase "$suite" "$root" "${MIRROR-http://deb.debian.org/debian}" "$script" >"$root.log" 2>&1 ||
-    { tail -n 3 "$root.log"; stop "debootstrap"; }
-rm -f "$root.log"
+# Installs packages by one command.
+install() {
+    in_system apt-get install -y -qq --no-install-recommends "$@" >/dev/null 2>"$root/root/errors" ||
+        { tail -n 3 "$root/root/errors"; stop "apt-get install $*"; }
+}
+
+# Whether there are such files in FOLDER.
+has() {
+    compgen -G "$debs/$1" >/dev/null
+}
+
+# Copies the example of a language from the manual into the system.
+take_example() {
+    sed -n "/^\`\`\`$1\$/,/^\`\`\`\$/{/^\`\`\`/!p}" "$top/docs/MANUAL.md" >"$root/root/$2"
+}
+
+# Compares what a command in the system prints with a file.
+must_print() {
+    local wanted=$1
+    shift
+    in_system "$@" | cmp -s - "$wanted" || stop "$*"
+}
+
+# Makes the bare system. A release that is newer than debootstrap is made as the newest it knows.
+make_system() {
+    local script=/usr/share/debootstrap/scripts/$suite
+    [[ -e $script ]] || script=${script%/*}/sid
+    debootstrap --variant=minbase "$suite" "$root" "${MIRROR-http://deb.debian.org/debian}" "$script" >"$root.log" 2>&1 ||
+        { tail -n 3 "$root.log"; stop "debootstrap"; }
+    rm -f "$root.log"
+}
+
+if [[ -n ${BASE-} ]]; then
+    cp -a "$BASE/." "$root"
+else
+    make_system
+fi
 cp /etc/resolv.conf "$root/etc/resolv.conf"
 cp "$debs"/*.deb "$root/root/"
-! compgen -G "$debs/*.whl" >/dev/null || cp "$debs"/*.whl "$root/root/"
-cp -r "$top/examples" "$top/library" "$root/root/"
+! has '*.whl' || cp "$debs"/*.whl "$root/root/"
+cp -r "$top/examples" "$root/root/"
 in_system apt-get update -qq
-in_system sh -c 'apt-get install -y -qq --no-install-recommends /root/*.deb' >/dev/null 2>&1 || stop "install"
 
 quarterly=(examples/quarterly/meta.json --types examples/quarterly/types.csv)
+tables=$(cd "$top" && find examples/quarterly -name '*.csv')
 filing=(examples/filing/report --taxonomy examples/filing/taxonomy)
-[[ $(in_system sh -c "cd /root && xbrl-json ${quarterly[*]}" | sha256sum) == \
-    $(cd "$top" && dist/xbrl-json "${quarterly[@]}" | sha256sum) ]] || stop "xbrl-json"
-[[ $(in_system sh -c "cd /root && xbrl-filing ${filing[*]}" | sha256sum) == \
-    $(cd "$top" && XBRL_JSON=dist/xbrl-json ./xbrl-filing "${filing[@]}" | sha256sum) ]] || stop "xbrl-filing"
-if compgen -G "$debs/libxbrl-json-dev_*.deb" >/dev/null; then
-    in_system apt-get install -y -qq --no-install-recommends gcc libc6-dev pkg-config >/dev/null 2>&1
+document=$root/root/document filed=$root/root/filed
+(cd "$top" && dist/xbrl-json "${quarterly[@]}" >"$document")
+(cd "$top" && XBRL_JSON=dist/xbrl-json ./xbrl-filing "${filing[@]}" >"$filed")
+
+install "./$(basename "$debs"/xbrl-json_*.deb)"
+must_print "$document" xbrl-json "${quarterly[@]}"
+must_print "$filed" xbrl-filing "${filing[@]}"
+if has 'libxbrl-json-dev_*.deb'; then
+    shared=./$(basename "$debs"/libxbrl-json0_*.deb)
+    install "$shared" "./$(basename "$debs"/libxbrl-json-dev_*.deb)" gcc libc6-dev pkg-config
+    take_example c convert.c
     # shellcheck disable=SC2016
-    in_system sh -c 'cd /root && sed -n "/^\`\`\`c$/,/^\`\`\`$/{/^\`\`\`/!p}" library/README.md >convert.c &&
-        cc -o convert convert.c $(pkg-config --cflags --libs xbrl_json)' || stop "no program with the library"
-    [[ $(in_system sh -c "cd /root && ./convert ${quarterly[0]} ${quarterly[2]} \$(find examples/quarterly -name '*.csv')" | sha256sum) == \
-        $(cd "$top" && dist/xbrl-json "${quarterly[@]}" | sha256sum) ]] || stop "the library"
-    # shellcheck disable=SC2016
-    in_system sh -c 'cd /root && sed -n "/^\`\`\`python$/,/^\`\`\`$/{/^\`\`\`$/q;/^\`\`\`/!p}" library/README.md >convert.py'
-    [[ $(in_system sh -c "cd /root && /usr/bin/python3 convert.py examples/quarterly" | sha256sum) == \
-        $(cd "$top" && dist/xbrl-json "${quarterly[@]}" | sha256sum) ]] || stop "the Python package"
+    in_system sh -c 'cc -o convert convert.c $(pkg-config --cflags --libs xbrl_json)' || stop "cc"
+    # shellcheck disable=SC2086
+    must_print "$document" ./convert "${quarterly[0]}" "${quarterly[2]}" $tables
+    take_example python convert.py
+    install "$shared" "./$(basename "$debs"/python3-xbrl-json_*.deb)"
+    must_print "$document" python3 convert.py examples/quarterly
+    must_print "$filed" python3 -c 'import sys, xbrl_json.filings as filings
+sys.stdout.buffer.write(filings.convert(sys.argv[1], sys.argv[3:]))' "${filing[@]}"
 fi
 
-if compgen -G "$debs/*.whl" >/dev/null; then
-    in_system apt-get install -y -qq --no-install-recommends python3-venv >/dev/null 2>&1
-    in_system sh -c 'cd /root && python3 -m venv venv && venv/bin/pip install -q --no-index /root/*.whl' ||
-        stop "the wheel is not installed"
-    [[ $(in_system sh -c "cd /root && venv/bin/xbrl-filing ${filing[*]}" | sha256sum) == \
-        $(cd "$top" && XBRL_JSON=dist/xbrl-json ./xbrl-filing "${filing[@]}" | sha256sum) ]] || stop "the wheel's xbrl-filing"
-    if compgen -G "$debs/libxbrl-json-dev_*.deb" >/dev/null; then
-        [[ $(in_system sh -c "cd /root && venv/bin/python convert.py examples/quarterly" | sha256sum) == \
-            $(cd "$top" && dist/xbrl-json "${quarterly[@]}" | sha256sum) ]] || stop "the wheel's library"
-    fi
+if has '*.whl'; then
+    install python3-venv
+    in_system python3 -m venv venv
+    in_system venv/bin/pip install -q --no-index "./$(basename "$debs"/*.whl)" || stop "pip install"
+    must_print "$filed" venv/bin/xbrl-filing "${filing[@]}"
+    ! has 'libxbrl-json-dev_*.deb' || must_print "$document" venv/bin/python convert.py examples/quarterly
 fi
 
 names=$(for deb in "$debs"/*.deb; do dpkg-deb -f "$deb" Package; done)

@@ -47,9 +47,10 @@ import tempfile
 from pathlib import Path
 from typing import List, Optional, Tuple
 
-from crates import crate_lines, crates_below
-
 TOP = Path(__file__).resolve().parent.parent
+sys.path.insert(0, str(TOP))
+
+from tests.crates import crate_lines, crates_below  # noqa: E402
 PRELUDE = "Rattle.std.specs.Prelude"
 TOKEN = re.compile(r'"(?:\\.|[^"\\])*"|--[^\n]*|\.\d+\b|0x[0-9A-Fa-f_]+|\d[\d_]*|[A-Za-z_][\w₀-₉\']*(?:\.[A-Za-z_][\w₀-₉\']*)*|&&|\|\||==|\+\+|[-+*/%]')
 OTHER = {
@@ -150,7 +151,7 @@ def conditions(body: str) -> list[tuple[int, int]]:
 
 def is_balanced(line: str) -> bool:
     """Whether a line has as many opening brackets of each kind as closing ones."""
-    return all(line.count(a) == line.count(b) for a, b in ("()", "{}", "[]"))
+    return all(line.count(a) == line.count(b) for a, b in (("(", ")"), ("{", "}"), ("[", "]")))
 
 
 def in_lines(body: str) -> list[tuple[str, str]]:
@@ -292,15 +293,15 @@ class Copies:
         proofs = self.at / "proofs"
         for it in proofs.glob("Change*.antt"):
             it.unlink()
-        for it in self.specs:
-            (self.at / "specs" / self.files[it]).write_text(self.specs[it])
+        for spec in self.specs:
+            (self.at / "specs" / self.files[spec]).write_text(self.specs[spec])
         names, cited = [], []
         for number, change in enumerate(changes):
             mark = f"Change{number:03}"
             files = self.needed(cases, change.file)
-            for it in files:
-                text = with_imports(change.text) if it == change.file else self.specs[it]
-                name = mark + it.replace(".", "")
+            for spec in files:
+                text = with_imports(change.text) if spec == change.file else self.specs[spec]
+                name = mark + spec.replace(".", "")
                 (proofs / f"{name}.antt").write_text(self.renamed(text, mark, files))
                 names.append(name)
             text = self.renamed(self.cases[cases], mark, files)
@@ -339,10 +340,10 @@ class Copies:
             return self.check(cases, changes[:half]) + self.check(cases, changes[half:])
         if not re.search(r"^only=", said, re.M):
             sys.exit(f"the checker stopped:\n{said[-3000:]}")
-        errors = [[] for _ in changes]
+        errors: List[List[Tuple[str, str]]] = [[] for _ in changes]
         for number, file, what in re.findall(r"^(?:\./)?proofs/Change(\d{3})(\w+)\.antt:\d+:\d+: error: (.*)", said, re.M):
             errors[int(number)].append((file, what))
-        return errors
+        return list(errors)
 
 
 # What a copy of the worked cases needs so that a function can cite it.

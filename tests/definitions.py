@@ -148,7 +148,9 @@ def clauses(source: Path, text: str) -> tuple[str, str]:
     def is_public(name: str) -> bool:
         return names is None or name in names
 
-    stated, inherited, trait, owner, call, is_clause = [], [], "", "", "", False
+    stated: list[str] = []
+    inherited: list[str] = []
+    trait, owner, call, is_clause = "", "", "", False
     for line in text.splitlines():
         if impl := IMPL.match(line):
             trait, owner = impl[1] or "", impl[2]
@@ -159,7 +161,7 @@ def clauses(source: Path, text: str) -> tuple[str, str]:
             open_call = open_call or (not it[1] and is_public(source.stem))
             call, is_clause = "stated" if open_call and not line.endswith("{") else "", False
         elif METHOD.match(line):
-            open_call = trait and is_public(owner) and not line.endswith("{")
+            open_call = bool(trait) and is_public(owner) and not line.endswith("{")
             call, is_clause = "inherited" if open_call else "", False
         if (ghost := GHOST.match(line)) and owner and is_public(owner):
             if trait != "Model" or ghost[1] == "Value":
@@ -209,8 +211,8 @@ def main() -> None:
         sys.exit(0)
     for crate, file, name in unneeded:
         wrong.append(f"{crate}/specs/{file}: no public contract needs {name}")
-    for it in wrong:
-        print(it)
+    for line in wrong:
+        print(line)
     count = sum(len(file.own) for file in all.values())
     print(f"definitions: {count} in their folders, {len(wrong)} not")
     sys.exit(1 if wrong or not count else 0)

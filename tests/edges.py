@@ -85,12 +85,19 @@ class EdgeTest(TestCase):
 
         threading.Thread(target=write, daemon=True).start()
 
-    def on_a_terminal(self, *words: str) -> str:
-        """Returns standard error of a run on a terminal."""
+    def on_a_terminal(self, *words: str, **variables: str) -> str:
+        """Returns standard error of a run on a terminal with colours.
+
+        The run's environment has no `NO_COLOR` but that of `variables`.
+        """
         ours, theirs = pty.openpty()
         command = [PROGRAM, *words]
         none = subprocess.DEVNULL
-        with subprocess.Popen(command, cwd=self.folder, stdin=none, stdout=none, stderr=theirs):
+        kept = {name: text for name, text in os.environ.items() if name != "NO_COLOR"}
+        env = {**kept, "TERM": "xterm", **variables}
+        with subprocess.Popen(
+            command, cwd=self.folder, stdin=none, stdout=none, stderr=theirs, env=env
+        ):
             os.close(theirs)
             seen = b""
             while True:

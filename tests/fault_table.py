@@ -44,11 +44,16 @@ Fault = tuple[int, str]
 def named_in_sources() -> tuple[set[Fault], set[Fault], set[Fault]]:
     """Returns the faults of the sources, those without a sentence, and the sentences of the faults
     for which `--explain` prints the fault's own."""
-    numbers, names, explained = {}, {}, {}
+    numbers: dict[tuple[str, str], int] = {}
+    names: dict[tuple[str, str], str] = {}
+    explained: dict[tuple[str, str], str] = {}
     for file in sorted(TOP.glob("crates/*/src/**/*.rt")):
         crate, text = file.relative_to(TOP).parts[1], file.read_text()
         for variant, number, name in ARM.findall(text):
-            (numbers if number else names)[crate, variant] = int(number) if number else name
+            if number:
+                numbers[crate, variant] = int(number)
+            else:
+                names[crate, variant] = name
         explained.update({(crate, it): sentence for it, sentence in EXPLAINED.findall(text)})
     faults = {it: (numbers[it], names[it]) for it in numbers if it in names}
     themselves = {
@@ -67,7 +72,9 @@ def sentences_in_sources() -> set[str]:
 
 def rows_of(section: str) -> tuple[list[tuple[Fault, str]], list[str]]:
     """Returns the faults of a section's tables with their second cells, and what is wrong there."""
-    rows, wrong, head = [], [], []
+    rows: list[tuple[Fault, str]] = []
+    wrong: list[str] = []
+    head: list[str] = []
     for line in section.splitlines():
         cells = [it.strip() for it in line.strip("|").split(" |")] if line.startswith("|") else []
         if len(cells) < 2 or not (it := ROW.match(cells[0])):
@@ -101,7 +108,7 @@ def main() -> None:
     wrong += [f"twice: {it}" for it in sorted({it for it in told if told.count(it) > 1})]
     same = SAME.findall((TOP / "crates/oim_rows/src/fault.rt").read_text())
     wrong += [f"{name} is {variant}" for name, variant in same if name != variant]
-    wrong += [] if len(same) == 11 else [f"{len(same)} faults of a cell have their own names"]
+    wrong += [] if len(same) == 14 else [f"{len(same)} faults of a cell have their own names"]
 
     own = sentences_in_sources()
     table = SENTENCE_ROW.findall(next((it for it in sections if it.startswith(SENTENCES)), ""))
@@ -111,8 +118,8 @@ def main() -> None:
     of_fault, said = in_rows | listed, {it for _, it in in_rows} | {it for _, it in table}
     missing = [*sorted(own - said), *sorted(themselves - of_fault)]
     wrong += [f"printed by --explain and not in docs/FAULTS.md: {it}" for it in missing]
-    foreign = {it for it in of_fault - themselves if it[1] not in own}
-    foreign = [*sorted(said - known), *sorted(foreign)]
+    strange = {it for it in of_fault - themselves if it[1] not in own}
+    foreign = [*sorted(said - known), *sorted(strange)]
     wrong += [f"not printed by --explain: {it}" for it in foreign]
     for it in wrong:
         print(it)

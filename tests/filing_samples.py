@@ -91,9 +91,16 @@ def headed(*names: str, more: str = "") -> str:
     return "".join(element.format(*it.split(), more) for it in names)
 
 
+TYPES_HEADER = "namespace,name,type3,period,values\n"
+
+
 def records(*lines: str, namespace: str = EG) -> str:
-    """Returns a types table of these records of a namespace, each given without it."""
-    return "namespace,name,type2\n" + "".join(f"{namespace},{it}\n" for it in lines)
+    """Returns a types table of these records of a namespace.
+
+    Each is given without the namespace, and may end after its type.
+    """
+    whole = (it + "," * (3 - it.count(",")) for it in lines)
+    return TYPES_HEADER + "".join(f"{namespace},{it}\n" for it in whole)
 
 
 EXPLICIT = '<xs:element name="Region" substitutionGroup="xbrldt:dimensionItem" abstract="true"/>'

@@ -34,10 +34,20 @@ from random import Random
 from typing import Any, Callable, Dict, Iterable, Iterator, List, NamedTuple, NoReturn, Optional, Tuple
 
 TOP = Path(__file__).resolve().parent.parent
-sys.path[:0] = [str(TOP), str(TOP / "tests")]
+sys.path.insert(0, str(TOP))
 
 from filing import command  # noqa: E402
-from filing_bounds import GOOD, HOST, LINKBASE, asks, catalog, loc, meta, rewrite, schema  # noqa: E402
+from tests.filing_bounds import (  # noqa: E402
+    GOOD,
+    HOST,
+    LINKBASE,
+    asks,
+    catalog,
+    loc,
+    meta,
+    rewrite,
+    schema,
+)
 
 MOST_SECONDS = 20  # of the processor
 MOST_WAIT = 900  # seconds of the clock, after which a run hangs

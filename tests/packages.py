@@ -7,7 +7,8 @@ The packages are made in a copy of the repository whose dist/ has PROGRAM, strip
 left out there if it is of another version.
 
 `make install` puts both programs, their man pages and completions below a folder, where they run,
-and `make uninstall` leaves no file. packaging/wheel.py and packaging/deb.py write the same bytes
+and the C library, with which the C program of docs/MANUAL.md is compiled by pkg-config; `make
+uninstall` leaves no file. packaging/wheel.py and packaging/deb.py write the same bytes
 twice. `pip` installs the wheel into a virtual environment, without network, and its commands run.
 lintian has no error and no warning. The completions of xbrl-filing offer the options of its
 `--help` and those that it passes on.
@@ -26,9 +27,10 @@ import tempfile
 from pathlib import Path
 from typing import Dict, List
 
-from cases import case, told
-
 TOP = Path(__file__).resolve().parent.parent
+sys.path.insert(0, str(TOP))
+
+from tests.cases import case, told  # noqa: E402
 PARTS = ("Makefile", "LICENSE-*", "*.md", "xbrl-filing", "filing", "library", "packaging", "docs",
          "dist", "examples")
 FILING = ["examples/filing/report", "--taxonomy", "examples/filing/taxonomy"]
@@ -46,8 +48,10 @@ try:
 except filings.Refusal as refusal:
     print(xbrl_json.Refused.__name__, refusal.status)
 """
-CONVERTED = """import sys, xbrl_json
-sys.stdout.buffer.write(xbrl_json.convert_folder(sys.argv[1]))
+CONVERTED = """import sys, xbrl_json, xbrl_json.filings as filings
+document = filings.convert(sys.argv[2], sys.argv[3:])
+assert document == xbrl_json.convert_folder(sys.argv[1])
+sys.stdout.buffer.write(document)
 """
 
 
@@ -107,9 +111,30 @@ def by_make(top: Path, folder: Path, document: str) -> None:
     case("make install: the files", not missing, missing)
     seen = ran(top, folder / "bin/xbrl-filing", *FILING)
     case("make install: xbrl-filing runs", seen.stdout == document != "", seen)
+    if (top / "dist/lib").exists():
+        by_pkg_config(top, folder)
     done = ran(top, "make", "-s", "uninstall", prefix)
     left = [it for it in folder.rglob("*") if not it.is_dir() or it.is_symlink()]
     case("make uninstall", done.returncode == 0 and not left, done.stderr, left)
+
+
+def by_pkg_config(top: Path, folder: Path) -> None:
+    """Compiles the C program of the manual with the installed library, and runs it."""
+    if lacks("cc", "pkg-config"):
+        return
+    (source,) = re.findall(r"^```c\n(.*?)^```$", (top / "docs/MANUAL.md").read_text(), re.M | re.S)
+    program, library = folder.parent / "convert", folder / "lib"
+    program.with_suffix(".c").write_text(source)
+    asked = ran(top, "pkg-config", "--cflags", "--libs", "xbrl_json", PKG_CONFIG_PATH=f"{library}/pkgconfig")
+    report = [f"examples/held/{it}" for it in ("meta.json", "types.csv", "t1.csv")]
+    wanted = ran(top, "dist/xbrl-json", report[0], "--types", report[1]).stdout
+    for name in ("-lxbrl_json", "-l:libxbrl_json.a"):
+        words = asked.stdout.replace("-lxbrl_json", name).split()
+        done = ran(top, "cc", "-o", program, program.with_suffix(".c"), *words)
+        case(f"make install: cc {name}", done.returncode == 0 and name in words, asked.stderr, done.stderr)
+        at = library if name == "-lxbrl_json" else folder / "absent"
+        seen = ran(top, program, *report, LD_LIBRARY_PATH=str(at))
+        case(f"make install: converts with {name}", seen.stdout == wanted != "", seen)
 
 
 def made_twice(top: Path, script: str, folder: Path) -> List[Path]:
@@ -140,7 +165,7 @@ def by_wheel(top: Path, folder: Path, document: str, version: str) -> None:
     seen = ran(top, commands / "python", "-c", PREPARED, folder / "plain", FILING[0], *FILING[2:])
     case("the wheel's package", seen.stdout == "Refused 3\n", seen)
     if (top / "dist/lib").exists():
-        seen = ran(top, commands / "python", "-c", CONVERTED, folder / "plain")
+        seen = ran(top, commands / "python", "-c", CONVERTED, folder / "plain", FILING[0], *FILING[2:])
         case("the wheel's library", seen.stdout == document, seen)
     plain = [folder / "plain/meta.json", "--types", folder / "plain/types.csv"]
     seen = ran(top, commands / "xbrl-json", *plain)

@@ -18,6 +18,7 @@ The commands are those of README.md and docs/MANUAL.md. There each fenced block 
              status 0.
     sh       Not run, because it changes the system or is only a form. Its syntax is checked. A
              script whose second line begins with "# NAME.sh" is saved, for later commands.
+    c, python  A program with the library, which tests/library.py runs.
     text     Anything else: a drawing, a line of output, a file.
 
 They run one after another in a scratch folder with `examples/`, `dist/xbrl-json` (PROGRAM), the ZIP
@@ -47,7 +48,7 @@ from typing import Callable, Dict, FrozenSet, Iterator, List, NamedTuple, Option
 TOP = Path(__file__).resolve().parent.parent
 WIDEST, WIDEST_HELP, LONGEST_README = 100, 80, 150
 WITH_COMMANDS = ("README.md", "docs/MANUAL.md")
-LANGUAGES = ("console", "sh", "text")
+LANGUAGES = ("console", "sh", "c", "python", "text")
 SKIPPED = {".git", ".ci", "out", "target", "__pycache__", "vendor"}
 SECONDS = 600
 
@@ -78,6 +79,12 @@ DIALECT: List[Tuple[str, str]] = [
     (r"\bas it was\b(?= at\b|[.;,]|$)", "unchanged"),
 ]
 PATTERNS = [(re.compile(pattern), better) for pattern, better in DIALECT]
+# Comments of proved sources whose words wait for the next proof of their crate.
+WAITING = {
+    ("crates/oim_fast/src/frame/same_kind.rt", "are no concepts"),
+    ("crates/oim_fast/src/frame/value.rt", "beside"),
+    ("crates/oim_row/proofs/Examples.antt", "is no instant"),
+}
 
 
 class Line(NamedTuple):
@@ -234,7 +241,8 @@ def in_dialect(name: str, text: str, top: Path) -> Iterator[Finding]:
         for pattern, better in PATTERNS:
             for match in pattern.finditer(joined):
                 said = match.group().strip(" .:;,(")
-                yield Finding(name, numbers[match.start()], f"'{said}': write {better}")
+                if (name, said) not in WAITING:
+                    yield Finding(name, numbers[match.start()], f"'{said}': write {better}")
 
 
 def slug(heading: str) -> str:
@@ -333,7 +341,8 @@ def help_findings(name: str, command: List[str]) -> List[Finding]:
 
 def blocks(text: str) -> Iterator[Tuple[int, str, List[Line]]]:
     """The fenced blocks of a document: the number of its first line, the language, the lines."""
-    start, language, found = 0, "", []
+    start, language = 0, ""
+    found: List[Line] = []
     for number, line in enumerate(text.splitlines(), 1):
         if line.startswith("```"):
             if start:

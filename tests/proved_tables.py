@@ -19,9 +19,10 @@ import sys
 from pathlib import Path
 from typing import NamedTuple
 
-from definitions import CRATES, IMPL, given, imports
+TOP = Path(__file__).resolve().parent.parent
+sys.path.insert(0, str(TOP))
 
-TOP = CRATES.parent
+from tests.definitions import CRATES, IMPL, given, imports  # noqa: E402
 PAGE = TOP / "docs/PROVED.md"
 ARCHITECTURE, AUDIT = TOP / "docs/ARCHITECTURE.md", TOP / "docs/AUDIT.md"
 BEGIN, END = "<!-- tests/proved_tables.py --write -->\n", "<!-- end -->\n"
@@ -94,8 +95,8 @@ def calls_in(source: Path) -> list[Call]:
             comment.append(line.lstrip()[3:].strip())
         elif not line.lstrip().startswith("#["):
             call = CALL.match(line)
-            public = call and not inherited and (trait or PUBLIC.match(line))
-            if public and (names is None or (owner or call[1]) in names or source.stem in names):
+            public = not inherited and (trait or PUBLIC.match(line))
+            if call and public and (names is None or (owner or call[1]) in names or source.stem in names):
                 end = next((n for n in range(at, len(lines)) if ends(lines[n])), at)
                 has_body = end > at and BODY.match(lines[end])
                 clauses = clauses_of(lines[at : end if has_body else end + 1], known)
@@ -117,10 +118,10 @@ def calls_of(crate: str) -> list[Call]:
 
 
 def libraries() -> list[str]:
-    """Returns the crates of the program, lowest first, and the library that it will call next."""
-    from crates import crates_below
+    """Returns the crates of the program, lowest first, and the program itself."""
+    from tests.crates import crates_below
 
-    return [*crates_below()["xbrl_json_cli"], "oim_schema", "xbrl_json_cli"]
+    return [*crates_below()["xbrl_json_cli"], "xbrl_json_cli"]
 
 
 def table(crate: str) -> str:

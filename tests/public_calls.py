@@ -15,9 +15,10 @@ import re
 import sys
 from pathlib import Path
 
-from crates import crates_below
-
 TOP = Path(__file__).resolve().parent.parent
+sys.path.insert(0, str(TOP))
+
+from tests.crates import crates_below  # noqa: E402
 GIVEN = re.compile(r"^pub (?:mod |use (?:[\w:]+::)?)(\{[^}]*\}|\w+);", re.M)
 # The crates of calls: of the libraries below oim_pieces and oim_places; of keyed, oim_pieces and
 # oim_convert; and of the others.

@@ -15,6 +15,7 @@ status is 0 only if some tests passed and none failed.
 from __future__ import annotations
 
 import argparse
+import atexit
 import concurrent.futures
 import faulthandler
 import fnmatch
@@ -34,7 +35,14 @@ from typing import Any, NamedTuple
 TOP = Path(__file__).resolve().parent.parent
 
 # Scripts that count by themselves, the longest first: they start before the modules.
-SCRIPTS = ["library.py", "filing_bounds.py", "fuzz_filing.py", "packages.py", "fault_table.py"]
+SCRIPTS = [
+    "library.py",
+    "filing_bounds.py",
+    "fuzz_filing.py",
+    "fuzz_reports.py",
+    "packages.py",
+    "fault_table.py",
+]
 # The modules that take the longest start first.
 LONGEST = [
     "tests.test_refused",
@@ -243,6 +251,7 @@ def run_all(program: str, patterns: list[str]) -> int:
 
     print(f"tests of {program}", flush=True)
     passed, failures = 0, []
+    keep_compiled()
     with concurrent.futures.ThreadPoolExecutor(len(os.sched_getaffinity(0))) as pool:
         waiting = [pool.submit(timed, it) for it in [*scripts, *modules()]]
         for it in concurrent.futures.as_completed(waiting):
@@ -256,6 +265,14 @@ def run_all(program: str, patterns: list[str]) -> int:
         print(f"FAILED {name}: {cause(why)}")
     print(f"{passed} passed, {len(failures)} failed")
     return 1 if failures else 0
+
+
+def keep_compiled() -> None:
+    """Have all runs of Python share their compiled modules, in a folder that this run removes."""
+    folder = tempfile.mkdtemp()
+    atexit.register(shutil.rmtree, folder, ignore_errors=True)
+    os.environ.pop("PYTHONDONTWRITEBYTECODE", None)
+    os.environ["PYTHONPYCACHEPREFIX"] = folder
 
 
 def is_program(path: Path) -> bool:

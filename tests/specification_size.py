@@ -19,7 +19,20 @@ import sys
 from collections import Counter
 from pathlib import Path
 
-from definitions import CRATES, File, Name, Room, file_of, files, imports, named, rests
+TOP = Path(__file__).resolve().parent.parent
+sys.path.insert(0, str(TOP))
+
+from tests.definitions import (  # noqa: E402
+    CRATES,
+    File,
+    Name,
+    Room,
+    file_of,
+    files,
+    imports,
+    named,
+    rests,
+)
 
 RUN = CRATES / "oim_run/src/running.rt"
 HEAD, END = "pub fn run<", "\n{\n"
@@ -38,8 +51,10 @@ def kit_folder() -> Path | None:
 
 def kit_files(kit: Path | None) -> dict[Room, File]:
     """Returns the files of definitions of the kit's ported crates."""
-    found = {}
-    for file in sorted(kit.glob("*/specs/**/*.antt")) if kit else ():
+    found: dict[Room, File] = {}
+    if kit is None:
+        return found
+    for file in sorted(kit.glob("*/specs/**/*.antt")):
         crate, _, *steps = file.relative_to(kit).with_suffix("").parts
         if steps != ["Lib"] and not crate.startswith(GENERAL):
             found[crate, "/".join(steps)] = file_of(file.read_text(encoding="utf-8"))
@@ -70,7 +85,8 @@ def main() -> None:
             print(f"{crate}/specs/{file}: {name}, {lines_of(both[crate, file].own[name])}")
     for title, rooms in (("this repository", ours), ("the kit's ported crates", kit)):
         here = [it for it in reached if it[:2] in rooms]
-        count, lines = Counter(), Counter()
+        count: Counter[str] = Counter()
+        lines: Counter[str] = Counter()
         for crate, file, name in here:
             count[crate] += 1
             lines[crate] += lines_of(both[crate, file].own[name])

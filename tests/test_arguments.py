@@ -35,6 +35,7 @@ class TestArguments(EdgeTest):
         """Refuses each with status 2 and a line."""
         wrong = ["--workers 0", "--workers 65", "--ring 0", "--ring 65537", "--layout pretty"]
         wrong += ["--layout", "--progress yes", "--progress=yes", "--explain yes", "--explain=yes"]
+        wrong += ["--no-explain yes", "--no-explain=yes"]
         wrong += ["--workers two", "--colour", "more", "--types types.csv"]
         for words in (
             ["meta.json"],
@@ -103,7 +104,7 @@ class TestLinesOnATerminal(EdgeTest):
         seen = self.run_program(*words)
         self.check_run(seen, 3, b"", f"xbrl-json: cannot {what} {path}\n")
         line = f"xbrl-json: cannot {what} {path.replace(FORGED, PLAIN)}\r\n"
-        self.assertEqual(self.on_a_terminal(*words), line)
+        self.assertEqual(self.on_a_terminal(*words, "--no-explain", NO_COLOR="1"), line)
 
     def test_a_path_to_read(self) -> None:
         """Names META and the types table."""

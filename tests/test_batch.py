@@ -33,6 +33,9 @@ EXAMPLE = TOP / "examples/filing"
 EXPECTED = (EXAMPLE / "expected.json").read_bytes()
 PROGRAM = os.path.abspath(os.environ.get("XBRL_JSON") or TOP / "dist/xbrl-json")
 SOON = 600.0  # seconds for what must happen on a loaded machine
+# Seconds for a report, of which the first suffice on a quiet machine. A run in which nothing began
+# within them is made again with the next ones.
+TIME_LIMITS = ("8", "60", "300")
 TRY_AGAIN = 75
 
 # Plays xbrl-json by the name of the document. All others are converted.
@@ -374,18 +377,23 @@ class TestLimits(Case):
     def test_a_time_limit_is_told_apart(self) -> None:
         self.play()
         reports = self.reports("a", "slow")
-        status, _ = self.run_many(reports, "--time-limit", "15", "--jobs", "1")
-        self.assertEqual(status, TRY_AGAIN)
-        self.assertEqual(self.outcome("slow")["outcome"], "time-limit")
+        for limit in TIME_LIMITS:
+            status, _ = self.run_many(reports, "--time-limit", limit, "--jobs", "1")
+            self.assertEqual(status, TRY_AGAIN)
+            self.assertEqual(self.outcome("slow")["outcome"], "time-limit")
+            if self.outcomes("a")["a"] == "done":
+                break
         self.assertEqual(self.outcomes("a")["a"], "done")
 
     def test_a_report_that_does_not_end_is_killed(self) -> None:
         self.play()
-        begun = time.monotonic()
-        status, _ = self.run_many(self.reports("stubborn"), "--time-limit", "8")
-        self.assertEqual(status, TRY_AGAIN)
-        self.assertTrue(Path(f"{self.played}.stubborn").exists(), "it never began")
-        self.assertLess(time.monotonic() - begun, SOON)
+        began = Path(f"{self.played}.stubborn")
+        for limit in TIME_LIMITS:
+            status, _ = self.run_many(self.reports("stubborn"), "--time-limit", limit)
+            self.assertEqual(status, TRY_AGAIN)
+            if began.exists():
+                break
+        self.assertTrue(began.exists(), "it never began")
         self.assertEqual(self.outcome("stubborn")["outcome"], "time-limit")
         self.wait_until_gone(str(self.played))
 
@@ -406,6 +414,11 @@ class TestLimits(Case):
         status, _ = self.run_many([report], "--memory-limit", str(96 << 20))
         self.assertEqual(status, TRY_AGAIN)
         self.assertEqual(self.outcome("large")["outcome"], "memory-limit")
+
+    def test_a_memory_limit_that_is_too_small_to_start(self) -> None:
+        status, err = self.run_many(self.reports("none"), "--memory-limit", "15000000")
+        self.assertEqual(status, TRY_AGAIN, err)
+        self.assertEqual(self.outcome("none")["outcome"], "memory-limit", err)
 
     def test_what_the_system_does_has_words_of_its_own(self) -> None:
         self.play()
@@ -547,9 +560,19 @@ class TestProgress(Case):
 
     def test_the_line_counts_and_tells_the_time_left(self) -> None:
         self.play()
+        reports = self.reports("a", "b", "slow")
+        for limit in TIME_LIMITS:
+            text = self.shown(reports, limit)
+            if "3 reports: 2 done" in text:
+                break
+        self.assertRegex(text, r"2 of 3: 2 done, 0 refused, 0 failed, 0 to try again; about \d+ ")
+        self.assertRegex(text, r"3 reports: 2 done, 0 refused, 0 failed, 1 to try again; \d+ s\r\n")
+
+    def shown(self, reports: List[str], limit: str) -> str:
+        """Convert reports anew, each within a time, and return what a terminal shows."""
         leader, follower = pty.openpty()
         process = subprocess.Popen(
-            self.words(self.reports("a", "b", "slow"), "--jobs", "2", "--time-limit", "15"),
+            self.words(reports, "--jobs", "2", "--time-limit", limit, "--again"),
             cwd=self.folder,
             env=self.environment,
             stdin=subprocess.DEVNULL,
@@ -567,9 +590,7 @@ class TestProgress(Case):
             said += piece
         os.close(leader)
         self.assertEqual(process.wait(SOON), TRY_AGAIN)
-        text = said.decode()
-        self.assertRegex(text, r"2 of 3: 2 done, 0 refused, 0 failed, 0 to try again; about \d+ ")
-        self.assertRegex(text, r"3 reports: 2 done, 0 refused, 0 failed, 1 to try again; \d+ s\r\n")
+        return said.decode()
 
 
 class TestCompletions(unittest.TestCase):

@@ -61,10 +61,13 @@ class TestTwoFiles(ExplainTest):
 
 URI = "http://example.com/eg"
 HEADER = "namespace,name,type\n"
+LONGEST = "namespace,name,type3,period,values\n"
 NOT_WHOLE = "the record has another number of cells than the header"
 NO_HEADER = "the file has no header"
 NO_TYPE = "this is not one of the types that the header allows"
-TYPES_HEADER = "the header is neither namespace,name,type nor namespace,name,type2"
+NO_PERIOD = "this must be empty, or for a concept instant or duration"
+NO_VALUES = "this must be empty, or for a typed dimension a simple type such as integer"
+TYPES_HEADER = "the header is not namespace,name, then type, type2 or type3,period,values"
 NO_NAME = "this name is not an NCName"
 TWO_LINES = f'\ufeff"namespace",name,type\n"{URI}\n\n",Cash,text\n{URI},,text\n'
 MANY_TYPES = HEADER + "".join(f"u,a{i},text\n" for i in range(1_048_577))
@@ -94,6 +97,55 @@ TYPES_FILES: dict[str, tuple[Content, str, str, str]] = {
         ", line 2, cell 3",
         '"text\\x0a"',
         NO_TYPE,
+    ),
+    "type3 without period and values": (
+        f"namespace,name,type3\n{URI},Cash,text\n",
+        ", line 1",
+        "namespace,name,type3",
+        TYPES_HEADER,
+    ),
+    "a record of three": (f"{LONGEST}{URI},Cash,text\n", ", line 2", "(a record of 3)", NOT_WHOLE),
+    "a type of no table": (
+        f"{LONGEST}{URI},Cash,monetary,instant,\n{URI},b,string,ever,x\n",
+        ", line 3, cell 3",
+        '"string"',
+        NO_TYPE,
+    ),
+    "a period": (
+        f"{LONGEST}{URI},Cash,monetary,ever,\n",
+        ", line 2, cell 4",
+        '"ever"',
+        NO_PERIOD,
+    ),
+    "a dimension's period": (
+        f"{LONGEST}{URI},Cash,shares,instant,\n{URI},Dim,explicit,instant,integer\n",
+        ", line 3, cell 4",
+        '"instant"',
+        NO_PERIOD,
+    ),
+    "a concept's values": (
+        f"{LONGEST}{URI},Cash,text,duration,integer\n",
+        ", line 2, cell 5",
+        '"integer"',
+        NO_VALUES,
+    ),
+    "a typed dimension's values": (
+        f"{LONGEST}{URI},a,typed,,\n{URI},b,typed,,gYear\n{URI},c,typed,,monetary\n",
+        ", line 4, cell 5",
+        '"monetary"',
+        NO_VALUES,
+    ),
+    "a member's values": (
+        f"{LONGEST}{URI},Red,member,,\n{URI},Blue,member,,integer\n",
+        ", line 3, cell 5",
+        '"integer"',
+        NO_VALUES,
+    ),
+    "a name twice under type3": (
+        f"{LONGEST}{URI},Cash,text,,\n{URI},Cash,member,,\n",
+        ", line 3, cell 2",
+        '"Cash"',
+        "an earlier record has this name in this namespace",
     ),
     "a record of two lines": (TWO_LINES, ", line 5, cell 2", '""', NO_NAME),
     "no UTF-8": (
@@ -212,7 +264,8 @@ class TestUnread(ExplainTest):
         lines = WHOLE_FILE, UNREAD
         words = ("r/m.json", "--types", "r")
         self.says({}, "types: Read (17)", "r", *lines, words=words)
-        self.says({}, "report: Read (17)", "r", *lines, words=("r", "--types", "t.csv"))
+        filed = "if this folder is a filing, convert it with xbrl-filing"
+        self.says({}, "report: Read (17)", "r", *lines, filed, words=("r", "--types", "t.csv"))
         (self.folder / "r/p/p.csv").mkdir(parents=True)
         report = {**REPORT, "parameterURL": "p/p.csv"}
         self.says({"r/m.json": report}, "parameters: Read (17)", "r/p/p.csv", *lines)

@@ -98,7 +98,7 @@ METADATA: list[tuple[Place, Any, str, str, str, str]] = [
         "Unsupported (5)",
         "/documentInfo/extends",
         "(a list of 1)",
-        "extends is not empty: put what it extends into one file first",
+        "extends is not empty: this is a filing, convert it with xbrl-filing",
     ),
     (
         ("links",),

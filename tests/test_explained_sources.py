@@ -73,7 +73,7 @@ SOURCES: list[tuple[dict[Place, Any], str, str, str, list[str]]] = [
         "cash,kind\n1,#nil\n",
         "UnknownGroup (32)",
         "a cell names no property group of its column",
-        [f'{AT_TWO}: "#nil"'],
+        [f'{AT_TWO}: "#nil"', '"#nil" in kind: this column knows net, own'],
     ),
     (
         {("dimensions", "entity"): "$note"},

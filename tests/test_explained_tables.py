@@ -32,6 +32,22 @@ OTHER_NUMERAL = (
 BAD_SUFFIX = "behind the d of a numeral stands neither a whole number of 32 bits nor INF"
 BEYOND = "INF and NaN are values that cannot be carried over"
 SEPARATORS = "a numeral has no separators of thousands, and its decimal sign is a point"
+EXPONENT = "only a double has an exponent: write the number out, as 120000 for 1.2E+5"
+DECIMAL_COMMA = "the decimal sign is a point, not a comma: write 1.5 for 1,5"
+BLANKS = "a numeral has no blanks, also none that do not break a line"
+MINUS = "the minus sign is the hyphen of the keyboard, not a dash or U+2212"
+BRACKETS = "brackets make no number negative: write a hyphen before it"
+PERCENT = "a numeral has no percent sign: 5% is written 0.05"
+CURRENCY = "a numeral has no currency: the unit is a dimension of the fact"
+SPREADSHEET = "this is an error of the spreadsheet, not a value: mend the cell's formula"
+
+
+def shown(cell: str) -> str:
+    """Returns a text with the codes of blanks that do not break a line and of narrow ones."""
+    for blank in "\u2009\u202f":
+        cell = cell.replace(blank, f"\\u{ord(blank):04x}")
+    return cell
+
 
 # What is edited in the metadata, the table (None: it has no file), the place and the fault, the
 # three lines, and those of the places elsewhere that cause the fault.
@@ -52,7 +68,7 @@ TABLES: list[tuple[Any, ...]] = [
         "1, 1 BadNumber (40)",
         "r/t1.csv, line 2, cell 1",
         '"1\\u00a0000" in cash (eg:Cash) of row r_1',
-        NO_NUMERAL,
+        BLANKS,
     ),
     *(
         (
@@ -60,11 +76,12 @@ TABLES: list[tuple[Any, ...]] = [
             f'cash,note\n"{cell}",a\n',
             "1, 1 BadNumber (40)",
             "r/t1.csv, line 2, cell 1",
-            f'"{cell}" in cash (eg:Cash) of row r_1',
+            f'"{shown(cell)}" in cash (eg:Cash) of row r_1',
             sentence,
         )
         for sentence, cells in (
-            (OTHER_NUMERAL, ("12.5", "1e3", "-1.5E-3", " 12.5 ", "12.5d2", ".5", "1.d-3")),
+            (OTHER_NUMERAL, ("12.5", " 12.5 ", "12.5d2", ".5", "1.d-3")),
+            (EXPONENT, ("1e3", "-1.5E-3")),
             (
                 BAD_SUFFIX,
                 (
@@ -79,8 +96,15 @@ TABLES: list[tuple[Any, ...]] = [
                 ),
             ),
             (BEYOND, ("INF", "-INF", "+INF", "NaN", " INF ")),
-            (SEPARATORS, ("1,200", "1,200.50", "12,5", ",", "1,x")),
-            (NO_NUMERAL, ("1x0", "d2", "-", "x", "1 200", "inf", "INFd2", "1.2.3", "12D2", "##1")),
+            (SEPARATORS, ("1,200", "1,200.50", ",", "1,x", "1.200.000", "1.200,50", "1'200")),
+            (DECIMAL_COMMA, ("12,5", "-1234,56", "0,0001")),
+            (BLANKS, ("1 200", "1\u202f200", "\u2009" + "1", "- 1")),
+            (MINUS, ("\u2212" + "1", "\u2013" + "1 200")),
+            (BRACKETS, ("(1200)", "(1,200)")),
+            (PERCENT, ("5%", "5 %")),
+            (CURRENCY, ("\u20ac 5", "5 EUR", "$5", "USD1,200")),
+            (SPREADSHEET, ("####", "########")),
+            (NO_NUMERAL, ("1x0", "d2", "-", "x", "inf", "INFd2", "12D2", "##1", "EUR")),
         )
         for cell in cells
     ),
@@ -91,6 +115,7 @@ TABLES: list[tuple[Any, ...]] = [
         "r/t1.csv, line 1, cell 1",
         '"\\ufeffcash"',
         "a header cell does not name a column of the template",
+        'did you mean "cash"?',
     ),
     (
         {},
@@ -172,6 +197,7 @@ TABLES: list[tuple[Any, ...]] = [
         '"1" in cash of row r_1',
         "a cell names no property group of its column",
         'r/t1.csv, line 2, cell 2: "gross"',
+        '"gross" in g: this column knows net',
     ),
     (
         {(*CASH, "dimensions"): {}},
@@ -282,7 +308,7 @@ TABLES: list[tuple[Any, ...]] = [
         "1, 1 BadFactValue (44)",
         "r/t1.csv, line 2, cell 1",
         '"yes" in cash (eg:Open) of row r_1',
-        "the cell of a boolean, date or name is not well-formed, or its prefix is not declared",
+        "a yes/no cell holds true, false, 1 or 0, in small letters",
     ),
 ]
 

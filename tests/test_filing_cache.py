@@ -35,6 +35,12 @@ from tests.filing_samples import (
 from tests.filings import FILING, FilingTest, heeded, heeding, run
 from tests.harness import PATIENCE, TOP, write
 
+# The module with the names that it imports.
+whole_digests: Any = digests
+
+# The module with the names that it imports.
+whole_command: Any = command
+
 
 def cached_runs(
     folder: Path,
@@ -76,16 +82,16 @@ class TestRuns(FilingTest):
         self.case("keeps one entry", len(entries()), 1)
         kept = folder / "c" / entries()[0]
         marked = kept.read_bytes().replace(b"Note text", b"Nota text")
-        reader = command.read_schemas
+        reader = whole_command.read_schemas
         try:
-            command.read_schemas = None
+            whole_command.read_schemas = None
             self.case(
                 "and the next one reads it, and no schema",
                 (made(), len(entries())),
                 (((0, ""), TYPES), 1),
             )
         finally:
-            command.read_schemas = reader
+            whole_command.read_schemas = reader
         kept.write_bytes(marked)
         self.case("an entry that was changed is not taken", made(), ((0, ""), TYPES))
         self.case("and is made anew", b"Note text" in kept.read_bytes(), True)
@@ -223,7 +229,7 @@ class TestRuns(FilingTest):
         """
         folder = self.folder
         made, entries = cached_runs(folder)
-        reader, key_of = command.read_schemas, command.key_of
+        reader, key_of = whole_command.read_schemas, whole_command.key_of
         other = {**TAXONOMY, "reg/mod.xsd": schema(ELEMENTS.replace("Note", "Nope"))}
 
         def and_then_changed(*given: Any) -> Any:
@@ -239,16 +245,16 @@ class TestRuns(FilingTest):
             return key_of(*given)
 
         try:
-            command.read_schemas = and_then_changed
+            whole_command.read_schemas = and_then_changed
             self.case(
                 "a folder that is changed while it is read",
                 (made(), (folder / "c").exists()),
                 (((0, ""), TYPES), False),
             )
-            command.read_schemas, command.key_of = reader, changed_first
+            whole_command.read_schemas, whole_command.key_of = reader, changed_first
             self.case("a ZIP that is replaced while it is read", made("t.zip"), ((0, ""), TYPES))
         finally:
-            command.read_schemas, command.key_of = reader, key_of
+            whole_command.read_schemas, whole_command.key_of = reader, key_of
         new = TYPES.replace("Note", "Nope")
         self.case(
             "what it was is not taken for what it is",
@@ -348,7 +354,7 @@ class TestRuns(FilingTest):
             own(b"".join(own(text[at : at + 7]) for at in range(0, len(text) or 1, 7)))
             for text in texts
         ]
-        kept = digests.BLOCK, digests.processors, digests.Thread, digests.Blocks.digest
+        kept = digests.BLOCK, digests.processors, whole_digests.Thread, whole_digests.Blocks.digest
         workers: set[int] = set()
 
         def together(blocks: digests.Blocks, *place: Any) -> bytes:
@@ -356,7 +362,8 @@ class TestRuns(FilingTest):
             if threading.get_ident() not in workers:
                 workers.add(threading.get_ident())
                 meeting.wait(PATIENCE)
-            return kept[3](blocks, *place)
+            made: bytes = kept[3](blocks, *place)
+            return made
 
         class NoThread(threading.Thread):
             """A thread that does not start."""
@@ -372,7 +379,7 @@ class TestRuns(FilingTest):
                 self.case(
                     f"digests of blocks on {number} processors", digests.digests_of(files), wanted
                 )
-            digests.Blocks.digest = together
+            whole_digests.Blocks.digest = together
             for number, used in ((1, 1), (3, 3), (100, digests.MOST_THREADS)):
                 workers.clear()
                 meeting = threading.Barrier(used)
@@ -391,10 +398,10 @@ class TestRuns(FilingTest):
             )
             workers.clear()
             meeting = threading.Barrier(1)
-            digests.Thread = NoThread
+            whole_digests.Thread = NoThread
             self.case("a system that gives no threads", digests.digests_of(files), wanted)
         finally:
-            digests.BLOCK, digests.processors, digests.Thread, digests.Blocks.digest = kept
+            digests.BLOCK, digests.processors, whole_digests.Thread, whole_digests.Blocks.digest = kept
         self.case("no files", digests.digests_of([]), [])
         self.case(
             "a file that has grown a little counts as it is",
@@ -419,7 +426,7 @@ class TestRuns(FilingTest):
             except (MemoryError, stopping.Stopped) as error:
                 return type(error)
 
-        kept, digest = digests.processors, digests.Blocks.digest
+        kept, digest = digests.processors, whole_digests.Blocks.digest
         main_thread = threading.get_ident()
 
         def signalled(blocks: digests.Blocks, *place: Any) -> bytes:
@@ -437,9 +444,10 @@ class TestRuns(FilingTest):
                     seen(number),
                     (3, "b: cannot read (No such file or directory)"),
                 )
-            digests.Blocks.digest = lambda *_: (_ for _ in ()).throw(MemoryError)
+            whole_digests.Blocks.digest = lambda *_: (_ for _ in ()).throw(MemoryError)
             self.case("too little memory to digest", seen(4), MemoryError)
-            digests.Blocks.digest, done = signalled, []
+            whole_digests.Blocks.digest = signalled
+            done: list[object] = []
             heeded()
             self.case(
                 "a signal while contents are digested",
@@ -447,7 +455,7 @@ class TestRuns(FilingTest):
                 (stopping.Stopped, 1, True),
             )
         finally:
-            digests.processors, digests.Blocks.digest = kept, digest
+            digests.processors, whole_digests.Blocks.digest = kept, digest
             heeding()
 
     def test_what_is_not_kept(self) -> None:

@@ -1,6 +1,7 @@
 """Tests which file a URL leads to, by catalogs and by references of the report."""
 from __future__ import annotations
 
+import functools
 import json
 from collections.abc import Iterator, Mapping
 from typing import Any
@@ -257,7 +258,7 @@ def normal_forms() -> Iterator[Case]:
         ("http://a.example/x#%41", "http://a.example/x#%41"),
         ("urn:A:%41", "urn:A:%41"),
     ):
-        yield equal(f"the normal form of {text}", lambda text=text: normal(text), wanted)
+        yield equal(f"the normal form of {text}", functools.partial(normal, text), wanted)
     percent = meta({"extends": [HOST + "a%20%C3%A9.json#x"]})
     yield makes(
         "percent signs",

@@ -12,6 +12,7 @@ from tests.filing_samples import (
     MODULE,
     REPORT,
     TAXONOMY,
+    TYPES_HEADER,
     catalog,
     item,
     meta,
@@ -20,6 +21,9 @@ from tests.filing_samples import (
 )
 from tests.filings import Case, FilingTest, cases, makes, run, stops
 from tests.harness import for_each, write
+
+# The module with the names that it imports.
+whole_command: Any = command
 
 
 def extending(*names: str, **more: Any) -> dict[str, Any]:
@@ -67,7 +71,7 @@ def chains() -> Iterator[Case]:
     ).then(
         "types of all levels in byte order",
         lambda made: made["types.csv"].decode(),
-        "namespace,name,type2\n" + "".join(f"http://{it}/,C,text\n" for it in "abcde"),
+        TYPES_HEADER + "".join(f"http://{it}/,C,text,,\n" for it in "abcde"),
     )
 
 
@@ -362,12 +366,12 @@ class TestRuns(FilingTest):
         spelled.update({"low.json": meta(), "mid.json": meta({"extends": ["lo%77.json"]})})
         write(folder / "spelled", spelled)
         report_file, packages_given = command.open_inputs(
-            command.read_words([str(folder / "spelled")])
+            whole_command.read_words([str(folder / "spelled")])
         )
         seen = [
             it.found.name
-            for it in command.Chain(
-                report_file, command.Finder(report_file.package, packages_given)
+            for it in whole_command.Chain(
+                report_file, whole_command.Finder(report_file.package, packages_given)
             )
         ]
         self.case(

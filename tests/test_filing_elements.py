@@ -46,28 +46,31 @@ class Elements(unittest.TestCase):
         self.assertEqual(seen, f"{line}: check where the package is from")
 
     def test_schemas_and_linkbases(self) -> None:
-        """Each element counts, as do a prefix, a base and a reference that is followed."""
+        """Each element counts, as do a prefix, a base and a reference that is followed.
+
+        A prefix counts as two elements, a base and a reference as ten.
+        """
         elements = "<xs:annotation><a/><a/></xs:annotation>"
         own = schema("")
-        self.counts({"reg/mod.xsd": own}, 3)  # with two prefixes
-        self.counts({"reg/mod.xsd": schema(elements)}, 6)
-        self.counts({"reg/mod.xsd": schema(elements.replace("<a/>", '<a xmlns="x"/>'))}, 8)
-        self.counts({"reg/mod.xsd": schema(elements.replace("<a/>", '<a xml:base="x"/>'))}, 26)
-        self.counts({"reg/mod.xsd": linked(["<a/>"] * 4)}, 7)
+        self.counts({"reg/mod.xsd": own}, 5)  # with two prefixes
+        self.counts({"reg/mod.xsd": schema(elements)}, 8)
+        self.counts({"reg/mod.xsd": schema(elements.replace("<a/>", '<a xmlns="x"/>'))}, 12)
+        self.counts({"reg/mod.xsd": schema(elements.replace("<a/>", '<a xml:base="x"/>'))}, 28)
+        self.counts({"reg/mod.xsd": linked(["<a/>"] * 4)}, 9)
         many = linked(["<a/>"] * 200_000)
-        self.counts({"reg/mod.xsd": many}, 200_003)  # more than are counted together
+        self.counts({"reg/mod.xsd": many}, 200_005)  # more than are counted together
         two: Dict[str, str] = {"reg/mod.xsd": schema(asks("two.xsd") * 3), "reg/two.xsd": own}
-        self.counts({**two}, 3 + 3 + 10 + 3, "reg/two.xsd")
+        self.counts({**two}, 5 + 3 + 10 + 5, "reg/two.xsd")
         links = linked([loc(f"two.xsd#{it}") for it in range(5)])
-        self.counts({**two, "reg/mod.xsd": links}, 3 + 5 + 10 + 3, "reg/two.xsd")
+        self.counts({**two, "reg/mod.xsd": links}, 5 + 5 + 10 + 5, "reg/two.xsd")
 
     def test_catalogs(self) -> None:
         """The elements of catalogs have a bound of their own."""
         entries = catalog_of(rewrite() * 3)  # with one prefix
         files: Files = {"META-INF/catalog.xml": entries, "reg/mod.xsd": schema("")}
-        self.assertEqual(self.read(files, 100, 5), "")
-        line = "t.zip/META-INF/catalog.xml: has more than 4 elements, with the XML read before it"
-        self.assertEqual(self.read(files, 100, 4), f"{line}: check where the package is from")
+        self.assertEqual(self.read(files, 100, 6), "")
+        line = "t.zip/META-INF/catalog.xml: has more than 5 elements, with the XML read before it"
+        self.assertEqual(self.read(files, 100, 5), f"{line}: check where the package is from")
 
     def test_length(self) -> None:
         """Elements above those that are free have a length on average."""

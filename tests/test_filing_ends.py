@@ -20,6 +20,12 @@ from tests.filing_samples import MERGED, MODULE, REPORT, pack
 from tests.filings import FILING, FilingTest, heeded, heeding, run, start, with_fake, write_inputs
 from tests.harness import PATIENCE, TOP, write
 
+# The module with the names that it imports.
+whole_stopping: Any = stopping
+
+# The module with the names that it imports.
+whole_command: Any = command
+
 SHOWS = (
     'for it in "$@"; do echo "$it"; done; pwd; d=$(dirname "$1"); ls -la "$d" | grep -c -- "->";'
     ' stat -c %a "$d"'
@@ -194,6 +200,7 @@ class TestRuns(FilingTest):
                 stderr=subprocess.PIPE,
                 preexec_fn=heeding,
             )
+            assert done.stdout is not None  # it is a pipe
             ready = done.stdout.readline()
             there = len(os.listdir(temporary))
             done.send_signal(number)
@@ -240,6 +247,7 @@ class TestRuns(FilingTest):
             stdout=subprocess.PIPE,
             preexec_fn=lambda: signal.signal(signal.SIGTERM, signal.SIG_IGN),
         )
+        assert done.stdout is not None  # it is a pipe
         done.stdout.readline()
         done.send_signal(signal.SIGTERM)
         done.communicate(timeout=PATIENCE)
@@ -262,7 +270,7 @@ class TestRuns(FilingTest):
         temporary, _, _ = with_fake(folder)
         pack(
             folder / "big.zip",
-            {"reports/report.json": REPORT["reports/report.json"], "reports/t.csv": b"x" * 200_000},
+            dict(REPORT, **{"reports/t.csv": "x" * 200_000}),
         )
 
         def limited() -> None:
@@ -344,7 +352,7 @@ class TestRuns(FilingTest):
                 (status, out, said, err.count("\n")),
                 (3, b"", True, 1),
             )
-        kept = strict_json.LARGEST, command.find_report
+        kept = strict_json.LARGEST, whole_command.find_report
         try:
             strict_json.LARGEST = len(REPORT["reports/report.json"])
             self.case(
@@ -352,7 +360,7 @@ class TestRuns(FilingTest):
                 run(["r", "--taxonomy", "t"], folder),
                 (1, f"xbrl-filing: t/reg/mod.json: has more than {strict_json.LARGEST} bytes\n"),
             )
-            command.find_report = lambda _: {}["a\nb"]
+            whole_command.find_report = lambda _: dict[str, Any]()["a\nb"]
             self.case(
                 "a fault of the program",
                 run(["r"], folder),
@@ -367,20 +375,20 @@ class TestRuns(FilingTest):
                 self.case(
                     f"its traceback, where XBRL_FILING_DEBUG is '{value}'", seen, (3, through)
                 )
-            command.find_report = lambda _: open("none")
+            whole_command.find_report = lambda _: open("none")
             self.case(
                 "a file that is gone",
                 run(["r"], folder),
                 (3, "xbrl-filing: none: cannot read or write (No such file or directory)\n"),
             )
-            command.find_report = lambda _: (_ for _ in ()).throw(MemoryError)
+            whole_command.find_report = lambda _: (_ for _ in ()).throw(MemoryError)
             self.case(
                 "too little memory",
                 run(["r"], folder),
                 (3, "xbrl-filing: there is not enough memory\n"),
             )
         finally:
-            strict_json.LARGEST, command.find_report = kept
+            strict_json.LARGEST, whole_command.find_report = kept
 
     def test_whose_fault(self) -> None:
         """What is not the fault of the report has status 3.
@@ -436,10 +444,11 @@ class TestRuns(FilingTest):
 
         xbrl-json must get the first; the second must wait.
         """
+        status: Any
         folder = self.folder
         seen: list[subprocess.Popen[bytes]] = []
 
-        class Started(subprocess.Popen):
+        class Started(subprocess.Popen[bytes]):
             """Starts a program while a signal arrives."""
 
             def __init__(self, given: list[str], **more: Any) -> None:
@@ -456,9 +465,9 @@ class TestRuns(FilingTest):
                 os.kill(os.getpid(), signal.SIGTERM)
                 shutil.rmtree(path, ignore_errors=ignore_errors)
 
-        kept = stopping.subprocess.Popen, stopping.shutil
+        kept = whole_stopping.subprocess.Popen, whole_stopping.shutil
         try:
-            stopping.subprocess.Popen = Started
+            whole_stopping.subprocess.Popen = Started
             try:
                 status = stopping.run_program(["sleep", "30"], heeded())
             except stopping.Stopped as stopped:
@@ -468,7 +477,7 @@ class TestRuns(FilingTest):
                 (getattr(status, "number", status), seen[0].poll()),
                 (signal.SIGTERM, -signal.SIGTERM),
             )
-            stopping.shutil = Removing()
+            whole_stopping.shutil = Removing()
             try:
                 with stopping.temporary_folder(str(folder), "x-", heeded()) as made:
                     write(Path(made), {"a/b": "c"})
@@ -481,7 +490,7 @@ class TestRuns(FilingTest):
                 (signal.SIGTERM, []),
             )
         finally:
-            stopping.subprocess.Popen, stopping.shutil = kept
+            whole_stopping.subprocess.Popen, whole_stopping.shutil = kept
             heeding()
 
     def test_a_signal_at_each_step(self) -> None:
@@ -490,7 +499,9 @@ class TestRuns(FilingTest):
         temporary, fake, _ = with_fake(folder)
         fake.write_text("#!/bin/sh\n")
         files = {module.__file__ for module in (command, stopping, contextlib)}
-        ended, wrong, number, steps = [], [], 0, 0
+        ended: list[object] = []
+        wrong: list[object] = []
+        number, steps = 0, 0
 
         def step(frame: FrameType, *_: Any) -> Callable[..., Any] | None:
             """Counts the lines of the watched files, and signals this process at one of them."""
@@ -513,11 +524,11 @@ class TestRuns(FilingTest):
             finally:
                 sys.settrace(None)
 
-        kept, before = (command.end_by_signal, stopping.end_by_signal), os.environ.get("TMPDIR")
+        kept, before = (whole_command.end_by_signal, stopping.end_by_signal), os.environ.get("TMPDIR")
         os.environ["TMPDIR"] = str(temporary)
         os.chdir(folder)
         try:
-            command.end_by_signal = ended.append
+            whole_command.end_by_signal = ended.append
             self.case("steps are counted", stepped(), 0)
             for number in range(1, steps):
                 status, left = stepped(), os.listdir(temporary)
@@ -529,7 +540,7 @@ class TestRuns(FilingTest):
                 "a signal at each step", (wrong, number > 200, len(ended) > 200), ([], True, True)
             )
         finally:
-            command.end_by_signal = kept[0]
+            whole_command.end_by_signal = kept[0]
             os.chdir(TOP)
             os.environ.pop("TMPDIR")
             if before is not None:

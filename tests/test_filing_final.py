@@ -264,7 +264,7 @@ def prefixes() -> Iterator[Case]:
         "eg:Region": "$m",
         "eg:Branch": "$$m:x",
     }
-    template = {
+    template: dict[str, Any] = {
         "rowIdColumn": "m",
         "dimensions": {"g:Region": "m:x", "g:Branch": "m:x"},
         "columns": {
@@ -291,7 +291,7 @@ def prefixes() -> Iterator[Case]:
         },
         "decimals": "$m",
     }
-    wanted = {
+    wanted: dict[str, Any] = {
         "rowIdColumn": "m",
         "dimensions": {"eg:Region": "n:x", "eg:Branch": "m:x"},
         "columns": {
@@ -466,15 +466,15 @@ def lost_prefixes() -> Iterator[Case]:
         report=file,
         taxonomies=[module],
     )
-    for name, text in (
+    for name, content in (
         ("three cells", b"name,value\nx,m:x,y\n"),
         ("bytes that are not UTF-8", b"name,value\nx,\xff\n"),
     ):
-        file = {**named_report(parameterURL="p.csv"), "reports/p.csv": text}
+        mixed: dict[str, Any] = {**named_report(parameterURL="p.csv"), "reports/p.csv": content}
         yield makes(
             f"a parameters file with {name} is left",
             parts={"parameterURL": "p.csv"},
-            report=file,
+            report=mixed,
             taxonomies=[module],
         )
     kept = {"a": "n:x", "b": "am:x", "c": "m"}

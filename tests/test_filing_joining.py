@@ -414,58 +414,57 @@ class TestRuns(FilingTest):
             """Returns templates with one column."""
             return {"t": {"columns": {"c": more}}}
 
-        for number, wrong_part in enumerate(
-            (
-                *(
-                    {"tableTemplates": {"t": it}}
-                    for it in (
-                        1,
-                        [],
-                        None,
-                        "x",
-                        {"columns": []},
-                        {"columns": 1},
-                        {"columns": {"c": 7}},
-                        {"columns": {"c": []}},
-                    )
-                ),
-                *(
-                    {"tableTemplates": column(propertyGroups=it)}
-                    for it in (1, [], {"g": 1}, {"g": []}, {"g": {"dimensions": 1}})
-                ),
-                *(
-                    {"tableTemplates": column(dimensions=it)}
-                    for it in (
-                        1,
-                        [],
-                        None,
-                        "x",
-                        {"concept": 5},
-                        {"concept": ["eg:Cash"]},
-                        {"concept": {}},
-                        {"unit": 1},
-                    )
-                ),
-                *({"dimensions": {"concept": it}} for it in (5, ["x"], {}, None, True)),
-                *(
-                    {"tables": {"t": it}}
-                    for it in (
-                        1,
-                        [],
-                        None,
-                        {"url": [], "template": "t"},
-                        {"url": "t.csv", "template": "t", "parameters": []},
-                    )
-                ),
-                *(
-                    {"tables": {"t": {"url": "t.csv", "template": it}}}
-                    for it in (1, ["t"], {}, None)
-                ),
-                {"parameters": {"a": 1, "b": []}},
-                {"decimals": {}},
-                {"parameterURL": []},
-            )
-        ):
+        wrong_parts: tuple[dict[str, Any], ...] = (
+            *(
+                {"tableTemplates": {"t": it}}
+                for it in (
+                    1,
+                    [],
+                    None,
+                    "x",
+                    {"columns": []},
+                    {"columns": 1},
+                    {"columns": {"c": 7}},
+                    {"columns": {"c": []}},
+                )
+            ),
+            *(
+                {"tableTemplates": column(propertyGroups=it)}
+                for it in (1, [], {"g": 1}, {"g": []}, {"g": {"dimensions": 1}})
+            ),
+            *(
+                {"tableTemplates": column(dimensions=it)}
+                for it in (
+                    1,
+                    [],
+                    None,
+                    "x",
+                    {"concept": 5},
+                    {"concept": ["eg:Cash"]},
+                    {"concept": {}},
+                    {"unit": 1},
+                )
+            ),
+            *({"dimensions": {"concept": it}} for it in (5, ["x"], {}, None, True)),
+            *(
+                {"tables": {"t": it}}
+                for it in (
+                    1,
+                    [],
+                    None,
+                    {"url": [], "template": "t"},
+                    {"url": "t.csv", "template": "t", "parameters": []},
+                )
+            ),
+            *(
+                {"tables": {"t": {"url": "t.csv", "template": it}}}
+                for it in (1, ["t"], {}, None)
+            ),
+            {"parameters": {"a": 1, "b": []}},
+            {"decimals": {}},
+            {"parameterURL": []},
+        )
+        for number, wrong_part in enumerate(wrong_parts):
             info: dict[str, Any] = {
                 "namespaces": {"eg": EG, "m": "http://mem/", "odd": 1, "list": []}
             }

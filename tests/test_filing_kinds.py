@@ -10,6 +10,7 @@ from tests.filing_samples import (
     INFO,
     REPORT,
     TAXONOMY,
+    TYPES_HEADER,
     Text,
     XBRLI,
     derived,
@@ -24,20 +25,20 @@ from tests.filings import Case, FilingTest, cases, makes, stops, worked
 from tests.harness import for_each
 
 ITEM_TYPES = {
-    "decimal": "decimal monetary shares pure",
-    "integer": (
-        "integer nonPositiveInteger negativeInteger nonNegativeInteger positiveInteger long int"
-        " short byte unsignedLong unsignedInt unsignedShort unsignedByte"
-    ),
+    **{
+        it: it
+        for it in (
+            "monetary shares integer nonPositiveInteger negativeInteger nonNegativeInteger"
+            " positiveInteger long int short byte unsignedLong unsignedInt unsignedShort"
+            " unsignedByte boolean date dateTime time duration gYear gYearMonth gMonth gMonthDay"
+            " gDay language NCName hexBinary"
+        ).split()
+    },
+    "decimal": "decimal pure",
     "double": "float double",
     "text": "string normalizedString token",
-    "boolean": "boolean",
-    "date": "date",
     "qname": "QName",
-    "other": (
-        "language Name NCName anyURI hexBinary base64Binary duration dateTime time gYear gYearMonth"
-        " gMonth gMonthDay gDay"
-    ),
+    "other": "Name anyURI base64Binary",
 }
 
 
@@ -67,13 +68,12 @@ KNOWN = [
         ),
     ),
     (
-        "decimal",
+        "monetary",
         DTR + "2022-03-31",
-        (
-            "noDecimalsMonetary nonNegativeMonetary nonNegativeNoDecimalsMonetary monetaryPerLength"
-            " monetaryPerArea"
-        ),
+        "noDecimalsMonetary nonNegativeMonetary nonNegativeNoDecimalsMonetary",
     ),
+    ("monetary", DTR + "numeric", "noDecimalsMonetary nonNegativeMonetary"),
+    ("decimal", DTR + "2022-03-31", "monetaryPerLength monetaryPerArea"),
     (
         "decimal",
         DTR + "2022-03-31",
@@ -81,11 +81,11 @@ KNOWN = [
     ),
     ("decimal", DTR + "2022-03-31", "ghgEmissionsPerMonetary volumePerMonetary perUnit"),
     ("other", DTR + "2024-01-31", "SQName SQNames prefixedContent"),
-    ("qname", "http://xbrl.org/2014/extensible-enumerations", "enumeration"),
-    ("qname", "http://xbrl.org/PWD/2016-10-12/extensible-enumerations-1.1", "enumeration"),
-    ("qname", "http://xbrl.org/2020/extensible-enumerations-2.0", "enumeration"),
+    ("enumeration", "http://xbrl.org/2014/extensible-enumerations", "enumeration"),
+    ("enumeration", "http://xbrl.org/PWD/2016-10-12/extensible-enumerations-1.1", "enumeration"),
+    ("enumeration", "http://xbrl.org/2020/extensible-enumerations-2.0", "enumeration"),
     ("other", "http://xbrl.org/PWD/2016-10-12/extensible-enumerations-1.1", "enumerations"),
-    ("other", "http://xbrl.org/2020/extensible-enumerations-2.0", "enumerationSet"),
+    ("enumerations", "http://xbrl.org/2020/extensible-enumerations-2.0", "enumerationSet"),
 ]
 
 
@@ -147,6 +147,7 @@ def kinds() -> Iterator[Case]:
         + seen.format("X", "none"),
         "P,decimal",
         "N,date",
+        "X,member",
         **own,
     )
     other = (
@@ -154,7 +155,7 @@ def kinds() -> Iterator[Case]:
         ' substitutionGroup="xbrli:item"/>'
         + item("B")
     )
-    yield kinds_are("another namespace is not the registry's", other, "B,text")
+    yield kinds_are("another namespace is not the registry's", other, "A,member", "B,text")
     yield kinds_are(
         "a copy of the instance schema does not count",
         item("A", "xbrli:dateItemType") + include("x.xsd"),
@@ -191,7 +192,7 @@ def kinds_of_elements() -> Iterator[Case]:
         + item("A", "eg:S")
         + item("B")
     )
-    yield kinds_are("a simple type is no item type", simple, "B,text")
+    yield kinds_are("a simple type is no item type", simple, "A,member", "B,text")
     simple = '<xs:simpleType><xs:restriction base="xbrli:stringItemType"/></xs:simpleType>'
     restricted = (
         "<xs:simpleContent><xs:restriction"
@@ -210,6 +211,7 @@ def kinds_of_elements() -> Iterator[Case]:
     yield kinds_are(
         "derivations of elements inside of a type do not count",
         within + item("A", "eg:T") + item("B"),
+        "A,member",
         "B,text",
     )
 
@@ -227,13 +229,16 @@ def heads_of_elements() -> Iterator[Case]:
         + headed("D eg:C")
     )
     chain += headed("C eg:B", more='type="xbrli:booleanItemType"')
-    yield kinds_are("the type of the head", chain, "A,date", "B,date", "C,boolean", "D,boolean")
+    types = "A,date", "B,date", "C,boolean", "D,boolean", "H,member"
+    yield kinds_are("the type of the head", chain, *types)
     yield kinds_are(
         "abstract items",
         item("A", more='abstract="true"')
         + item("B", more='abstract=" 1 "')
         + item("C", more='abstract="false"')
         + item("D", more='abstract="0"'),
+        "A,member",
+        "B,member",
         "C,text",
         "D,text",
     )
@@ -262,6 +267,7 @@ def heads_of_elements() -> Iterator[Case]:
     yield kinds_are(
         "a ring above the head of all items",
         include("i.xsd") + headed("A xbrli:item") + item("B"),
+        "A,member",
         "B,text",
         **{"reg/i.xsd": ring},
     )
@@ -276,6 +282,134 @@ def heads_of_elements() -> Iterator[Case]:
 @for_each(cases(heads_of_elements()))
 class TestHeadsOfElements(FilingTest):
     """The cases of `heads_of_elements`."""
+
+
+def periods() -> Iterator[Case]:
+    """The period of a concept, which is its element's own attribute."""
+    attribute = 'xbrli:periodType="{}"'
+    texts = {"A": "instant", "B": "duration", "C": " instant ", "D": "forever", "E": ""}
+    body = "".join(item(it, more=attribute.format(text)) for it, text in texts.items())
+    body += item("F") + item("G", more='periodType="instant"') + headed("H eg:A")
+    abstract = attribute.format("instant") + ' abstract="true"'
+    body += item("I", more=abstract) + headed("J xbrldt:dimensionItem", more=abstract)
+    yield kinds_are(
+        "the period of a concept",
+        body,
+        "A,text,instant",
+        "B,text,duration",
+        "C,text,instant",
+        *(f"{it},text" for it in "DEFGH"),
+        "I,member",
+        "J,explicit",
+    )
+
+
+@for_each(cases(periods()))
+class TestPeriods(FilingTest):
+    """The cases of `periods`."""
+
+
+SIMPLE = {
+    **{
+        f"xs:{it}": it
+        for it in (
+            "decimal integer nonPositiveInteger negativeInteger nonNegativeInteger positiveInteger"
+            " long int short byte unsignedLong unsignedInt unsignedShort unsignedByte double boolean"
+            " date dateTime time duration gYear gYearMonth gMonth gMonthDay gDay language NCName"
+            " hexBinary"
+        ).split()
+    },
+    "xs:float": "double",
+    "xs:QName": "qname",
+    **dict.fromkeys(("xs:ID", "xs:IDREF", "xs:ENTITY"), "NCName"),
+    **dict.fromkeys(("xbrli:monetary", "xbrli:shares", "xbrli:pure"), "decimal"),
+    **{
+        f"xs:{it}": ""
+        for it in "string normalizedString token anyURI Name NMTOKEN base64Binary anyType".split()
+    },
+    "xbrli:dateUnion": "",
+    "xbrli:dateItemType": "",
+    "eg:None": "",
+}
+INSIDE = '<xs:element name="b_{0}" id="b_{0}">{1}</xs:element>'
+RESTRICTED = '<xs:simpleType{}><xs:restriction base="{}"><xs:minLength value="1"/>{}'
+RESTRICTED += "</xs:restriction></xs:simpleType>"
+ENDS = "<xs:simpleType{}>{}</xs:simpleType>"
+
+
+def typed(name: str, reference: str) -> str:
+    """Returns the element of a typed dimension."""
+    return headed(f"{name} xbrldt:dimensionItem", more=f'xbrldt:typedDomainRef="{reference}"')
+
+
+def typed_domains() -> Iterator[Case]:
+    """The type of the values of a typed dimension, which is that of another element."""
+    kinds = list(SIMPLE.items())
+    yield kinds_are(
+        "the simple types",
+        "".join(
+            f'<xs:element name="b{it}" id="b{it}" type="{kind}"/>' + typed(f"D{it}", f"#b{it}")
+            for it, (kind, _) in enumerate(kinds)
+        ),
+        *(f"D{it},typed,,{word}" for it, (_, word) in enumerate(kinds)),
+    )
+    own = RESTRICTED.format("", "xs:date", "")
+    of_value = '<xs:simpleContent><xs:extension base="xs:date"/></xs:simpleContent>'
+    inner = {
+        "A": (own, "date"),
+        "B": (RESTRICTED.format("", "eg:twice", ""), "integer"),
+        "C": (ENDS.format("", f"<xs:restriction>{own}</xs:restriction>"), "date"),
+        "D": (ENDS.format("", '<xs:list itemType="xs:date"/>'), ""),
+        "E": (ENDS.format("", '<xs:union memberTypes="xs:date xs:gYear"/>'), ""),
+        "F": (ENDS.format("", f"<xs:union>{own}</xs:union>"), ""),
+        "G": (ENDS.format("", f"<xs:list>{own}</xs:list>"), ""),
+        "H": (f"<xs:complexType>{of_value}</xs:complexType>", ""),
+        "I": (RESTRICTED.format("", "eg:complex", ""), ""),
+        "J": (RESTRICTED.format("", "eg:ring", ""), ""),
+        "K": ("", ""),
+    }
+    body = (
+        RESTRICTED.format(' name="twice"', "eg:once", "")
+        + RESTRICTED.format(' name="once"', "xs:integer", "")
+        + RESTRICTED.format(' name="ring"', "eg:ring", "")
+        + f'<xs:complexType name="complex">{of_value}</xs:complexType>'
+    )
+    yield kinds_are(
+        "derived types, inside of the element and outside",
+        body + "".join(INSIDE.format(it, text) + typed(it, f"#b_{it}") for it, (text, _) in inner.items()),
+        *(f"{it},typed,,{word}" for it, (_, word) in inner.items()),
+    )
+    places = {
+        "A": ("d/typ.xsd#day", "date"),
+        "B": (f" {HOST}d/typ.xsd#day ", "date"),
+        "C": ("http://REG.example/x/../d/typ.xsd#day", "date"),
+        "D": ("d/typ.xsd#none", ""),
+        "E": ("d/none.xsd#day", ""),
+        "F": ("#day", ""),
+        "G": ("d/typ.xsd", ""),
+        "H": ("d/typ.xsd#d%61y", "date"),
+        "I": ("http://far.example/typ.xsd#day", ""),
+        "J": ("", ""),
+        "K": ("d/typ.xsd#" + "x" * 5000, ""),
+    }
+    yield kinds_are(
+        "a domain of another schema",
+        include("d/typ.xsd")
+        + "".join(typed(it, place) for it, (place, _) in places.items())
+        + headed("L xbrldt:dimensionItem", more='xml:base="d/" xbrldt:typedDomainRef="typ.xsd#day"'),
+        *(f"{it},typed,,{word}" for it, (_, word) in places.items()),
+        "L,typed,,date",
+        **{
+            "reg/d/typ.xsd": schema(
+                '<xs:element name="b" id="day" type="xs:date"/>', "http://reg.example/typ"
+            )
+        },
+    )
+
+
+@for_each(cases(typed_domains()))
+class TestTypedDomains(FilingTest):
+    """The cases of `typed_domains`."""
 
 
 NOTHING = headed("A xbrldt:hypercubeItem", "B eg:A") + '<xs:element name="C" type="xs:string"/>'
@@ -304,10 +438,15 @@ DEAD += derived("FT", "xbrli:fractionItemType", content="complexContent") + item
 
 
 def what_no_fact_can_have() -> Iterator[Case]:
-    """Tests elements that are not in the types table, and those of them that the metadata must not
-    name.
+    """Tests elements that are not in the types table or only as members, and those of them that the
+    metadata must not name. An item whose type is not known may still be a member.
     """
-    yield kinds_are("what no fact can have", NOTHING + RING + UNKNOWN + DEAD + item("Z"), "Z,text")
+    yield kinds_are(
+        "what no fact can have",
+        NOTHING + RING + UNKNOWN + DEAD + item("Z"),
+        *(f"{it},member" for it in ("F1", "F2", "J", "K", "L", "N", "O", "P")),
+        "Z,text",
+    )
     reasons = {
         "T1": "is a tuple, which no table can have",
         "T2": "is a tuple, which no table can have",
@@ -449,8 +588,8 @@ def types_tables() -> Iterator[Case]:
     )
     yield makes(
         "namespaces of the metadata alone, in byte order and quoted",
-        types='namespace,name,type2\n"http://a,b""c/",A,text\nhttp://d,Z,text\nhttp://d,a,text\n'
-        'http://d,É,text\nhttp://e,A,text\n"http://f,g",A,text\n',
+        types=f'{TYPES_HEADER}"http://a,b""c/",A,text,,\nhttp://d,Z,text,,\nhttp://d,a,text,,\n'
+        'http://d,É,text,,\nhttp://e,A,text,,\n"http://f,g",A,text,,\n',
         taxonomies=[quoting],
     )
 
@@ -470,6 +609,6 @@ class TestRuns(FilingTest):
             item(f"C{it:05}", "eg:T", 'id="x" nillable="true"') for it in range(20_000)
         ) + derived("T", "xbrli:monetaryItemType")
         self.see(
-            kinds_are("20,000 concepts", elements, *(f"C{it:05},decimal" for it in range(20_000)))
+            kinds_are("20,000 concepts", elements, *(f"C{it:05},monetary" for it in range(20_000)))
         )
         self.case("20,000 concepts take seconds", worked() - begun < 20, True)

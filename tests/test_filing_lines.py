@@ -2,6 +2,7 @@
 from __future__ import annotations
 
 import os
+import re
 import signal
 import subprocess
 import threading
@@ -35,6 +36,12 @@ from tests.filings import (
 )
 from tests.harness import PATIENCE, write
 
+# The module with the names that it imports.
+whole_command: Any = command
+
+# The module with the names that it imports.
+whole_stopping: Any = stopping
+
 # Seconds that no run may take: one that waits for such a program fails.
 ENDLESS = 10 * PATIENCE
 HEADER_OF_FAULTS = "table,row,column,number,name,line,header,cell,place\n"
@@ -42,7 +49,7 @@ HEADER_OF_FAULTS = "table,row,column,number,name,line,header,cell,place\n"
 
 def joined_of(
     folder: Path, report: Files, taxonomies: Sequence[Files] = (TAXONOMY,)
-) -> tuple[command.Origins, command.Files]:
+) -> tuple[Any, Any]:
     """Makes the merged metadata of a filing, with its sources, and the filing's files."""
     labels = ["r"] + [f"t{number}" for number in range(len(taxonomies))]
     for label, files in zip(labels, [report, *taxonomies]):
@@ -50,8 +57,9 @@ def joined_of(
     before = os.getcwd()
     os.chdir(folder)
     try:
-        given = command.read_words(["r", "--taxonomy", *labels[1:]])
-        origins, files, _ = command.join(*command.open_inputs(given), given, command.Progress())
+        given = whole_command.read_words(["r", "--taxonomy", *labels[1:]])
+        progress = whole_command.Progress()
+        origins, made, _ = command.join(*command.open_inputs(given), given, progress)
     finally:
         os.chdir(before)
     return origins, files
@@ -102,7 +110,7 @@ def filed_in_parts() -> tuple[dict[str, str], list[dict[str, str]]]:
     return report, [{**TAXONOMY, **files}]
 
 
-ORIGINS = {
+ORIGINS: dict[str, tuple[str, str] | None] = {
     "/tableTemplates/t/columns/cash/dimensions/eg:Region": (
         "t0/reg/mod.json",
         "/tableTemplates/t/columns/cash/dimensions/g:Region",
@@ -177,8 +185,7 @@ def with_words(
         '#!/bin/sh\nHOME=$(dirname "$1")\ncat >&2 <<END\n' + said + f"END\nexit {status}\n"
     )
     fake.chmod(0o755)
-    report, taxonomies = report or filed_in_parts()
-    joined_of(folder, report, taxonomies)
+    joined_of(folder, *(report or filed_in_parts()))
     seen = start(["r", "--taxonomy", "t0", *words], folder, env={"XBRL_JSON": str(fake)})
     return seen[0], seen[2]
 
@@ -224,21 +231,21 @@ class TestRuns(FilingTest):
         )
         before = os.listdir("/proc/self/fd")
         made: list[object] = []
-        work = lambda: made.extend(
-            [
-                library.prepare(report, [taxonomy], str(folder / "by call")),
-                library.kinds([taxonomy], [HOST + "mod.xsd"]),
-            ]
-        )
+
+        def work() -> None:
+            """Calls both."""
+            library.prepare(report, [taxonomy], str(folder / "by call"))
+            made.append(library.kinds([taxonomy], [HOST + "mod.xsd"]))
+
         thread = threading.Thread(target=work)
         thread.start()
         thread.join()
         self.case(
             "prepared in a thread", listing(folder / "by call"), listing(folder / "by command")
         )
-        words = dict(it.split(",")[1:] for it in TYPES.split()[1:])
-        self.case("kinds in a thread", made, [None, {EG: words}])
-        for call, status, line in (
+        words = dict(it.split(",")[1:3] for it in TYPES.split()[1:])
+        self.case("kinds in a thread", made, [{EG: words}])
+        calls: tuple[tuple[Callable[[], object], int, str], ...] = (
             (
                 lambda: library.prepare(report, [], str(folder / "none")),
                 1,
@@ -252,7 +259,8 @@ class TestRuns(FilingTest):
             ),
             (lambda: library.kinds([__file__], []), 1, "is neither a ZIP nor a folder"),
             (lambda: library.kinds(["none"], []), 3, "none: cannot read"),
-        ):
+        )
+        for call, status, line in calls:
             try:
                 call()
                 seen = 0, False
@@ -263,6 +271,7 @@ class TestRuns(FilingTest):
 
     def test_refusals_in_the_faults(self) -> None:
         """The file of --faults has a refusal of this program, and nothing of an earlier run."""
+        seen: Any
         folder = self.folder
         write_inputs(folder)
         write(
@@ -400,8 +409,8 @@ class TestRuns(FilingTest):
             ("a file that was made here", "cannot read $HOME/meta.json\n", None),
             ("no line", "", ""),
         ):
-            for words in ([], ["--explain"], ["--explain", "--progress"]):
-                status, err = with_words(folder, said, words)
+            for words in ("", "--explain", "--explain --progress"):
+                status, err = with_words(folder, said, words.split())
                 if wanted is None and "line" in name:
                     ends = err.startswith(
                         "  r/reports/filed-meta.json.csv and r/reports/meta.json /"
@@ -425,14 +434,14 @@ class TestRuns(FilingTest):
             "one file is named by nobody", with_words(folder, fault, report=alone), (1, fault)
         )
         (folder / "fake").write_text("#!/bin/sh\ncat said >&2\n")
-        for said in (
+        for content in (
             b"a line without an end",
             b"one\nanother",
             b"\n\n",
             b"\rh\x1b[2K a\xff\xc3\xa9\0b\n",
             b"x" * 100_000,
         ):
-            (folder / "said").write_bytes(said)
+            (folder / "said").write_bytes(content)
             settings = {**os.environ, "XBRL_JSON": str(folder / "fake")}
             done = subprocess.run(
                 [FILING, "r", "--taxonomy", "t0"],
@@ -441,7 +450,7 @@ class TestRuns(FilingTest):
                 stderr=subprocess.PIPE,
                 timeout=PATIENCE,
             )
-            self.case(f"byte for byte: {said[:30]!r}", (done.returncode, done.stderr), (0, said))
+            self.case(f"byte for byte: {content[:30]!r}", (done.returncode, done.stderr), (0, content))
 
     def test_hearing_the_converter(self) -> None:
         """Checks that lines pass at once.
@@ -452,6 +461,7 @@ class TestRuns(FilingTest):
         fake, begun, _ = hearing(folder)
         fake.write_text(f"#!/bin/sh\necho ready >&2\nexec sleep {ENDLESS}\n")
         done = begun()
+        assert done.stderr is not None  # it is a pipe
         line = done.stderr.readline()
         done.send_signal(signal.SIGTERM)
         done.communicate(timeout=PATIENCE)
@@ -470,9 +480,10 @@ class TestRuns(FilingTest):
         left = f"sleep {ENDLESS} & echo $! > left"
         fake.write_text(f"#!/bin/sh\n{left}\necho said >&2\nexit 1\n")
         done = begun()
-        line = done.stderr.readline(), done.wait(timeout=PATIENCE)
+        assert done.stderr is not None  # it is a pipe
+        ended = done.stderr.readline(), done.wait(timeout=PATIENCE)
         os.kill(int((folder / "left").read_text()), signal.SIGKILL)
-        self.case("a program that leaves another behind", line, (b"said\n", 1))
+        self.case("a program that leaves another behind", ended, (b"said\n", 1))
         done.stderr.close()
 
     def test_lines_that_nobody_hears(self) -> None:
@@ -491,6 +502,7 @@ class TestRuns(FilingTest):
             " do sleep 0.02; done\n"
         )
         done = begun()
+        assert done.stderr is not None  # it is a pipe
         done.stderr.readline()
         done.send_signal(signal.SIGTERM)
         rest = done.communicate(timeout=PATIENCE)[1]
@@ -500,23 +512,23 @@ class TestRuns(FilingTest):
             (True, -signal.SIGTERM),
         )
         fake.write_text("#!/bin/sh\nsleep 0.1\necho said >&2\nexit 5\n")
-        done = subprocess.run(
+        ended = subprocess.run(
             [FILING, "r", "--taxonomy", "t0"],
             cwd=folder,
             env=settings,
             preexec_fn=lambda: os.close(2),
             timeout=PATIENCE,
         )
-        self.case("nobody hears", done.returncode, 5)
+        self.case("nobody hears", ended.returncode, 5)
         with open("/dev/full", "wb") as full:
-            done = subprocess.run(
+            ended = subprocess.run(
                 [FILING, "r", "--taxonomy", "t0"],
                 cwd=folder,
                 env=settings,
                 stderr=full,
                 timeout=PATIENCE,
             )
-        self.case("what cannot be handed on", done.returncode, 5)
+        self.case("what cannot be handed on", ended.returncode, 5)
 
     def test_lines_on_a_terminal(self) -> None:
         """Lines and progress on a terminal."""
@@ -539,11 +551,32 @@ class TestRuns(FilingTest):
             (0, True),
         )
 
+    def test_explanations_on_a_terminal(self) -> None:
+        """Asks for explanations on a terminal, unless they are turned off or shown past it."""
+        folder = self.folder
+        fake, begun, _ = hearing(folder)
+        told = '#!/bin/sh\n[ "$1" = --help ] && echo "{}" && exit\nshift 3\necho "<$*>" >&2\n'
+        for helped in ("", "--no-explain"):
+            fake.write_text(told.format(helped))
+            asked: tuple[tuple[list[str], str], ...] = (
+                ([], "--explain"),
+                (["--explain"], "--explain"),
+                (["--no-explain"], "--no-explain"),
+                (["--no-explain", "--explain"], "--no-explain --explain"),
+                (["--progress"], f"{helped} --progress".strip()),
+                (["--progress", "--explain"], "--progress --explain"),
+            )
+            for words, wanted in asked:
+                status, shown = on_a_terminal(["r", "--taxonomy", "t0", *words], folder, str(fake))
+                seen = re.findall(r"<(.*)>", shown.decode())
+                self.case(f"{words} {helped}", (status, seen), (0, [wanted]))
+        self.case("a pipe", begun().communicate()[1], b"<>\n")
+
     def test_a_fault_of_what_hears(self) -> None:
         """A fault of what hears the program leaves it not running."""
         seen: list[subprocess.Popen[bytes]] = []
 
-        class Heard(subprocess.Popen):
+        class Heard(subprocess.Popen[bytes]):
             """Keeps a program where the case sees it."""
 
             def __init__(self, *given: Any, **more: Any) -> None:
@@ -555,9 +588,9 @@ class TestRuns(FilingTest):
             """Takes the output, and fails."""
             raise KeyError("a fault")
 
-        kept = stopping.subprocess.Popen
+        kept = whole_stopping.subprocess.Popen
         try:
-            stopping.subprocess.Popen = Heard
+            whole_stopping.subprocess.Popen = Heard
             stopping.run_program(
                 ["sh", "-c", "echo a >&2; exec sleep 30"], stopping.Stopping(), fails
             )
@@ -568,4 +601,4 @@ class TestRuns(FilingTest):
                 -signal.SIGKILL,
             )
         finally:
-            stopping.subprocess.Popen = kept
+            whole_stopping.subprocess.Popen = kept

@@ -23,7 +23,7 @@ from filing import library, refusals, zip_entries  # noqa: E402
 
 Files = Dict[str, Union[str, bytes]]
 CATALOG = "META-INF/catalog.xml"
-# An amount of money would need a unit, or a line warns of it.
+# An amount of money would need a unit.
 ALL = {it: str(text).replace("monetaryItem", "decimalItem") for it, text in GOOD.items()}
 REPORT: Files = {name: text for name, text in ALL.items() if name.startswith("reports")}
 TAXONOMY: Files = {name: text for name, text in ALL.items() if not name.startswith("reports")}

@@ -7,6 +7,7 @@ import shutil
 import subprocess
 import zipfile
 from collections.abc import Iterator
+from typing import Any
 
 from tests.filing_samples import (
     ELEMENTS,
@@ -260,7 +261,7 @@ class TestRuns(FilingTest):
             EXAMPLE / "report/reports/report.json",
             EXAMPLE / "taxonomy",
         )
-        for form, words in {
+        forms: dict[str, list[Any]] = {
             "folders": [unpacked, "--taxonomy", open_taxonomy],
             "ZIPs with one folder at the top": ["r.zip", "--taxonomy", "t.zip"],
             "ZIPs with META-INF at the top": ["r.xbr", "--taxonomy", "t.dat"],
@@ -268,7 +269,8 @@ class TestRuns(FilingTest):
             "a package after an equals sign": ["r.zip", "--taxonomy=t.zip"],
             "options first": ["--cache", "cache", "--workers", "2", "r.zip", "--taxonomy", "t.zip"],
             "the cache": ["r.zip", "--taxonomy", "t.zip", "--cache", "cache"],
-        }.items():
+        }
+        for form, words in forms.items():
             self.case(f"the example: {form}", start(words, folder), (0, document, ""))
         seen = start(
             ["r.zip", "--taxonomy", "t.zip", "--out", "doc.json", "--workers", "1"], folder
@@ -313,6 +315,7 @@ class TestRuns(FilingTest):
 
     def test_what_is_no_package(self) -> None:
         """Files that are neither a package nor metadata."""
+        seen: Any
         folder = self.folder
         write(folder, {"x.txt": "hello"})
         self.case(

@@ -12,6 +12,7 @@ from tests.filing_samples import (
     LEAF,
     ONE,
     TAXONOMY,
+    TYPES_HEADER,
     XBRLI,
     XS,
     catalog,
@@ -286,7 +287,7 @@ def including() -> Iterator[Case]:
     )
     yield reads("an included schema without a namespace", two, records("A,date"))
     yield reads(
-        "included by two", both, records("A,date") + "http://two/,A,date\nhttp://two/,B,text\n"
+        "included by two", both, records("A,date") + "http://two/,A,date,,\nhttp://two/,B,text,,\n"
     )
     yield reads(
         "included through another",
@@ -311,7 +312,7 @@ def including() -> Iterator[Case]:
     yield reads(
         "imported only, it has no namespace",
         {"reg/mod.xsd": schema(include("plain.xsd")), "reg/plain.xsd": plain},
-        "namespace,name,type2\n",
+        TYPES_HEADER,
     )
     for kind in ("redefine", "override"):
         yield refuses(
@@ -344,7 +345,7 @@ def names_in_schemas() -> Iterator[Case]:
         f' name="C" {same}'
     )
     files = {"reg/mod.xsd": schema(anew, attributes=f'xmlns:i="{XBRLI}"')}
-    yield reads("a prefix declared anew", files, records("A,date", "C,date"))
+    yield reads("a prefix declared anew", files, records("A,date", "B,member", "C,date"))
     default = f'<xs:element xmlns="{XBRLI}" name="A" type="dateItemType" substitutionGroup="item"/>'
     default += (
         f'<xs:element xmlns="{XBRLI}" xmlns:xbrli="http://x/" name="B" type=" dateItemType "'

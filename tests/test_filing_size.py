@@ -4,10 +4,12 @@ from __future__ import annotations
 import json
 import resource
 import zipfile
-from collections.abc import Iterator
+from collections.abc import Callable, Iterator
+from typing import Any
 
 from filing import refusals, strict_json
 from tests.filing_samples import (
+    EG,
     ELEMENTS,
     HOST,
     INFO,
@@ -67,9 +69,14 @@ def long_chains(length: int) -> Iterator[tuple[str, str, str]]:
 
 def a_bound_of_each() -> Iterator[Case]:
     """What is just within a bound is read; what is just past it is refused."""
-    nested = lambda levels: "<a>" * levels + loc("d/leaf.xsd") + "</a>" * levels
+
+    def nested(levels: int) -> str:
+        """Elements inside of each other, with a reference in the innermost."""
+        return "<a>" * levels + loc("d/leaf.xsd") + "</a>" * levels
+
     mod = "t0/reg/mod.xsd: "
-    for name, made in (("schema", schema), ("linkbase", linkbase)):
+    roots: dict[str, Callable[[str], str]] = {"schema": schema, "linkbase": linkbase}
+    for name, made in roots.items():
         inner = {**LEAF, "reg/mod.xsd": made(nested(998))}
         yield reads(f"a {name} of a thousand levels", inner, ONE)
         past = {**LEAF, "reg/mod.xsd": made("<a></a>" * 70_000 + nested(999))}
@@ -110,23 +117,24 @@ def bounds_of_references() -> Iterator[Case]:
                 files,
                 "t0/reg/d/leaf.xsd: is asked for by more than 8 URLs: http://h8/d/leaf.xsd",
             )
-    missing = lambda many: {
-        "reg/mod.xsd": schema(
-            ELEMENTS + "".join(include(f"http://www.w3.org/{it}.xsd") for it in range(many))
-        )
-    }
+
+    def missing(many: int) -> dict[str, str]:
+        """A schema that includes files of the standards."""
+        included = (include(f"http://www.w3.org/{it}.xsd") for it in range(many))
+        return {"reg/mod.xsd": schema(ELEMENTS + "".join(included))}
+
     yield reads("a thousand files of the standards", missing(1000), TYPES)
     what = (
         "asks for more than 1000 files of the standards that no package has (import, line 1:"
         " http://www.w3.org/1000.xsd)"
     )
     yield refuses("a file of the standards more", missing(1001), mod + what)
-    tried = lambda many: {
-        **TAXONOMY,
-        "META-INF/catalog.xml": catalog(
-            f'<uri name="{HOST}mod.json" uri="none"/>' * many + rewrite()
-        ),
-    }
+
+    def tried(many: int) -> dict[str, Any]:
+        """A taxonomy with entries that lead nowhere."""
+        entries = f'<uri name="{HOST}mod.json" uri="none"/>' * many
+        return {**TAXONOMY, "META-INF/catalog.xml": catalog(entries + rewrite())}
+
     yield makes("a hundred entries that lead nowhere", MERGED, taxonomies=[tried(99)])
     line = f"t0/META-INF/catalog.xml: has more than 100 entries for {HOST}mod.json"
     yield stops("an entry more", line, taxonomies=[tried(101)])
@@ -151,9 +159,13 @@ class TestRuns(FilingTest):
         }
         files["reg/l.xml"] = linkbase("".join(loc(f"d.xsd#C{it}") for it in range(20_000)))
         files["reg/mod.json"] = meta(
-            INFO,
+            {**INFO, "namespaces": {"eg": EG, "iso4217": "http://www.xbrl.org/2003/iso4217"}},
             tableTemplates={
-                "t": {"columns": {"cash": {"dimensions": {"concept": "eg:C00007", "unit": "eg:e"}}}}
+                "t": {
+                    "columns": {
+                        "cash": {"dimensions": {"concept": "eg:C00007", "unit": "iso4217:EUR"}}
+                    }
+                }
             },
             tables={"t": {"url": "t.csv"}},
         )

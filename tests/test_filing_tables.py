@@ -2,6 +2,7 @@
 from __future__ import annotations
 
 from collections.abc import Iterator
+from typing import Any
 
 from tests.filing_samples import (
     ELEMENTS,
@@ -112,15 +113,15 @@ def tables_at_other_urls() -> Iterator[Case]:
             )
 
     for form in ("folder", "zip"):
-        module = {
+        with_file = {
             **TAXONOMY,
             "reg/mod.json": MODULE.replace('"tables"', '"parameterURL": "p.csv", "tables"'),
         }
         line = "r/reports/p.csv: is missing: 'parameterURL' of t0/reg/mod.json names it"
         yield stops(
-            f"a parameters file that is not there, {form}", line, taxonomies=[module], form=form
+            f"a parameters file that is not there, {form}", line, taxonomies=[with_file], form=form
         )
-    deep = {**deeper(REPORT), "reports/r/t.csv": "cash\n9\n"}
+    deep: dict[str, Any] = {**deeper(REPORT), "reports/r/t.csv": "cash\n9\n"}
     yield makes("a deep report", MERGED, report=deep).then(
         "tables lie beside the report's own file", lambda made: made.get("t.csv"), b"cash\n1\n"
     )
@@ -197,6 +198,7 @@ class TestRuns(FilingTest):
 
     def test_tables_that_are_none(self) -> None:
         """Leaves a table that is a folder or missing to the converter, and links in no input."""
+        seen: Any
         folder = self.folder
         write(folder / "t", TAXONOMY)
         apart = {"reports/report.json": REPORT["reports/report.json"]}
@@ -277,18 +279,22 @@ class TestRuns(FilingTest):
                 "columns": {"x": {"dimensions": {"concept": "eg:Cash", "unit": "$UNIT"}}}
             },
         }
-        tables = {it: {"url": f"sub/{it}.csv", "optional": True} for it in slips}
+        tables: dict[str, Any] = {it: {"url": f"sub/{it}.csv", "optional": True} for it in slips}
         tables.update(
             same={"url": "same.csv", "template": "t", "optional": True},
             none={"url": "n.csv", "template": "none", "optional": True},
         )
         tuple_item = '<xs:element name="Tuple" substitutionGroup="xbrli:tuple"/>'
-        module = lambda more: meta(
-            INFO,
-            tableTemplates={"t": TEMPLATE, **slips},
-            tables={"t": {"url": "t.csv"}, **more},
-            parameters={"unit": "eg:e"},
-        )
+
+        def module(more: dict[str, Any]) -> str:
+            """A module with these tables besides its own."""
+            return meta(
+                INFO,
+                tableTemplates={"t": TEMPLATE, **slips},
+                tables={"t": {"url": "t.csv"}, **more},
+                parameters={"unit": "eg:e"},
+            )
+
         for form in ("folder", "zip", "file"):
             taxonomy = {
                 **TAXONOMY,

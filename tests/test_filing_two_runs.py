@@ -11,7 +11,7 @@ import unittest
 from pathlib import Path
 from typing import List
 
-from tests.filing_bounds import GOOD, pack
+from tests.filing_bounds import GOOD, Files, pack
 
 TOP = Path(__file__).resolve().parent.parent
 FILING = str(TOP / "xbrl-filing")
@@ -22,6 +22,8 @@ PLAYED = """#!/bin/sh
 exec "$REAL" "$@"
 """
 SOON = 60.0  # seconds on a loaded machine
+# An amount of money would need a unit.
+FILES: Files = {it: str(text).replace("monetaryItem", "decimalItem") for it, text in GOOD.items()}
 
 
 class TwoRuns(unittest.TestCase):
@@ -31,7 +33,7 @@ class TwoRuns(unittest.TestCase):
         scratch = tempfile.TemporaryDirectory()
         self.addCleanup(scratch.cleanup)
         self.folder = Path(scratch.name)
-        pack(self.folder / "f.zip", GOOD)
+        pack(self.folder / "f.zip", FILES)
         played = self.folder / "played"
         played.write_text(PLAYED)
         played.chmod(0o755)

@@ -157,7 +157,7 @@ def files_of_other_reports() -> Iterator[Case]:
             form=form,
             **inputs,
         )
-        inside = {**moved, "reports/q/a/report.json": meta(), "reports/q/a/T.csv": rows}
+        inside: dict[str, Any] = {**moved, "reports/q/a/report.json": meta(), "reports/q/a/T.csv": rows}
         yield stops(
             f"no report stands so deep, {form}",
             f"r/reports/q/a/T.csv: {said}",
@@ -181,7 +181,7 @@ def files_of_other_reports() -> Iterator[Case]:
             form=form,
             **inputs,
         )
-        bad_tables = [{"tables": {"t": it}} for it in ({"url": "./t.csv"}, 7, {})]
+        bad_tables: list[dict[str, Any]] = [{"tables": {"t": it}} for it in ({"url": "./t.csv"}, 7, {})]
         for part in (*bad_tables, {"tables": {"t": {"url": "t.csv"}}, "parameterURL": "./p.csv"}):
             wrong_url = [{**TAXONOMY, "reg/mod.json": meta(INFO, **part)}]
             yield makes(
@@ -283,7 +283,8 @@ def files_above_the_report() -> Iterator[Case]:
             "META-INF/t.csv": "x",
             "t.csv.d/x": "x",
         }
-        for files in (REPORT, deeper(REPORT)):
+        both: tuple[dict[str, Any], ...] = (dict(REPORT), dict(deeper(REPORT)))
+        for files in both:
             yield makes(
                 f"what is no table above the report, {form}",
                 parts={"tables": optional},
@@ -321,10 +322,10 @@ class TestRuns(FilingTest):
         lone, inputs, said = {**BARE, "reports/T.csv": ROWS}, MAY_BE_MISSING, NOT_READ
         pack(folder / "zipped.zip", lone)
         write(folder / "z", inputs["taxonomies"][0])
-        for words in ([], ["--out", "kept.json"], ["--explain"]):
+        for words in ("", "--out kept.json", "--explain"):
             write(folder, {"kept.json": "kept"})
             seen = (
-                start(["zipped.zip", "--taxonomy", "z", *words], folder),
+                start(["zipped.zip", "--taxonomy", "z", *words.split()], folder),
                 (folder / "kept.json").read_text(),
             )
             self.case(
@@ -416,7 +417,7 @@ class TestRuns(FilingTest):
             shutil.rmtree(place)
             place.symlink_to("data")
 
-        for name, make in {
+        links: dict[str, Callable[[], object]] = {
             "a link to a table": linked("T.csv", "t.csv"),
             "a hard link to a table": lambda: os.link(place / "t.csv", place / "T.csv"),
             "a table by a link to a file beside it": moved_beside,
@@ -428,7 +429,8 @@ class TestRuns(FilingTest):
             "a pipe": lambda: os.mkfifo(place / "T.csv"),
             "deep folders": deep,
             "a report in a folder by a link": of_a_linked_folder,
-        }.items():
+        }
+        for name, make in links.items():
             self.case(f"no file that was forgotten: {name}", seen(make), (0, ""))
         for name, make in {
             "a link to a file that is no table": linked("T.csv", "../u.csv", {"r/u.csv": "x"}),

@@ -12,6 +12,9 @@ from tests.filing_samples import ELEMENTS, INFO, TEMPLATE, meta, schema
 from tests.filings import FILING, FilingTest, listing, run, start, write_packages
 from tests.harness import PATIENCE, PROGRAM, write
 
+# The module with the names that it imports.
+whole_command: Any = command
+
 USAGE: list[tuple[list[str], str]] = [
     ([], "there is no REPORT"),
     (
@@ -146,13 +149,14 @@ class TestRuns(FilingTest):
         self.case("--version", start(["--version"], folder), (0, version, ""))
         self.case("-h is --help", start(["-h"], folder), start(["--help"], folder))
         help_text = start(["--help"], folder)[1]
-        for before, after in (
+        orders: tuple[tuple[list[str], list[str]], ...] = (
             (["r"], []),
             ([], ["r"]),
             (["r", "--taxonomy", "t"], []),
             (["r", "--taxonomy"], ["t"]),
             (["r", "r2"], ["--out", "x"]),
-        ):
+        )
+        for before, after in orders:
             for word in ("-V", "--version"):
                 self.case(
                     f"{word} after {before} and before {after}",
@@ -322,6 +326,7 @@ class TestRuns(FilingTest):
 
     def test_folders_to_prepare(self) -> None:
         """--prepare takes a new or an empty folder."""
+        seen: Any
         folder = self.folder
         write_packages(folder)
         (folder / "full").mkdir()
@@ -384,7 +389,8 @@ class TestRuns(FilingTest):
         write_packages(folder)
         good = ["r", "--taxonomy", "t"]
         (folder / "half").mkdir()
-        kept, renamed = os.rename, []
+        kept: Any = os.rename
+        renamed: list[object] = []
 
         def once(*given: Any) -> None:
             """Renames the first file, and finds the disk full at the second."""
@@ -394,7 +400,7 @@ class TestRuns(FilingTest):
             kept(*given)
 
         try:
-            os.rename = once
+            os.rename = once  # type: ignore[assignment]
             seen = run([*good, "--prepare", "half"], folder)
         finally:
             os.rename = kept
@@ -405,7 +411,7 @@ class TestRuns(FilingTest):
             ((3, line), 1, []),
         )
         (folder / "late").mkdir()
-        kept = command.write_files
+        kept = whole_command.write_files
 
         def and_meanwhile(*given: Any, **more: Any) -> None:
             """Lets another one fill the folder, and writes the files then."""
@@ -413,10 +419,10 @@ class TestRuns(FilingTest):
             kept(*given, **more)
 
         try:
-            command.write_files = and_meanwhile
+            whole_command.write_files = and_meanwhile
             seen = run([*good, "--prepare", "late"], folder)
         finally:
-            command.write_files = kept
+            whole_command.write_files = kept
         line = f"xbrl-filing: {folder}/late: cannot write (the folder is not empty any more)\n"
         self.case(
             "a folder that is filled meanwhile",

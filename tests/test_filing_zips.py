@@ -7,6 +7,7 @@ import struct
 import zipfile
 from collections.abc import Callable, Iterable, Iterator, Sequence
 from pathlib import Path
+from typing import Any
 
 from filing import refusals, zip_entries
 from tests.filing_samples import (
@@ -85,7 +86,7 @@ def refused_zip(
             shutil.rmtree(work, ignore_errors=True)
             work.mkdir()
             pack(work / "good.zip", GOOD)
-            pack(work / "bad.zip", GOOD + entries)
+            pack(work / "bad.zip", [*GOOD, *entries])
             if change:
                 change(work / "bad.zip")
             (work / "doc.json").write_text("as it was")
@@ -174,7 +175,7 @@ class TestRuns(FilingTest):
         two_names = entry("../x")
         two_names.orig_filename = "a"
         try:
-            seen = zip_entries.checked_entries(
+            seen: object = zip_entries.checked_entries(
                 type("Archive", (), {"infolist": lambda _: [two_names]})(), 100, "z", 1000
             )
         except refusals.Refusal as refusal:
@@ -199,7 +200,7 @@ class TestRuns(FilingTest):
         )
         total = sum(len(text) for _, text in GOOD) + 5001
         line = f"unpacks to {total} bytes, more than {total - 1} (--unpacked-limit allows more)"
-        entries = [(entry("a"), "x" * 4000), (entry("b"), "x" * 1001)]
+        entries: list[Any] = [(entry("a"), "x" * 4000), (entry("b"), "x" * 1001)]
         self.see(
             refused_zip(
                 "more than the limit", line, entries, words=["--unpacked-limit", str(total - 1)]
@@ -230,7 +231,7 @@ class TestRuns(FilingTest):
         """ZIPs that are cut, changed or packed in an unknown way: one line, and nothing is made."""
         folder = self.folder
         name, damaged = "reg/mod.json", "is damaged, or packed in a way that Python does not know ("
-        for what, front, change in (
+        damages: tuple[tuple[str, str, Callable[[Path], object]], ...] = (
             (
                 "cut short",
                 "bad.zip: " + damaged + "File is not a zip file)\n",
@@ -258,7 +259,8 @@ class TestRuns(FilingTest):
                     [(name.encode() + packed(it, name, 4), b"reg/mud.json" + packed(it, name, 4))],
                 ),
             ),
-        ):
+        )
+        for what, front, change in damages:
             work = folder / what
             work.mkdir()
             pack(work / "r.zip", REPORT)

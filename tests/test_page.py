@@ -31,6 +31,7 @@ from typing import Any, Dict, Iterator, List, NamedTuple, Optional, Tuple
 TOP = Path(__file__).resolve().parent.parent
 sys.path.insert(0, str(TOP))
 
+from filing.converter_program import has_counts  # noqa: E402
 from filing.every_fault import Fault, read_faults  # noqa: E402
 from filing.page_content import MOST, Content, TableFile, faults_of, filled  # noqa: E402
 from filing.page_index import Listed, index  # noqa: E402
@@ -263,7 +264,10 @@ class TestGood(Case):
         top = self.top()
         self.assertEqual(top.all("title")[0].text(), "Converted: report")
         self.assertIn("out.json", top.all("dl")[0].text())
-        lines = [[c.text() for c in it.children if isinstance(c, Element)] for it in top.all("tr")]
+        rows_shown = top.all("table")[0].all("tr")
+        lines = [[c.text() for c in it.children if isinstance(c, Element)] for it in rows_shown]
+        if has_counts(PROGRAM):  # these columns and the last row are looked at with the summary
+            lines = [[*line[:3], *line[8:]] for line in lines[:-1]]
         wanted = [["Table", "File", "Rows", "Bytes", "Faults"]]
         for name in ("FilingIndicators", "l_01", "l_02"):
             text = (self.tables / f"{name}.csv").read_text()

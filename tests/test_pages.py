@@ -239,7 +239,7 @@ class TestFish(CompletionTest):
 
     def test_text(self) -> None:
         """Has the options with their texts and values."""
-        line = r"^complete -c xbrl-json (?:-s (\w) )?-l (\w+)(.*) -d '([^']*)'$"
+        line = r"^complete -c xbrl-json (?:-s (\w) )?-l ([\w-]+)(.*) -d '([^']*)'$"
         found = []
         text = (FOLDER / "xbrl-json.fish").read_text()
         for short, name, more, words in re.findall(line, text, re.M):
@@ -311,7 +311,7 @@ class TestZsh(CompletionTest):
     def test_text(self) -> None:
         """Has the options with their texts and values, and META."""
         text = (FOLDER / "_xbrl-json").read_text()
-        line = r"^ +'(?:\(- \*\)'\{(-\w),)?(--\w+)(=|\}')?\[(.*?)\](?::(\w+):(.*?))?' ?\\?$"
+        line = r"^ +'(?:\(- \*\)'\{(-\w),)?(--[\w-]+)(=|\}')?\[(.*?)\](?::(\w+):(.*?))?' ?\\?$"
         found = []
         for short, name, _, words, value, action in re.findall(line, text, re.M):
             values = re.findall(r"[\w-]+", action) if action.startswith("(") else []

@@ -1,6 +1,7 @@
 """Checks the types of filing/, the library's Python package and the tests, if mypy is installed.
 
 The settings are those of pyproject.toml. Other versions of mypy are left out: they may find more.
+Names of filing/ that are unused or undefined are found by ruff, or else by pyflakes.
 """
 from __future__ import annotations
 
@@ -46,3 +47,17 @@ class TestTypes(TestCase):
         shutil.copytree(TOP / "library/python/xbrl_json", package)
         shutil.copytree(TOP / "filing", package / "filing", dirs_exist_ok=True)
         self.check_types(str(package))
+
+
+class TestNames(TestCase):
+    """Runs ruff or pyflakes, and fails with what it prints."""
+
+    def test_filing(self) -> None:
+        """The names of filing/."""
+        checkers = (["ruff", "check", "--no-cache"], ["pyflakes3"], ["pyflakes"])
+        found = next((words for words in checkers if shutil.which(words[0])), None)
+        if found is None:
+            self.skipTest("neither ruff nor pyflakes is installed")
+        given = [*found, "filing"]
+        done = subprocess.run(given, cwd=TOP, capture_output=True, text=True, timeout=PATIENCE)
+        self.assertEqual(done.returncode, 0, f"{done.stdout}\n{done.stderr}"[-4000:])

@@ -117,7 +117,7 @@ class Watch:
     def sums(self) -> Counter[tuple[str, str]]:
         sums: Counter[tuple[str, str]] = Counter()
         for key, seconds in self.seconds.items():
-            sums[self.parts[key]] += seconds
+            sums[self.parts[key]] += seconds  # type: ignore[assignment]
         return sums
 
 

@@ -47,9 +47,10 @@ from dataclasses import dataclass
 from pathlib import Path
 from typing import Any, TextIO
 
-from crates import crates_below
-
 TOP = Path(__file__).resolve().parent.parent
+sys.path.insert(0, str(TOP))
+
+from tests.crates import crates_below  # noqa: E402
 GATE = "gate"
 FOLDERS = "must-fail", GATE, "audit"
 FUNCTION = re.compile(r"( *)(?:pub(?:\([a-z]+\))? )?(?:const )?fn (\w+)")
@@ -71,7 +72,7 @@ AFTER = re.compile(r"offer|help: write|`search`|logic=|statements ")
 UNREAD = re.compile(r".*\berror(\[[\w-]+\])?: .*")
 
 BUILD = "run `rt check` in the folder of each crate that is to be audited, which builds those below it"
-QUIET = {"stdin": subprocess.DEVNULL, "stdout": subprocess.PIPE, "stderr": subprocess.STDOUT, "text": True, "errors": "replace", "start_new_session": True}
+QUIET: dict[str, Any] = {"stdin": subprocess.DEVNULL, "stdout": subprocess.PIPE, "stderr": subprocess.STDOUT, "text": True, "errors": "replace", "start_new_session": True}
 
 Texts = dict[str, str]
 
@@ -294,7 +295,7 @@ class Checks:
         with self.lock:
             if self.is_over:
                 raise Stopped
-            ran = subprocess.Popen([*self.words, *flags], cwd=folder, **QUIET)
+            ran: subprocess.Popen[str] = subprocess.Popen([*self.words, *flags], cwd=folder, **QUIET)
             self.running.add(ran.pid)
         return ran
 
@@ -369,6 +370,7 @@ class Room:
         lines: list[str] = []
         is_begun = False
         with self.checks.begin(flags, folder) as ran:
+            assert ran.stdout is not None  # it is a pipe
             try:
                 for line in ran.stdout:
                     lines.append(line.rstrip("\n"))
@@ -486,12 +488,13 @@ class Audit:
         try:
             reasons = judge(self.crate, made, said, self.before)
         except BadEdit as why:
-            self.tell(*made.edits, None, f"BAD EDIT: {why}")
+            for edit in made.edits:
+                self.tell(edit, None, f"BAD EDIT: {why}")
             return []
-        again = [it for it, why in reasons.items() if not why and len(reasons) > 1]
-        for edit, why in reasons.items():
+        again = [it for it, reason in reasons.items() if not reason and len(reasons) > 1]
+        for edit, reason in reasons.items():
             if edit not in again:
-                self.tell(edit, why)
+                self.tell(edit, reason)
         return again
 
 
@@ -571,6 +574,7 @@ def run_beside(audits: list[Audit], checks: Checks, command: list[str]) -> int:
     few = (at_once() + 1) // 2
     with ThreadPoolExecutor(few) as pool, subprocess.Popen(command, stdout=subprocess.PIPE, text=True, errors="replace") as ran:
         begun = []
+        assert ran.stdout is not None  # it is a pipe
         try:
             for line in ran.stdout:
                 print(line, end="", flush=True)
@@ -605,7 +609,7 @@ def main(words: list[str]) -> int:
         status = run_beside(audits, checks, command)
         if status:
             return status
-        print(*(it.out.getvalue() for it in audits), sep="", end="")
+        print(*(it.out.getvalue() for it in audits if isinstance(it.out, io.StringIO)), sep="", end="")
     else:
         run_all(audits)
     refused, others = sum(it.refused for it in audits), sum(it.others for it in audits)

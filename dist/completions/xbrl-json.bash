@@ -16,8 +16,8 @@ _xbrl_json() {
             ;;
         --workers | --ring) return ;;
     esac
-    if [[ $word == -* && $before != --types && $before != --out && $before != --faults ]]; then
-        mapfile -t COMPREPLY < <(compgen -W "--types --workers --ring --out --whole --layout --progress --explain --faults -h --help -V --version" -- "$word")
+    if [[ $word == -* && $before != --types && $before != --out && $before != --faults && $before != --counts ]]; then
+        mapfile -t COMPREPLY < <(compgen -W "--types --workers --ring --out --whole --layout --progress --explain --no-explain --faults --counts -h --help -V --version" -- "$word")
     else
         compopt -o filenames 2>/dev/null
         mapfile -t COMPREPLY < <(compgen -f -- "$word")

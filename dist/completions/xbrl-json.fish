@@ -8,6 +8,8 @@ complete -c xbrl-json -l whole -d 'FILE gets the document only once it is whole;
 complete -c xbrl-json -l layout -x -a 'compact lines' -d 'The document on one line, or each fact on its own'
 complete -c xbrl-json -l progress -d 'Show on standard error how much is read and written'
 complete -c xbrl-json -l explain -d 'Print below each fault its place, text and cause'
+complete -c xbrl-json -l no-explain -d 'Print the faults alone, also on a terminal'
 complete -c xbrl-json -l faults -rF -d 'The file for the faults, as CSV'
+complete -c xbrl-json -l counts -rF -d 'The file for the facts and rows of each table, as JSON'
 complete -c xbrl-json -s h -l help -d 'Print help'
 complete -c xbrl-json -s V -l version -d 'Print version'

@@ -1,8 +1,8 @@
 -- The values that a file of entries gives, record by record.
-use Rattle.std.proofs.Common.{◌≡◌, ◌∙◌, sym, ◌<◌, ◌+◌, ℕ, List, [], ◌∷◌, Option, Some, None, Result, Ok, Err, Bool, true, false, refl, nat_le, arith, option_map, IfSome, subst}
+use Rattle.std.proofs.Common.{◌≡◌, ◌∙◌, ◌<◌, ◌+◌, ℕ, List, [], ◌∷◌, Option, Some, None, Result, Ok, Err, Bool, true, false, refl, nat_le, arith, option_map, IfSome, subst}
 use Rattle.std.proofs.lemmas.Option.{IfSome_then}
 use Rattle.std.proofs.lemmas.Bool.{leb-false, lt-leb}
-use Rattle.oim_entries.specs.BadEntries.{BadRecord, entries_of, entry_after, one_entry, with_fields}
+use Rattle.oim_entries.specs.BadEntries.{BadRecord, entries_of, entry_after}
 use Rattle.oim_entries.specs.CsvFiles.{EntryFile}
 use Rattle.oim_entries.specs.EntryFaults.{of_whole}
 use Rattle.oim_entries.specs.state.Held.{Answers, AnswersWith}

@@ -12,7 +12,7 @@ use Rattle.csv.specs.declared.error.ErrorKind.TheVariants as kind
 use Rattle.oim_entries.specs.BadEntries.{BadRecord, entries_of, file_entries}
 use Rattle.oim_entries.specs.EntryFaults.{in_cell, meta_fault, of_whole}
 use Rattle.oim_entries.specs.declared.entry_fault.EntryProblem.{EntryProblem}
-use Rattle.oim_entries.specs.declared.entry_fault.EntryProblem.TheVariants.{NoHeader, BadHeader, TooMany, CellCount, NotUtf8, BadName, RepeatedName, UnknownType}
+use Rattle.oim_entries.specs.declared.entry_fault.EntryProblem.TheVariants.{NoHeader, BadHeader, TooMany, CellCount, NotUtf8, BadName, RepeatedName, UnknownType, UnknownPeriod, UnknownValues}
 use Rattle.oim_entries.specs.CsvFiles.{EntryFile, all_of, fault_of_read, file_result, text_field}
 use Rattle.oim_records.specs.state.ReadFaults.{fault_of_kind}
 use Rattle.oim_entries.specs.WholeFile.{kind_said, record_at}
@@ -22,8 +22,9 @@ use Rattle.oim_entries.specs.FaultNames.{fault_number, fault_name}
 use Rattle.oim_records.specs.Grids.{Record, grid, records_left}
 use Rattle.oim_entries.specs.ParametersFile.{bad_parameter, parameters_file, parameters_result}
 use Rattle.oim_names.specs.Lookup.{value_at}
-use Rattle.oim_entries.specs.TypeWords.{Words, plain_words, wider_words, words_chosen}
-use Rattle.oim_entries.specs.state.Held.{words_in}
+use Rattle.oim_entries.specs.KindWords.{Words}
+use Rattle.oim_entries.specs.TypeWords.{by_type, kind_given, plain_words, table_chosen, wider_words}
+use Rattle.oim_entries.specs.state.Held.{table_in}
 use Rattle.oim_entries.specs.TypesFile.{bad_type, types_file, types_result}
 use Rattle.oim_report.specs.Named.{value_under}
 use Rattle.oim_report.specs.Types.{kind_in}
@@ -124,12 +125,12 @@ words :
     × (kinds_by wider_words old_words ≡ old_kinds) × (kinds_by wider_words new_words ≡ Some Boolean ∷ Some Date ∷ Some Name ∷ None ∷ [])
 words = (refl, refl, refl, refl)
 
-words_of_tables : map (λ t. value_at (codes "date") (words_in t)) (Plain ∷ Wider ∷ []) ≡ None ∷ Some Date ∷ []
+words_of_tables : map (λ t. kind_given (table_in t) ([], [], codes "date", [], [])) (Plain ∷ Wider ∷ []) ≡ Err (2, UnknownType) ∷ Ok Date ∷ []
 words_of_tables = refl
 
 -- The header chooses the type names.
-words_by_header : map (λ w. words_chosen (typed (codes "namespace") (codes "name") w)) (codes "type" ∷ codes "type2" ∷ codes "type1" ∷ codes "Type2" ∷ [])
-    ≡ Some plain_words ∷ Some wider_words ∷ None ∷ None ∷ []
+words_by_header : map (λ w. table_chosen (typed (codes "namespace") (codes "name") w)) (codes "type" ∷ codes "type2" ∷ codes "type1" ∷ codes "Type2" ∷ codes "type3" ∷ [])
+    ≡ Some (by_type plain_words) ∷ Some (by_type wider_words) ∷ None ∷ None ∷ None ∷ []
 unfolding is_utf8 chars encode
 words_by_header = refl
 
@@ -169,8 +170,8 @@ abbrev three_types : List Record
 three_types = typed (codes "u") (codes "a") (codes "text") ∷ typed (codes "v") (codes "a") (codes "typed") ∷ typed (codes "u") (codes "a") (codes "other") ∷ []
 
 kinds_of_records :
-    (kind_said plain_words three_types (codes "u") (codes "a") ≡ Some Text) × (kind_said plain_words three_types (codes "v") (codes "a") ≡ Some Typed)
-    × (kind_said plain_words three_types (codes "a") (codes "u") ≡ None) × (kind_said plain_words three_types (codes "u") (codes "b") ≡ None)
+    (kind_said (by_type plain_words) three_types (codes "u") (codes "a") ≡ Some Text) × (kind_said (by_type plain_words) three_types (codes "v") (codes "a") ≡ Some Typed)
+    × (kind_said (by_type plain_words) three_types (codes "a") (codes "u") ≡ None) × (kind_said (by_type plain_words) three_types (codes "u") (codes "b") ≡ None)
 unfolding is_utf8 chars encode
 kinds_of_records = (refl, refl, refl, refl)
 
@@ -197,8 +198,8 @@ bad_types = refl
 
 -- 1,048,576 records are accepted. One more is too many, whatever it has.
 types_limit :
-    (all_of (types_file plain_words) 1_048_575 [] (typed (codes "u") (codes "a") (codes "text") ∷ []) ≡ Ok (known (codes "u") (codes "a") Text ∷ []))
-    × (all_of (types_file plain_words) 1_048_576 [] ([] ∷ []) ≡ Err TooLarge)
+    (all_of (types_file (by_type plain_words)) 1_048_575 [] (typed (codes "u") (codes "a") (codes "text") ∷ []) ≡ Ok (known (codes "u") (codes "a") Text ∷ []))
+    × (all_of (types_file (by_type plain_words)) 1_048_576 [] ([] ∷ []) ≡ Err TooLarge)
 unfolding all_of is_ncname is_name_char is_name_start chars is_utf8 encode
 types_limit = (refl, refl)
 
@@ -245,15 +246,15 @@ bad_types_found = (refl, refl, refl, refl, refl, refl, refl, refl, refl, refl, r
 -- A record past the limit is bad as a whole, whatever it has.
 past_the_limit :
     (entries_of parameters_file 65_535 [] (parameter (codes "a") [] ∷ [] ∷ []) ≡ Err (of_whole 65_537 TooMany, []))
-    × (entries_of (types_file plain_words) 1_048_576 [] (name_value ∷ []) ≡ Err (of_whole 1_048_577 TooMany, name_value))
+    × (entries_of (types_file (by_type plain_words)) 1_048_576 [] (name_value ∷ []) ≡ Err (of_whole 1_048_577 TooMany, name_value))
     × (file_entries (λ _. Some at_most_one) (name_value ∷ (codes "a" ∷ []) ∷ (codes "b" ∷ []) ∷ []) ≡ Err (of_whole 2 TooMany, codes "b" ∷ []))
 unfolding entries_of is_identifier is_plain_char is_name_char is_name_start chars is_utf8 encode
 past_the_limit = (refl, refl, refl)
 
 -- The published fault of each problem.
 published_faults :
-    map (meta_fault BadTypes) (NoHeader ∷ BadHeader ∷ TooMany ∷ CellCount ∷ NotUtf8 ∷ BadName ∷ RepeatedName ∷ UnknownType ∷ [])
-    ≡ BadTypes ∷ BadTypes ∷ TooLarge ∷ BadTypes ∷ BadTypes ∷ BadTypes ∷ BadTypes ∷ BadTypes ∷ []
+    map (meta_fault BadTypes) (NoHeader ∷ BadHeader ∷ TooMany ∷ CellCount ∷ NotUtf8 ∷ BadName ∷ RepeatedName ∷ UnknownType ∷ UnknownPeriod ∷ UnknownValues ∷ [])
+    ≡ BadTypes ∷ BadTypes ∷ TooLarge ∷ BadTypes ∷ BadTypes ∷ BadTypes ∷ BadTypes ∷ BadTypes ∷ BadTypes ∷ BadTypes ∷ []
 published_faults = refl
 
 -- THE FAULTS: this project's numbers and names.

@@ -1,15 +1,20 @@
 -- The published fault of a file of entries is that of its first bad record.
-use Rattle.std.proofs.Common.{◌≡◌, ◌∙◌, ◌⊎◌, inl, inr, sym, ◌+◌, ℕ, List, [], ◌∷◌, Option, Some, None, Result, Ok, Err, Bool, true, false, refl, nat_le, is_none, IfSome, subst}
+use Rattle.std.proofs.Common.{◌≡◌, ◌∙◌, inl, inr, sym, ◌+◌, ℕ, List, [], ◌∷◌, Option, Some, None, Result, Ok, Err, Bool, true, false, refl, nat_le, is_none, IfSome, subst}
 use Rattle.std.proofs.lemmas.Option.{IfSome_then}
 use Rattle.std.specs.Prelude.{nat_eq, length}
 use Rattle.oim_names.specs.Names.{is_identifier, is_ncname}
 use Rattle.oim_records.specs.Grids.{Field, Record, grid}
 use Rattle.oim_entries.specs.BadEntries.{BadRecord, entries_of, file_entries, one_entry, published, unless_found}
-use Rattle.oim_entries.specs.CsvFiles.{EntryFile, OrOutside, all_of, file_result, one_more, three_texts, two_texts, unless_bad}
+use Rattle.oim_entries.specs.CsvFiles.{EntryFile, OrOutside, all_of, file_result, one_more, two_texts, unless_bad}
 use Rattle.oim_entries.specs.EntryFaults.{meta_fault, not_texts}
 use Rattle.oim_entries.specs.ParametersFile.{parameters_chosen, parameters_entries, parameters_file, parameters_result, is_parameters_header, wrong_parameter}
-use Rattle.oim_entries.specs.TypesFile.{types_chosen, types_entries, types_file, types_result, wrong_type}
-use Rattle.oim_entries.specs.TypeWords.{Words, words_chosen}
+use Rattle.oim_entries.specs.TypesFile.{types_chosen, types_entries, types_file, types_result, wrong_cells, wrong_type}
+use Rattle.std.specs.Result.{result_err}
+use Rattle.oim_names.specs.Lookup.{value_at}
+use Rattle.oim_entries.specs.KindWords.{kind_words, with_period, with_values}
+use Rattle.oim_entries.specs.TypeWords.{Table, TypeTexts, by_three, by_type, field_count, kind_by_period, kind_by_values, kind_given, table_chosen, texts_in}
+use Rattle.oim_entries.specs.declared.entry_fault.EntryProblem.{EntryProblem}
+use Rattle.oim_report.specs.declared.kind.Kind.{Kind}
 use Rattle.oim_entries.specs.state.Held.{AnswersWith, refused_fault}
 use Rattle.oim_report.specs.Types.{kind_in}
 use Rattle.oim_entries.specs.declared.entry_fault.Refused.{Refused}
@@ -76,15 +81,52 @@ parameters_one n s r = by (two_texts r) refl
         go true e = rw (h, e) refl
         go false e = rw (h, e) refl
 
-types_one : (words : Words) → HasOneFault (types_file words)
-types_one words n s r = by (three_texts r) refl
+-- No bad cell after a name is published as a record past the limit.
+IsOfTypes : ℕ → Option (ℕ × EntryProblem) → Type 0
+IsOfTypes n cell = meta_fault fault.BadTypes (wrong_cells n cell).problem ≡ fault.BadTypes
+
+by_values_one : (n : ℕ) (k : Kind) (values : Field) → IsOfTypes n (result_err (kind_by_values k values))
+unfolding IsOfTypes
+by_values_one n k values = by (with_values k values) refl
   where
-    by : (o : Option (Field × Field × Field)) → three_texts r ≡ o → meta_fault fault.BadTypes (wrong_type n s r).problem ≡ fault.BadTypes
-    by None h = rw h (texts_one fault.BadTypes n 3 r)
+    by : (o : Option Kind) → with_values k values ≡ o → meta_fault fault.BadTypes (wrong_cells n (result_err (kind_by_values k values))).problem ≡ fault.BadTypes
+    by None h = rw h refl
+    by (Some l) h = rw h refl
+
+by_period_one : (n : ℕ) (k : Kind) (period values : Field) → IsOfTypes n (result_err (kind_by_period k period values))
+unfolding IsOfTypes
+by_period_one n k period values = by (with_period k period) refl
+  where
+    by : (o : Option Kind) → with_period k period ≡ o
+        → meta_fault fault.BadTypes (wrong_cells n (result_err (kind_by_period k period values))).problem ≡ fault.BadTypes
+    by None h = rw h refl
+    by (Some l) h = rw h (by_values_one n l values)
+
+cells_one : (table : Table) (n : ℕ) (p : TypeTexts) → IsOfTypes n (result_err (kind_given table p))
+unfolding IsOfTypes
+cells_one (by_type words) n p = by (value_at p.2 words) refl
+  where
+    by : (o : Option Kind) → value_at p.2 words ≡ o
+        → meta_fault fault.BadTypes (wrong_cells n (result_err (kind_given (by_type words) p))).problem ≡ fault.BadTypes
+    by None h = rw h refl
+    by (Some k) h = rw h refl
+cells_one by_three n p = by (value_at p.2 kind_words) refl
+  where
+    by : (o : Option Kind) → value_at p.2 kind_words ≡ o
+        → meta_fault fault.BadTypes (wrong_cells n (result_err (kind_given by_three p))).problem ≡ fault.BadTypes
+    by None h = rw h refl
+    by (Some k) h = rw h (by_period_one n k p.3 p.4)
+
+types_one : (table : Table) → HasOneFault (types_file table)
+unfolding IsOfTypes
+types_one table n s r = by (texts_in table r) refl
+  where
+    by : (o : Option TypeTexts) → texts_in table r ≡ o → meta_fault fault.BadTypes (wrong_type table n s r).problem ≡ fault.BadTypes
+    by None h = rw h (texts_one fault.BadTypes n (field_count table) r)
     by (Some p) h = go (is_ncname p.1) (is_none (kind_in s p.0 p.1)) refl refl
       where
-        go : (x y : Bool) → is_ncname p.1 ≡ x → is_none (kind_in s p.0 p.1) ≡ y → meta_fault fault.BadTypes (wrong_type n s r).problem ≡ fault.BadTypes
-        go true true e k = rw (h, e, k) refl
+        go : (x y : Bool) → is_ncname p.1 ≡ x → is_none (kind_in s p.0 p.1) ≡ y → meta_fault fault.BadTypes (wrong_type table n s r).problem ≡ fault.BadTypes
+        go true true e k = rw (h, e, k) (cells_one table n p)
         go true false e k = rw (h, e, k) refl
         go false y e k = rw (h, e) refl
 
@@ -98,10 +140,10 @@ parameters_choice r f is = by (is_parameters_header r) refl
 
 types_choice : Chooses fault.BadTypes types_chosen
 unfolding Chooses
-types_choice r f is = by (words_chosen r) refl
+types_choice r f is = by (table_chosen r) refl
   where
-    by : (o : Option Words) → words_chosen r ≡ o → (f.bad ≡ fault.BadTypes) × HasOneFault f
-    by (Some words) e = let same : Some (types_file words) ≡ Some f = rw e at is in let one : types_file words ≡ f = cc in rw (← one) (refl, types_one words)
+    by : (o : Option Table) → table_chosen r ≡ o → (f.bad ≡ fault.BadTypes) × HasOneFault f
+    by (Some table) e = let same : Some (types_file table) ≡ Some f = rw e at is in let one : types_file table ≡ f = cc in rw (← one) (refl, types_one table)
     by None e = let none : None ≡ Some f = rw e at is in cc none
 
 pub parameters_published : (rs : List Record) → parameters_result rs ≡ published fault.BadParameter (parameters_entries rs)

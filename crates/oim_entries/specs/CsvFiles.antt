@@ -27,6 +27,11 @@ abbrev pub three_texts : Record → Option (Field × Field × Field)
 three_texts (a ∷ b ∷ c ∷ []) = if is_utf8 a && is_utf8 b && is_utf8 c then Some (a, b, c) else None
 three_texts r = None
 
+-- The fields of a record of exactly five texts.
+abbrev pub five_texts : Record → Option (Field × Field × Field × Field × Field)
+five_texts (a ∷ b ∷ c ∷ d ∷ e ∷ []) = if is_utf8 a && is_utf8 b && is_utf8 c && is_utf8 d && is_utf8 e then Some (a, b, c, d, e) else None
+five_texts r = None
+
 -- How a file of entries is read: the most entries that it may have, the fault of a bad record, and
 -- the value before the first entry. Then the value after one more record, if that record is good.
 -- Last, what is wrong with a bad record of this number; the header is record 0.

@@ -1,8 +1,8 @@
 -- A fault of a file of entries with its place: the number of the bad record, and which of its cells
 -- is bad. That is the first cell that is not UTF-8; if all are UTF-8, the name; if the name is good
--- and new, the type name. A header, a record of another length and a record past the limit are bad
--- as a whole.
-use Rattle.std.specs.Prelude.{ℕ, ◌+◌, List, [], ◌∷◌, Option, Some, None, if◌then◌else◌, length, nat_eq}
+-- and new, the first bad cell after it. A header, a record of another length and a record past the
+-- limit are bad as a whole.
+use Rattle.std.specs.Prelude.{ℕ, ◌+◌, [], ◌∷◌, Option, Some, None, if◌then◌else◌, length, nat_eq}
 use Rattle.std.specs.Str.{is_utf8}
 use Rattle.oim_records.specs.Grids.{Record}
 use Rattle.oim_entries.specs.declared.entry_fault.EntryFault.{EntryFault}

@@ -1,5 +1,6 @@
 pub mod BadEntries
 pub mod EntryFaults
+pub mod KindWords
 pub mod TypeWords
 pub mod TypesFile
 pub mod CsvFiles

@@ -32,6 +32,10 @@ pub enum EntryProblem {
     RepeatedName,
     /// The type name is not one of the header's.
     UnknownType,
+    /// The period is not one that the record's type may have.
+    UnknownPeriod,
+    /// The values are not those of a type that the record's dimension may have.
+    UnknownValues,
 }
 
 impl EntryProblem {
@@ -47,7 +51,9 @@ impl EntryProblem {
             | EntryProblem::NotUtf8
             | EntryProblem::BadName
             | EntryProblem::RepeatedName
-            | EntryProblem::UnknownType => bad,
+            | EntryProblem::UnknownType
+            | EntryProblem::UnknownPeriod
+            | EntryProblem::UnknownValues => bad,
         }
     }
 }

@@ -6,7 +6,7 @@ ghost use Rattle.oim_records.specs.Grids.{Record};
 ghost use Rattle.oim_entries.specs.BadEntries.{published};
 ghost use Rattle.oim_entries.specs.ParametersFile.{parameters_entries, parameters_file, parameters_result};
 ghost use Rattle.oim_report.specs.Types.{TypesValue, kind_in};
-ghost use Rattle.oim_entries.specs.TypeWords.{Words};
+ghost use Rattle.oim_entries.specs.TypeWords.{Table};
 ghost use Rattle.oim_entries.specs.TypesFile.{types_entries, types_file, types_result};
 ghost use Rattle.oim_entries.specs.declared.fault.MetaFault.TheVariants.{BadParameter, BadTypes};
 ghost use Rattle.oim_entries.specs.WholeFile.{IsEarliestBad, kind_said};
@@ -18,15 +18,15 @@ use crate::fault::MetaFault;
 pub fn fault_is_of_earliest_record()
     ensures parameters { (rs : List Record) (e : MetaFault)
         → (all_of parameters_file 0 [] rs ≡ Err e) ↔ IsEarliestBad parameters_file 0 [] rs e }
-    ensures types { (words : Words) (rs : List Record) (e : MetaFault)
-        → (all_of (types_file words) 0 [] rs ≡ Err e) ↔ IsEarliestBad (types_file words) 0 [] rs e }
+    ensures types { (table : Table) (rs : List Record) (e : MetaFault)
+        → (all_of (types_file table) 0 [] rs ≡ Err e) ↔ IsEarliestBad (types_file table) 0 [] rs e }
 {}
 
-/// Proves that the types of a table give a name exactly the kind that its records give, by the type
-/// names of the header.
+/// Proves that the types of a table give a name exactly the kind that its records give, as the
+/// header has them read.
 pub fn types_are_of_all_records()
-    ensures { (w : Words) (rs : List Record) (types : TypesValue) → all_of (types_file w) 0 [] rs ≡ Ok types
-        → (u n : List ℕ) → kind_in types u n ≡ kind_said w rs u n }
+    ensures { (t : Table) (rs : List Record) (types : TypesValue) → all_of (types_file t) 0 [] rs ≡ Ok types
+        → (u n : List ℕ) → kind_in types u n ≡ kind_said t rs u n }
 {}
 
 /// Proves that the value and the fault that `read_parameters` and `read_types` return are those of

@@ -33,6 +33,7 @@ mod entry_fault;
 mod fault;
 mod fields;
 mod file_laws;
+mod kind_words;
 mod parameters;
 mod type_words;
 mod types;

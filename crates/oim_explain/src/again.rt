@@ -2,11 +2,12 @@
 //!
 //! Not proved: what `report_explanation` and `explain_report` return. Tests cover it.
 
-use crate::entries::{EntryFile, bad_record, entry_cause, entry_found};
+use crate::entries::{EntryFile, bad_record, entry_found, wrong_entry};
 use crate::explanation::{Explanation, explanation_text};
 use crate::files::{changed, of_file, unread};
 use crate::metadata::explain_metadata;
-use oim_entries::BadEntry;
+use crate::quotes::{UNCLOSED, unclosed_quote};
+use oim_entries::{BadEntry, EntryProblem};
 use oim_files::{Folder, Source, folder_of, metadata_at, path_in, url_in};
 use oim_meta::{Finding, MetaFault};
 use oim_names::{Items, Text};
@@ -37,11 +38,19 @@ fn of_record<R: Read + Drop, F: Folder<R>>(
 ) -> Result<Explanation, AllocError> {
     let fault = bad.fault;
     let line = line_again(alloc, folder, path, fault.number);
+    let mut cause = wrong_entry(file, &fault, &bad.row);
+    let mut sources = Items::new(alloc);
+    if fault.problem == EntryProblem::CellCount {
+        if let Some(opened) = unclosed_quote(alloc, folder, path, line)? {
+            cause = UNCLOSED;
+            sources.push(opened)?;
+        }
+    }
     Ok(Explanation {
         place: Text::new(place_in_file(alloc, path, line, fault.column)?),
         found: Text::new(entry_found(alloc, &fault, &bad.row)?),
-        cause: entry_cause(file, fault.problem),
-        sources: Items::new(alloc),
+        cause,
+        sources,
     })
 }
 

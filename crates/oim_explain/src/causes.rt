@@ -48,7 +48,7 @@ fn of_taxonomy(keys: &[Text], value: Option<&Value>) -> &'static str {
 
 fn of_links(keys: &[Text]) -> &'static str {
     if key_from_end(keys, 0) == "extends" {
-        "extends is not empty: put what it extends into one file first"
+        "extends is not empty: this is a filing, convert it with xbrl-filing"
     } else {
         "links is not empty: links and footnotes cannot be carried over"
     }

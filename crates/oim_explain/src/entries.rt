@@ -1,5 +1,6 @@
 //! The first bad record of a types table or a parameters file, for a person.
 
+use crate::headers::wrong_header;
 use csv::ByteRecord;
 use oim_entries::{BadEntry, EntryFault, EntryProblem, first_bad_parameter, first_bad_type};
 use oim_meta::ReadFault;
@@ -38,7 +39,7 @@ fn types_cause(problem: EntryProblem) -> &'static str {
     match problem {
         EntryProblem::NoHeader => "the file has no header",
         EntryProblem::BadHeader => {
-            "the header is neither namespace,name,type nor namespace,name,type2"
+            "the header is not namespace,name, then type, type2 or type3,period,values"
         }
         EntryProblem::TooMany => "there are more than 1,048,576 records behind the header",
         EntryProblem::CellCount => "the record has another number of cells than the header",
@@ -46,11 +47,15 @@ fn types_cause(problem: EntryProblem) -> &'static str {
         EntryProblem::BadName => "this name is not an NCName",
         EntryProblem::RepeatedName => "an earlier record has this name in this namespace",
         EntryProblem::UnknownType => "this is not one of the types that the header allows",
+        EntryProblem::UnknownPeriod => "this must be empty, or for a concept instant or duration",
+        EntryProblem::UnknownValues => {
+            "this must be empty, or for a typed dimension a simple type such as integer"
+        }
     }
 }
 
 /// Returns what is wrong with a file.
-pub(crate) fn entry_cause(file: EntryFile, problem: EntryProblem) -> &'static str {
+fn entry_cause(file: EntryFile, problem: EntryProblem) -> &'static str {
     match (file, problem) {
         (EntryFile::Parameters, EntryProblem::BadHeader) => "the header is not name,value",
         (EntryFile::Parameters, EntryProblem::TooMany) => {
@@ -59,6 +64,16 @@ pub(crate) fn entry_cause(file: EntryFile, problem: EntryProblem) -> &'static st
         (EntryFile::Parameters, EntryProblem::BadName) => "this name is not an identifier",
         (EntryFile::Parameters, EntryProblem::RepeatedName) => "an earlier record has this name",
         _ => types_cause(problem),
+    }
+}
+
+/// Returns what is wrong with a file whose first bad record is this one.
+pub(crate) fn wrong_entry(file: EntryFile, fault: &EntryFault, row: &ByteRecord) -> &'static str {
+    let cause = entry_cause(file, fault.problem);
+    if fault.number == 0 {
+        wrong_header(row).unwrap_or(cause)
+    } else {
+        cause
     }
 }
 

@@ -17,7 +17,8 @@ pub struct Explanation {
     pub cause: &'static str,
     /// The sources of the fault elsewhere, each with what is there, in the order in which they lead
     /// to it: a cell that names a property group, a property of the metadata, a cell or a parameter
-    /// that it refers to. Empty if the fault is only at its own place.
+    /// that it refers to. The last one may say what could be meant. Empty if the fault is only at
+    /// its own place and nothing more is known.
     pub sources: Items<Text>,
 }
 

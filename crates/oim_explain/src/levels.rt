@@ -120,6 +120,21 @@ impl<'r> RowOfFault<'r> {
         }
     }
 
+    /// Returns the fact's own cell.
+    pub(crate) fn own_cell(&self) -> &'r str {
+        self.cell_of(self.column_id(self.column))
+    }
+
+    /// Returns the text to which a name refers: the row's cell, else the parameter.
+    pub(crate) fn text_referred(&self, name: &str) -> &'r str {
+        let cell = self.cell_of(name);
+        if cell.is_empty() {
+            self.parameter(name).unwrap_or("")
+        } else {
+            cell
+        }
+    }
+
     /// Returns what a reference to this name gives: the row's cell, else the parameter.
     fn referred(&self, name: &str) -> CellMeaning<'r> {
         let cell = self.cell_of(name);
@@ -244,8 +259,7 @@ impl<'r> RowOfFault<'r> {
 
     /// Returns whether a fault is of the fact's own cell: a text that begins with one `#` there.
     pub(crate) fn is_itself(&self, fault: CellFault) -> bool {
-        fault == CellFault::UnknownSpecial
-            && meaning(self.cell_of(self.column_id(self.column))) == CellMeaning::Unknown
+        fault == CellFault::UnknownSpecial && meaning(self.own_cell()) == CellMeaning::Unknown
     }
 
     /// Returns whether the row's cell in a column of property groups has this fault.

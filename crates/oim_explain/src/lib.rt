@@ -15,8 +15,8 @@
 //! It exports what `oim_places` has for the place of a fault and for the file of faults.
 //!
 //! Not proved, but tested: the sentences, what an explanation shows at a place, the sources of a
-//! fault, explanations of a types table and a parameters file, and all of `explain_report` and
-//! `report_explanation`.
+//! fault and what could be meant, explanations of a types table and a parameters file, and all of
+//! `explain_report` and `report_explanation`.
 //!
 //! A call, which returns whether the fault of a metadata without a document type is explained at
 //! the missing key:
@@ -38,12 +38,21 @@ mod again;
 mod causes;
 mod entries;
 mod explanation;
+mod facts;
 mod files;
+mod filings;
+mod forms;
+mod groups;
+mod headers;
 mod levels;
 mod metadata;
 mod namespaces;
+mod nearest;
 mod numbers;
+mod quotes;
+mod rows;
 mod sources;
+mod spreadsheet;
 mod tables;
 
 pub use again::{explain_report, report_explanation};

@@ -5,6 +5,7 @@ ghost use Rattle.oim_explain.specs.Explanations.{place_shown};
 
 use crate::causes::cause;
 use crate::explanation::Explanation;
+use crate::filings::of_filing;
 use crate::namespaces::with_one_uri;
 use oim_meta::{Finding, MetaFault};
 use oim_names::{Items, Text};
@@ -104,6 +105,7 @@ pub fn explain_metadata(
 {
     let place = place(alloc, path, finding.place.as_slice())?;
     let (found, cause) = told(alloc, bytes, finding)?;
+    let cause = of_filing(alloc, bytes, finding)?.unwrap_or(cause);
     Ok(Explanation {
         place,
         found: Text::new(found),

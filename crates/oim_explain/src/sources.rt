@@ -15,7 +15,7 @@ use std::io::Read;
 
 /// What causes a fault of a cell.
 #[derive(Clone, Copy)]
-enum Origin<'r> {
+pub(crate) enum Origin<'r> {
     /// The row's cell in the column of property groups at this place of the template.
     Groups(usize),
     /// The dimension of this name.
@@ -74,7 +74,7 @@ fn bad_property<'r>(
 
 /// Returns what causes a fault of a cell, in the order of the three steps of a cell. Returns `None`
 /// if it is the cell itself, or is not found.
-fn origin_of<'r>(
+pub(crate) fn origin_of<'r>(
     alloc: Global,
     row: &RowOfFault<'r>,
     fault: CellFault,
@@ -270,19 +270,19 @@ fn put_decimals<R: Read + Drop, F: Folder<R>>(
     }
 }
 
-/// Returns the sources of a cell's fault, each with what is there.
+/// Returns the sources of a cell's fault by what causes it, each with what is there.
 pub(crate) fn sources<R: Read + Drop, F: Folder<R>>(
     alloc: Global,
     folder: &mut F,
     row: &RowOfFault<'_>,
-    fault: CellFault,
+    origin: Option<Origin<'_>>,
 ) -> Result<Items<Text>, AllocError> {
     let mut lines = Lines {
         alloc,
         row,
         lines: Items::new(alloc),
     };
-    match origin_of(alloc, row, fault)? {
+    match origin {
         None => {}
         Some(Origin::Groups(place)) => lines.put_cell(row.column_id(place))?,
         Some(Origin::Dimension(name)) => put_dimension(&mut lines, folder, name)?,

@@ -6,14 +6,14 @@ ghost use Rattle.oim_places.specs.FilePlaces.{place_text};
 ghost use Rattle.oim_explain.specs.TablePlaces.{ExplainsAt, ExplainsTable, SaysOfTable};
 
 use crate::explanation::{Explanation, explanation_text};
+use crate::facts::{Told, of_fact};
 use crate::files::{changed, of_file};
 use crate::levels::{RowOfFault, place_of_text};
-use crate::numbers::wrong_numeral;
-use crate::sources::sources;
+use crate::rows::of_record;
 use csv::ByteRecord;
 use oim_files::{Folder, folder_of};
 use oim_meta::{Level, Report, Written};
-use oim_names::{Items, Text, find};
+use oim_names::{Text, find};
 use oim_places::{
     FaultPlace, FaultRecord, ReportAgain, RowAgain, cell_shown, excerpt, fault_record,
     first_record_with, is_of_file, line_again, place_in_file, place_in_record, record_shown,
@@ -195,24 +195,25 @@ struct TableAgain<'r> {
     path: &'r str,
 }
 
-/// Returns the sources of a row's fault.
-fn elsewhere<R: Read + Drop, F: Folder<R>>(
+/// Returns what is told of a fault at a record of a table's file, which begins at this line.
+fn told_of<R: Read + Drop, F: Folder<R>>(
     alloc: Global,
     folder: &mut F,
     table: TableAgain<'_>,
     fault: &TableFault,
     cells: &RowAgain,
     line: Option<u64>,
-) -> Result<Items<Text>, AllocError>
+) -> Result<Told, AllocError>
     requires { (fault.now).table < length table.again.now.report.tables }
 {
+    let report = &table.again.report;
+    let columns = report.template_columns(fault.table);
     let (TableKind::Cell(kind), Some(place)) = (fault.kind, place_in_record(fault)) else {
-        return Ok(Items::new(alloc));
+        return of_record(alloc, folder, table.path, columns, fault, cells, line);
     };
     let name = text_at(&cells.header, place).unwrap_or("");
-    let report = &table.again.report;
     let Some(column) = report.place_of_column(fault.table, name.as_bytes()) else {
-        return Ok(Items::new(alloc));
+        return of_record(alloc, folder, table.path, columns, fault, cells, line);
     };
     let number = fault.row;
     let number = format!(in alloc; "{number}")?;
@@ -221,7 +222,7 @@ fn elsewhere<R: Read + Drop, F: Folder<R>>(
         table: fault.table,
         table_id: report.table_id(fault.table),
         template: report.template_level(fault.table),
-        columns: report.template_columns(fault.table),
+        columns,
         column,
         cells,
         number: number.as_str(),
@@ -229,19 +230,7 @@ fn elsewhere<R: Read + Drop, F: Folder<R>>(
         line,
         base: table.base,
     };
-    sources(alloc, folder, &row, kind)
-}
-
-/// Returns what is wrong with a record of a table's file. For the cell of a number, it is what is
-/// wrong with its text.
-fn cause_in(fault: &TableFault, cells: &RowAgain) -> &'static str {
-    let known = match place_in_record(fault) {
-        Some(place) if fault.kind == TableKind::BadNumber => {
-            wrong_numeral(text_at(&cells.row, place).unwrap_or(""))
-        }
-        _ => None,
-    };
-    known.unwrap_or(fault.kind.explanation())
+    of_fact(alloc, folder, &row, kind)
 }
 
 /// Returns the explanation of a fault at a record of a table's file, which begins at this line.
@@ -258,12 +247,13 @@ fn at_record<R: Read + Drop, F: Folder<R>>(
 {
     let found = found_in(alloc, &table.again.report, fault, cells)?;
     let found = with_first_line(alloc, folder, table.path, fault, cells, found)?;
-    let sources = elsewhere(alloc, folder, table, fault, cells, line)?;
+    let told = told_of(alloc, folder, table, fault, cells, line)?;
+    let Told { cause, more } = told;
     Ok(Explanation {
         place: Text::new(place_in_file(alloc, table.path, line, place_in_record(fault))?),
         found: Text::new(found),
-        cause: cause_in(fault, cells),
-        sources,
+        cause,
+        sources: more,
     })
 }
 

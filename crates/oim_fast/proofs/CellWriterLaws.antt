@@ -1,7 +1,6 @@
 -- What is prepared for the cells of a table's rows, and what is written of a cell.
 use Rattle.std.proofs.Common.{◌≡◌, ◌⊎◌, inl, inr, ◌<◌, ◌^◌, ℕ, suc, Bool, true, false, List, [], ◌∷◌, ◌++◌, length, map, set, get_or, Option, Some, None, IfSome, Result, Ok, Err, sym, ap, subst, ◌∙◌, arith, append-nil, append_assoc}
 use Rattle.std.specs.List.{All, list_all, slice_get}
-use Rattle.std.specs.Prelude.{if◌then◌else◌}
 use Rattle.std.proofs.lemmas.List.{get_or-map, length-map}
 use Rattle.std.proofs.lemmas.Option.{slice_get_within}
 use Rattle.oim_cells.specs.Cells.{Meaning, meaning_of}
@@ -11,7 +10,7 @@ use Rattle.oim_report.specs.declared.data.Level.{Level}
 use Rattle.oim_report.specs.declared.data.WrittenDecimals.{WrittenDecimals}
 use Rattle.oim_report.specs.declared.kind.Kind.{Kind}
 use Rattle.oim_resolve.specs.FactValues.{text_in}
-use Rattle.oim_resolve.specs.Facts.{cell_result, fact_meaning, fact_of, is_absent, is_dropped, is_numeric}
+use Rattle.oim_resolve.specs.Facts.{cell_result, fact_meaning, fact_of, is_absent, is_numeric}
 use Rattle.oim_resolve.specs.Written.{levels}
 use Rattle.oim_rows.specs.RowFacts.{TableHeaderValue, field_or_empty}
 use Rattle.oim_fast.specs.state.CellValues.{IsValue}
@@ -23,24 +22,19 @@ use Rattle.oim_resolve.specs.FactParts.{FactParts as Fact}
 use mathlib.Core.List.{IsPrefix}
 use Rattle.oim_fast.specs.declared.table.cell_writer.CellWriter.{CellWriter}
 use Rattle.oim_fast.proofs.MakerLaws.{ready_again}
-use Rattle.oim_fast.specs.state.FrameTexts.{FrameValue, Segment, with_part, with_value}
-use Rattle.oim_fast.specs.state.Frames.{AreFrameDecimals, IsTextOf, no_dimensions, with_parts}
+use Rattle.oim_fast.specs.state.FrameTexts.{FrameValue, Segment}
+use Rattle.oim_fast.specs.state.Frames.{AreFrameDecimals, IsTextOf}
 use Rattle.oim_fast.specs.state.KeptFrames.{IsTextFor}
-use Rattle.oim_fast.specs.state.FrameParts.{IsPart, IsPartValue}
 use Rattle.oim_row.specs.References.{IsFresh, Key, ReferenceValue, key_of}
 use Rattle.oim_row.specs.Rows.{RowValue, column_in}
 use Rattle.oim_row.specs.state.Rows.{cell_in}
 use Rattle.oim_fast.specs.declared.frame.fact_column.FactColumn.{FactColumn}
 use Rattle.oim_fast.specs.declared.frame.frame_decimals.FrameDecimals.{FrameDecimals}
 use Rattle.oim_fast.specs.declared.frame.frame_decimals.FrameDecimals.TheVariants as decimals
-use Rattle.oim_fast.specs.declared.frame.part.FramePart.{FramePart}
-use Rattle.oim_fast.specs.declared.frame.part.PartValue.{PartValue}
-use Rattle.oim_fast.specs.declared.frame.part.PartValue.TheVariants as part
 use Rattle.oim_fast.specs.declared.frame.value.Value.{Value}
 use Rattle.oim_row.specs.declared.group_cells.GroupCell.{GroupCell}
 use Rattle.oim_fast.proofs.FoundLaws.{absent_given, fact_given, text_given}
-use Rattle.oim_fast.proofs.FrameLaws.{levels_are}
-use Rattle.oim_row.proofs.Growth.{all_push}
+use Rattle.oim_fast.proofs.FrameLaws.{levels_are, references_within}
 use Rattle.oim_fast.proofs.PlainNumerals.{given_is_plain}
 use Rattle.oim_row.proofs.Refreshed.{set_all, set_map}
 use Rattle.oim_fast.proofs.RowLaws.{text_is}
@@ -49,29 +43,8 @@ use Rattle.oim_fast.proofs.SoundLaws.{chosen_sound}
 -- THE REFERENCES OF A FRAME
 
 module _ (f : TableHeaderValue) (rs : List ReferenceValue) where
-  abbrev HasReference : Segment → Type 0
-  HasReference s = s.reference < length rs
-
   key_within : (i : ℕ) (k : Key) → slice_get (map key_of rs) i ≡ Some k → i < length rs
   key_within i k e = omega (arith, slice_get_within (map key_of rs) i k e, length-map rs key_of)
-
-  value_within : (t : FrameValue) (n text : List ℕ) (w : Rattle.oim_report.specs.declared.data.Written.Written) (v : PartValue) → IsPartValue f (map key_of rs) n w text v → All HasReference t.segments
-      → All HasReference (with_value t text v).segments
-  value_within t n text w part.Nothing h all = all
-  value_within t n text w part.Text h all = all
-  value_within t n text w (part.Reference i) (to, is) all = all_push HasReference t.segments (record { alone = t.rest; name = text; reference = i }) all (key_within i _ to.there)
-  value_within t n text w part.Unknown h all = all
-
-  part_within : (t : FrameValue) (p : FramePart) → IsPart f (map key_of rs) p → All HasReference t.segments → All HasReference (with_part t p).segments
-  part_within t p is all = by (is_dropped t.kind p.role)
-    where
-      by : (b : Bool) → All HasReference (if b then t else with_value t p.text.items p.value).segments
-      by true = all
-      by false = value_within t p.name.now p.text.items p.written.now p.value is.value all
-
-  parts_within : (t : FrameValue) (ps : List FramePart) → All (IsPart f (map key_of rs)) ps → All HasReference t.segments → All HasReference (with_parts t ps).segments
-  parts_within t [] are all = all
-  parts_within t (p ∷ ps) are all = parts_within (with_part t p) ps (λ k d lt. are (suc k) d (omega arith)) (part_within t p (are 0 p (omega arith)) all)
 
   decimals_within : (o : Option WrittenDecimals) (text : List ℕ) (d : FrameDecimals) → AreFrameDecimals f (map key_of rs) o text d → IsWithin (length rs) d
   decimals_within o text decimals.Settled h = tt
@@ -81,8 +54,7 @@ module _ (f : TableHeaderValue) (rs : List ReferenceValue) where
 
   pub of_references : (ls : List Level) (lead : List ℕ) (t : FrameValue) → IsTextOf f (map key_of rs) ls lead t → IsOfReferences (length rs) t
   of_references ls lead t h = record {
-    dimensions = subst (λ (q : FrameValue). All HasReference q.segments) (sym h.text)
-        (parts_within (no_dimensions t.kind t.lead t.settled t.decimals) h.parts h.are (λ k d lt. absurd (omega arith)));
+    dimensions = subst (λ (n : ℕ). All (λ (s : Segment). s.reference < n) t.segments) (length-map rs key_of) (references_within f (map key_of rs) ls lead t h);
     decimals = λ number. decimals_within _ t.settled t.decimals (h.decimals.numbers number);
     others = h.decimals.others;
   }

@@ -9,40 +9,38 @@ use Rattle.oim_json.specs.JsonText.{decimals_text, dimension_text, escaped_byte,
 use Rattle.oim_report.specs.Readers.{table_of}
 use Rattle.oim_report.specs.declared.kind.Kind.{Kind}
 use Rattle.oim_resolve.specs.Cell.{Cell, column}
-use Rattle.oim_resolve.specs.FactValues.{accuracy_in, faults_in, text_in}
-use Rattle.oim_resolve.specs.Facts.{cell_and_group_faults, cell_result, concept_faults, concept_kind, concept_read, decimals_faults, dimension_entry, dimension_faults, fact_decimals, fact_meaning, fact_of, fact_value, given, is_absent, is_numeric}
-use Rattle.oim_resolve.specs.Facts.{is_unknown, named_entry, places, rest_faults, stated, stated_accuracy, stated_faults}
-use Rattle.oim_resolve.specs.Faults.{least, unless}
+use Rattle.oim_resolve.specs.FactValues.{faults_in, suffix_given, text_in}
+use Rattle.oim_resolve.specs.Facts.{cell_and_group_faults, cell_result, concept_faults, concept_kind, decimals_faults, dimension_entry, dimension_faults, fact_decimals, fact_meaning, fact_of, fact_value, given, is_absent, is_numeric}
+use Rattle.oim_resolve.specs.Facts.{is_unknown, named_entry, places, rest_faults, stated, stated_accuracy, stated_faults, wanted_faults}
+use Rattle.oim_resolve.specs.Faults.{least}
+use Rattle.oim_resolve.proofs.Suffixes.{suffix_stated}
 use Rattle.oim_resolve.specs.Written.{levels, names, written_decimals}
 use Rattle.oim_resolve.specs.declared.fact.CellFault.{CellFault}
 use Rattle.oim_fast.specs.state.CellValues.{IsValue}
 use Rattle.oim_fast.specs.state.FactTexts.{are_sound_decimals, cut, frame_decimals, has_decimals, object_text, opening_decimals, value_of}
 use Rattle.oim_fast.specs.state.Facts.{column_lead, fact_text, start_text}
 use Rattle.oim_fast.specs.state.FrameTexts.{FrameValue, Segment, dimensions_start, frame_dimensions}
-use Rattle.oim_fast.specs.state.Frames.{IsTextOf, no_dimensions}
+use Rattle.oim_fast.specs.state.Frames.{IsTextOf, no_dimensions, with_parts, with_test}
 use Rattle.oim_fast.specs.state.Pieces.{AreSound, written_pieces}
 use Rattle.oim_resolve.specs.state.ProgramLevels.{written_entries}
+use Rattle.oim_row.specs.Answers.{kind_read}
 use Rattle.oim_row.specs.References.{IsFresh, ReferenceValue, key_of}
 use Rattle.oim_fast.specs.state.GivenTexts.{given_by, is_sound_by}
 use Rattle.oim_row.specs.Rows.{RowValue, column_in, row_in}
 use Rattle.oim_row.specs.state.Rows.{cell_in}
 use Rattle.oim_fast.specs.declared.frame.value.Value.{Value}
-use Rattle.oim_fast.proofs.FrameLaws.{parts_added}
+use Rattle.oim_fast.proofs.FrameLaws.{parts_added, tests_added}
 use Rattle.oim_fast.proofs.MemberLaws.{pieces_cut, written_pieces_are}
-use Rattle.oim_fast.proofs.SoundLaws.{AreNamed, AreStated, decimals_sound, parts_sound, sound_faults}
+use Rattle.oim_fast.proofs.SoundLaws.{AreNamed, AreStated, IsRead, concept_sound, decimals_sound, nothing_wanted, parts_sound, sound_faults, test_kept}
 
 -- THE RESULT OF A CELL WITHOUT FAULTS
-
-concept_by : (o : Option CellFault) (k j : Kind) → unless o (Ok k) ≡ Ok j → (o ≡ None) × (j ≡ k)
-concept_by None k j e = (refl, cc)
-concept_by (Some f) k j e = absurd (cc e)
 
 no_first_faults : (c : Cell) → is_unknown (fact_meaning c) ≡ false → AreNamed c (column c).from → least (cell_and_group_faults c) ≡ None
 no_first_faults c known h = rw (known, h.known, h.named) refl
 
-no_rest_faults : (c : Cell) (k : Kind) → flat_map (dimension_faults c k) (names (levels c)) ≡ [] → decimals_faults c k ≡ [] → faults_in (fact_value c k) ≡ [] → least (rest_faults c k) ≡ None
+no_rest_faults : (c : Cell) (k : Kind) → flat_map (dimension_faults c k) (names (levels c)) ≡ [] → decimals_faults c k ≡ [] → wanted_faults c k ≡ [] → faults_in (fact_value c k) ≡ [] → least (rest_faults c k) ≡ None
 unfolding rest_faults
-no_rest_faults c k d e f = rw (d, e, f) refl
+no_rest_faults c k d e w f = rw (d, e, w, f) refl
 
 good : (c : Cell) → is_absent (fact_meaning c) ≡ false → least (cell_and_group_faults c) ≡ None → least (concept_faults c) ≡ None → least (rest_faults c (concept_kind c)) ≡ None
     → cell_result c ≡ Ok (Some (fact_of c))
@@ -110,32 +108,38 @@ module _ (x : RowValue) (c : ℕ) where
 
 module _ (x : RowValue) (c : ℕ) (few : x.number < 2 ^ 32) (rs : List ReferenceValue) (fresh : All (IsFresh x) rs) (t : FrameValue) (v : Value)
     (text : IsTextOf x.header (map key_of rs) (levels (cell_in x c)) (column_lead x.header c) t)
-    (concept : concept_read x.header.report (given (cell_in x c) (codes "concept")) ≡ Ok t.kind)
+    (concept : kind_read x.header.report (given (cell_in x c) (codes "concept")) ≡ Some t.kind)
     (value : IsValue x.header.report t.kind (fact_meaning (cell_in x c)) v)
     (dimensions : All (λ (s : Segment). is_sound_by rs s.reference ≡ true) t.segments)
     (decimals : are_sound_decimals rs t v ≡ true) where
   abbrev here : Cell
   here = cell_in x c
 
-  concept_is : (least (concept_faults here) ≡ None) × (t.kind ≡ concept_kind here)
-  concept_is = concept_by (least (concept_faults here)) (concept_kind here) t.kind concept
+  concept_is : IsRead (least (concept_faults here)) (concept_kind here) t.kind
+  concept_is = concept_sound (least (concept_faults here)) (concept_kind here) t.kind concept
 
   kind : t.kind ≡ concept_kind here
-  kind = concept_is.1
+  kind = concept_is.kind
 
   abbrev bare : FrameValue
   bare = no_dimensions t.kind t.lead t.settled t.decimals
 
+  abbrev whole : FrameValue
+  whole = with_parts bare text.parts
+
+  all_sound : All (λ (s : Segment). is_sound_by rs s.reference ≡ true) (with_test (with_test whole text.unit) text.period).segments
+  all_sound = subst (λ (q : FrameValue). All (λ (s : Segment). is_sound_by rs s.reference ≡ true) q.segments) text.text dimensions
+
   dimensions_sound : AreSound here t.kind (written_entries (levels here))
   dimensions_sound =
       subst (AreSound here t.kind) text.entries
-      (parts_sound x c few rs fresh bare text.parts text.are text.ready (subst (λ (q : FrameValue). All (λ (s : Segment). is_sound_by rs s.reference ≡ true) q.segments) text.text dimensions))
+      (parts_sound x c few rs fresh bare text.parts text.are text.ready (test_kept x c few rs fresh whole text.unit (test_kept x c few rs fresh (with_test whole text.unit) text.period all_sound)))
 
   given_value : fact_value here t.kind ≡ Ok (record { text = value_of v; accuracy = v.accuracy })
   given_value = value.given
 
-  suffix : accuracy_in (fact_value here t.kind) ≡ v.accuracy
-  suffix = ap accuracy_in given_value
+  suffix : suffix_given t.kind (fact_meaning here) ≡ v.accuracy
+  suffix = suffix_stated x.header.report t.kind (fact_meaning here) _ given_value
 
   stated_here : is_numeric t.kind ≡ true → has_decimals rs t.decimals ≡ true → AreStated x c few rs fresh (written_decimals (levels here)) (frame_decimals rs t t.decimals)
   stated_here number has = decimals_sound x c few rs fresh t (written_decimals (levels here)) t.decimals (text.decimals.numbers number) has
@@ -146,11 +150,11 @@ module _ (x : RowValue) (c : ℕ) (few : x.number < 2 ^ 32) (rs : List Reference
       (λ b has. (stated_here (first_of (is_numeric t.kind) (not v.is_nil) (is_none v.accuracy) b) has).sound))
 
   rest : least (rest_faults here t.kind) ≡ None
-  rest = no_rest_faults here t.kind (sound_faults here t.kind (names (levels here)) dimensions_sound) no_decimals_faults (ap faults_in given_value)
+  rest = no_rest_faults here t.kind (sound_faults here t.kind (names (levels here)) dimensions_sound) no_decimals_faults (nothing_wanted x c few rs fresh t.kind whole text.unit text.period text.has_unit text.has_period all_sound) (ap faults_in given_value)
 
   -- The cell has no fault in its concept or in what follows it.
   pub fact_given : is_unknown (fact_meaning here) ≡ false → AreNamed here (column here).from → cell_result here ≡ Ok (Some (fact_of here))
-  fact_given known named = good here value.said (no_first_faults here known named) concept_is.0 (subst (λ (k : Kind). least (rest_faults here k) ≡ None) kind rest)
+  fact_given known named = good here value.said (no_first_faults here known named) concept_is.none (subst (λ (k : Kind). least (rest_faults here k) ≡ None) kind rest)
 
   decimals_are : opening_decimals rs t v ≡ decimals_text (fact_decimals here t.kind)
   decimals_are =
@@ -161,6 +165,7 @@ module _ (x : RowValue) (c : ℕ) (few : x.number < 2 ^ 32) (rs : List Reference
   dimensions_are : cut (frame_dimensions (given_by rs) t) ≡ joined (map dimension_text (flat_map (λ n. named_entry n (dimension_entry here t.kind n)) (names (levels here))))
   dimensions_are =
       ap (λ (q : FrameValue). cut (frame_dimensions (given_by rs) q)) text.text
+      ∙ ap cut (tests_added x c few rs fresh (levels here) t.kind whole text.unit text.period text.has_unit text.has_period)
       ∙ ap cut (parts_added x c few rs fresh bare text.parts text.are text.ready ∙ ap (written_pieces here t.kind) text.entries ∙ written_pieces_are here t.kind)
       ∙ pieces_cut (flat_map (λ n. named_entry n (dimension_entry here t.kind n)) (names (levels here)))
 

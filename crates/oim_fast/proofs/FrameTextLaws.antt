@@ -1,16 +1,17 @@
 -- How the text of a frame is laid out as it grows.
-use Rattle.std.proofs.Common.{◌≡◌, ℕ, ◌-◌, ◌≤◌, false, List, [], ◌∷◌, ◌++◌, length, take, drop, refl, sym, ap, ◌∙◌, arith, length-append, length-drop, take_all}
+use Rattle.std.proofs.Common.{◌≡◌, ℕ, ◌-◌, ◌≤◌, false, List, [], ◌∷◌, ◌++◌, length, take, drop, refl, sym, ap, subst, ◌∙◌, arith, length-append, length-drop, take_all}
 use Rattle.std.specs.Prelude.{slice_range}
 use Rattle.std.proofs.Math.Seq.{drop-append_seam}
 use Rattle.std.proofs.lemmas.List.{drop_all, drop-append-le, take-append-le}
 use Rattle.oim_report.specs.declared.kind.Kind.{Kind}
 use Rattle.oim_resolve.specs.Facts.{is_dropped}
-use Rattle.oim_fast.specs.state.FrameTexts.{AreRuns, FrameValue, IsLaidOut, Segment, rest_from, segments_from, with_part, with_value}
+use Rattle.oim_fast.specs.state.FrameTexts.{AreRuns, FrameValue, IsFilled, IsLaidOut, Segment, rest_from, segments_from, with_part, with_segment, with_value}
 use Rattle.oim_fast.specs.declared.frame.frame_decimals.FrameDecimals.{FrameDecimals}
 use Rattle.oim_fast.specs.declared.frame.part.FramePart.{FramePart}
 use Rattle.oim_fast.specs.declared.frame.part.PartValue.{PartValue}
 use Rattle.oim_fast.specs.declared.frame.part.PartValue.TheVariants as part
 use Rattle.oim_fast.specs.declared.frame.frame_text.TextRun.{TextRun}
+use Rattle.oim_fast.specs.declared.frame.value_form.ValueForm.{ValueForm}
 
 -- A range of a text stays as the text grows.
 pub range_more : (text more : List ℕ) (i j : ℕ) → i ≤ j → j ≤ length text → slice_range (text ++ more) i j ≡ slice_range text i j
@@ -101,6 +102,30 @@ module _ (text : List ℕ) (lead opening body : ℕ) (rs : List TextRun) (h : Is
     segments_push text name i body rs h.dimensions,
     rest_push text name i body rs,
   ) refl
+
+-- WHAT IS ADDED
+
+module _ (k : Kind) (by : ValueForm) (text : List ℕ) (lead opening body : ℕ) (rs : List TextRun) (h : IsFilled k by text lead opening body rs) where
+  -- More text.
+  pub filled_more : (more new : List ℕ) → new ≡ text ++ more → IsFilled k by new lead opening body rs
+  filled_more more new e = subst (λ (t : List ℕ). IsFilled k by t lead opening body rs) (sym e) (record { form = h.form; laid = laid_out_more text lead opening body rs h.laid more })
+
+  -- One more run.
+  module _ (name new : List ℕ) (i : ℕ) (run : TextRun) (runs : List TextRun) (last : run ≡ run_at_end text name i) (is : new ≡ text ++ name) (pushed : runs ≡ rs ++ run ∷ []) where
+    all : runs ≡ rs ++ run_at_end text name i ∷ []
+    all = pushed ∙ ap (λ r. rs ++ r ∷ []) last
+
+    pub filled_run : IsFilled k by new lead opening body runs
+    filled_run = record {
+      form = h.form;
+      laid = subst (λ (t : List ℕ). IsLaidOut t lead opening body runs) (sym is)
+          (subst (λ (q : List TextRun). IsLaidOut (text ++ name) lead opening body q) (sym all) (laid_out_run text lead opening body rs h.laid name i));
+    }
+
+    pub seen_run : (d : FrameDecimals) (t : FrameValue) → seen k d lead opening body text rs ≡ t → seen k d lead opening body new runs ≡ with_segment t name i
+    seen_run d t view =
+        ap (λ q. seen k d lead opening body q runs) is ∙ ap (λ q. seen k d lead opening body (text ++ name) q) all
+        ∙ value_run text lead opening body rs h.laid k d name i ∙ ap (λ q. with_segment q name i) view
 
 -- A part that the facts have is added as it was prepared.
 pub with_it : (old new : FrameValue) (p : FramePart) (v : PartValue) → is_dropped old.kind p.role ≡ false → p.value ≡ v → new ≡ with_value old p.text.items v → new ≡ with_part old p

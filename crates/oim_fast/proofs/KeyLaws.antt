@@ -1,15 +1,15 @@
 -- Prepared dimensions stay right as references are added.
 use Rattle.std.proofs.Common.{◌≡◌, ℕ, List, ◌++◌, codes, map, get_or, sym, ap, subst, ◌∙◌}
-use Rattle.std.specs.Prelude.{Option, Some, None}
-use Rattle.std.specs.List.{All}
+use Rattle.std.specs.Prelude.{MatchOption, Option, Some, None}
+use Rattle.std.specs.List.{All, slice_get}
 use Rattle.std.proofs.lemmas.List.{map-append}
 use Rattle.oim_report.specs.declared.data.Written.{Written}
 use Rattle.oim_report.specs.declared.data.WrittenDecimals.{WrittenDecimals}
 use Rattle.oim_rows.specs.RowFacts.{TableHeaderValue}
 use Rattle.oim_report.specs.declared.data.Level.{Level}
 use Rattle.oim_report.specs.declared.kind.Kind.{Kind}
-use Rattle.oim_resolve.specs.Written.{written_decimals}
-use Rattle.oim_fast.specs.state.Frames.{AreFrameDecimals, AreKindDecimals, HasReferredKind, IsTextOf, levels_chosen}
+use Rattle.oim_resolve.specs.Written.{written, written_decimals}
+use Rattle.oim_fast.specs.state.Frames.{AreFrameDecimals, AreKindDecimals, HasReferredKind, IsPeriodTest, IsTest, IsTextOf, IsUnitTest, levels_chosen, period_wanted, side_written, unit_wanted}
 use Rattle.oim_fast.specs.state.KeptFrames.{IsBody, IsFrame}
 use Rattle.oim_fast.specs.state.FrameParts.{AreDecimals, IsPart, IsPartValue, IsReferred}
 use Rattle.oim_row.specs.References.{Grows, Key, ReferenceValue, key_of}
@@ -23,6 +23,8 @@ use Rattle.oim_fast.specs.declared.frame.part.FramePart.{FramePart}
 use Rattle.oim_fast.specs.declared.frame.part.PartValue.{PartValue}
 use Rattle.oim_fast.specs.declared.frame.part.PartValue.TheVariants as part
 use Rattle.oim_row.specs.declared.group_cells.Choice.{Choice}
+use Rattle.oim_row.specs.declared.purpose.Purpose.{Purpose}
+use Rattle.oim_row.specs.declared.purpose.Purpose.TheVariants.{WantedPeriod, WantedUnit}
 use Rattle.oim_row.proofs.Growth.{slice_get-append}
 
 module _ (f : TableHeaderValue) (keys more : List Key) where
@@ -68,13 +70,32 @@ module _ (f : TableHeaderValue) (rs later : List ReferenceValue) (g : Grows rs l
   pub kind_decimals_grow : (ls : List Level) (k : Kind) (text : List ℕ) (d : FrameDecimals) → AreKindDecimals f (map key_of rs) ls k text d → AreKindDecimals f (map key_of later) ls k text d
   kind_decimals_grow ls k text d h = record { numbers = λ e. frame_decimals_grow (written_decimals ls) text d (h.numbers e); others = h.others }
 
+  pub test_grows : (o : Option Written) (p : Purpose) (test : Option ℕ) → IsTest f (map key_of rs) o p test → IsTest f (map key_of later) o p test
+  test_grows o p None h = h
+  test_grows o p (Some i) (source, is, at) = (source, is, subst (λ (ks : List Key). slice_get ks i ≡ Some (record { purpose = p; source = source })) (sym (keys_more rs later g)) (slice_get-append (map key_of rs) (map key_of g.more) i _ at))
+
+  wanted_by : {A : Type 0} (wanted : Option A) (o : Option Written) (purpose : A → Purpose) (test : Option ℕ)
+      → MatchOption wanted (test ≡ None) (λ y. IsTest f (map key_of rs) o (purpose y) test) → MatchOption wanted (test ≡ None) (λ y. IsTest f (map key_of later) o (purpose y) test)
+  wanted_by None o purpose test h = h
+  wanted_by (Some y) o purpose test h = test_grows o (purpose y) test h
+
+  pub unit_grows : (ls : List Level) (k : Kind) (test : Option ℕ) → IsUnitTest f (map key_of rs) ls k test → IsUnitTest f (map key_of later) ls k test
+  unit_grows ls k test h = wanted_by (unit_wanted k) (written ls (codes "unit")) WantedUnit test h
+
+  pub period_grows : (ls : List Level) (k : Kind) (test : Option ℕ) → IsPeriodTest f (map key_of rs) ls k test → IsPeriodTest f (map key_of later) ls k test
+  period_grows ls k test h = wanted_by (period_wanted k) (written ls (codes "period")) (λ p. WantedPeriod p (side_written (written ls (codes "period")))) test h
+
   pub text_grows : (ls : List Level) (lead : List ℕ) (t : FrameValue) → IsTextOf f (map key_of rs) ls lead t → IsTextOf f (map key_of later) ls lead t
   text_grows ls lead t h = record {
     parts = h.parts;
+    unit = h.unit;
+    period = h.period;
     entries = h.entries;
     are = parts_grow h.parts h.are;
     ready = h.ready;
     text = h.text;
+    has_unit = unit_grows ls t.kind h.unit h.has_unit;
+    has_period = period_grows ls t.kind h.period h.has_period;
     lead = h.lead;
     decimals = kind_decimals_grow ls t.kind t.settled t.decimals h.decimals;
   }
@@ -82,7 +103,7 @@ module _ (f : TableHeaderValue) (rs later : List ReferenceValue) (g : Grows rs l
   pub referred_kind_grows : (ls : List Level) (i : ℕ) → HasReferredKind f (map key_of rs) ls i → HasReferredKind f (map key_of later) ls i
   referred_kind_grows ls i h = record { concept = h.concept; written = h.written; referred = referred_grows (codes "concept") h.concept i h.referred }
 
-  pub body_grows : (c : ℕ) (os : List Choice) (k : ℕ) (b : FrameBody) → IsBody f (map key_of rs) c os k b → IsBody f (map key_of later) c os k b
+  pub body_grows : (c : ℕ) (os : List Choice) (k : Option Kind) (b : FrameBody) → IsBody f (map key_of rs) c os k b → IsBody f (map key_of later) c os k b
   body_grows c os k (body.Text t) h = (text_grows (levels_chosen f c os) _ t h.0, h.1)
   body_grows c os k (body.ByConcept i) h = referred_kind_grows (levels_chosen f c os) i h
   body_grows c os k body.Unknown h = h

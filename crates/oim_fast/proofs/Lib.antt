@@ -5,6 +5,7 @@ pub mod RowLaws
 pub mod PieceLaws
 pub mod WriteLaws
 pub mod PlainNumerals
+pub mod ValueFormLaws
 pub mod ValueLaws
 pub mod StartLaws
 pub mod NextNumbers

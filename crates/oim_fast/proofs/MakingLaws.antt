@@ -1,6 +1,6 @@
 -- How the text of a frame is made from the parts of its entries.
 use Rattle.std.proofs.Common.{◌≡◌, ◌<◌, ◌+◌, ℕ, zero, suc, true, List, [], ◌∷◌, ◌++◌, codes, length, map, take, get_or, Option, Some, None, Ok, IfSome, refl, sym, ap, subst, ◌∙◌, append-nil, arith}
-use Rattle.std.specs.Prelude.{◌⊎◌, if◌then◌else◌, Bool, false}
+use Rattle.std.specs.Prelude.{◌⊎◌, MatchOption, if◌then◌else◌, Bool, false}
 use Rattle.std.proofs.Common.{inr}
 use Rattle.std.specs.Borrow.{Bor}
 use Rattle.std.specs.List.{All, flat_map, slice_get}
@@ -9,31 +9,36 @@ use Rattle.std.proofs.lemmas.Grind.{flat_map-append}
 use Rattle.std.proofs.lemmas.List.{map-append, take_more}
 use Rattle.std.proofs.lemmas.Option.{slice_get_read}
 use Rattle.oim_report.specs.declared.data.Level.{Level}
+use Rattle.oim_report.specs.declared.data.Side.{Side}
 use Rattle.oim_report.specs.declared.data.Written.{Written}
 use Rattle.oim_report.specs.declared.kind.Kind.{Kind}
-use Rattle.oim_resolve.specs.Facts.{concept_read, is_dropped}
+use Rattle.oim_report.specs.declared.kind.PeriodType.{PeriodType}
+use Rattle.oim_report.specs.declared.kind.ValueType.{ValueType}
+use Rattle.oim_resolve.specs.Facts.{is_dropped}
 use Rattle.oim_resolve.specs.ProgramCell.{held}
 use Rattle.oim_resolve.specs.Written.{written}
 use Rattle.oim_rows.specs.RowFacts.{TableHeaderValue}
 use Rattle.oim_fast.specs.state.FrameTexts.{FrameValue, is_ready, with_part, with_value}
-use Rattle.oim_fast.specs.state.Frames.{AreKindDecimals, HasConstantKind, HasReferredKind, IsTextOf, are_ready, entry_of, levels_chosen, no_dimensions, with_parts}
+use Rattle.oim_fast.specs.state.Frames.{AreKindDecimals, HasConstantKind, HasReferredKind, IsPeriodTest, IsTest, IsTextOf, IsUnitTest, are_ready, entry_of, levels_chosen, no_dimensions, period_wanted, side_written, unit_wanted, with_parts, with_test}
 use Rattle.oim_fast.specs.state.Facts.{column_lead}
-use Rattle.oim_fast.specs.state.KeptFrames.{IsBody, kind_code}
-use Rattle.oim_fast.specs.state.Making.{AddsEntries, IsBodyOf, IsConcept, IsOpening, SaysConcept}
+use Rattle.oim_fast.specs.state.KeptFrames.{IsBody}
+use Rattle.oim_fast.specs.state.Making.{AddsEntries, AddsPeriod, AddsTest, AddsUnit, IsBodyOf, IsConcept, IsOpening, SaysConcept}
 use Rattle.oim_fast.specs.state.FrameParts.{IsPart, IsPartValue, IsReferred}
 use Rattle.oim_fast.specs.state.Pieces.{constant_meaning}
 use Rattle.oim_resolve.specs.state.ProgramLevels.{named, written_entries}
 use Rattle.oim_row.specs.Sources.{source_written}
+use Rattle.oim_row.specs.Answers.{kind_read}
 use Rattle.oim_row.specs.References.{Grows, Key, ReferenceValue, key_of}
 use Rattle.oim_fast.specs.declared.frame.frame.FrameBody.{FrameBody}
 use Rattle.oim_fast.specs.declared.frame.frame_maker.Concept.{Concept}
 use Rattle.oim_fast.specs.declared.frame.frame_maker.Concept.TheVariants as concept
 use Rattle.oim_fast.specs.declared.frame.part.FramePart.{FramePart}
 use Rattle.oim_row.specs.declared.group_cells.Choice.{Choice}
+use Rattle.oim_row.specs.declared.purpose.Purpose.TheVariants.{WantedPeriod, WantedUnit}
 use Rattle.oim_fast.specs.declared.frame.part.PartValue.{PartValue}
 use Rattle.oim_fast.specs.declared.frame.part.PartValue.TheVariants as part
-use Rattle.oim_row.proofs.Growth.{all_append}
-use Rattle.oim_fast.proofs.KeyLaws.{kind_decimals_grow, parts_grow}
+use Rattle.oim_row.proofs.Growth.{all_append, grows_twice}
+use Rattle.oim_fast.proofs.KeyLaws.{kind_decimals_grow, parts_grow, unit_grows}
 
 -- PARTS
 
@@ -125,30 +130,85 @@ heads_kept : (t : FrameValue) (ps : List FramePart) → head_of (with_parts t ps
 heads_kept t [] = refl
 heads_kept t (p ∷ ps) = heads_kept (with_part t p) ps ∙ head_kept t p
 
--- With the parts of all that the levels write, the frame is their text.
-pub text_made : (f : TableHeaderValue) (rs later : List ReferenceValue) (ls : List Level) (k : Kind) (lead : List ℕ) (old new : FrameValue) → Grows rs later → IsOpening f (map key_of rs) ls k lead old
-    → AddsEntries f (map key_of later) (written_entries ls) old new → (new.kind ≡ k) × IsTextOf f (map key_of later) ls lead new
-text_made f rs later ls k lead old new g start adds =
+test_kept : (t : FrameValue) (test : Option ℕ) → head_of (with_test t test) ≡ head_of t
+test_kept t None = refl
+test_kept t (Some i) = refl
+
+-- With the parts of all that the levels write, and the tests, the frame is their text.
+pub text_made : (f : TableHeaderValue) (rs mid later last : List ReferenceValue) (ls : List Level) (k : Kind) (lead : List ℕ) (old added unit new : FrameValue) → Grows rs mid → Grows mid later → Grows later last
+    → IsOpening f (map key_of rs) ls k lead old → AddsEntries f (map key_of mid) (written_entries ls) old added → AddsUnit f (map key_of later) ls k added unit
+    → AddsPeriod f (map key_of last) ls k unit new → (new.kind ≡ k) × IsTextOf f (map key_of last) ls lead new
+text_made f rs mid later last ls k lead old added unit new g more most start adds has_unit has_period =
+    let far = grows_twice mid later last more most in
     let head : head_of new ≡ old =
-    ap head_of adds.text ∙ heads_kept old adds.parts ∙ ap head_of start.start ∙ sym start.start in
+    ap head_of has_period.text ∙ test_kept unit has_period.test ∙ ap head_of has_unit.text ∙ test_kept added has_unit.test
+    ∙ ap head_of adds.text ∙ heads_kept old adds.parts ∙ ap head_of start.start ∙ sym start.start in
     let kind : new.kind ≡ old.kind = ap (λ (t : FrameValue). t.kind) head in
-    let decimals : AreKindDecimals f (map key_of later) ls old.kind old.settled old.decimals =
-    subst (λ (q : Kind). AreKindDecimals f (map key_of later) ls q old.settled old.decimals) (sym (ap (λ (t : FrameValue). t.kind) start.start)) (kind_decimals_grow f rs later g ls k old.settled old.decimals start.decimals) in (
-      kind ∙ ap (λ (t : FrameValue). t.kind) start.start,
+    let is : new.kind ≡ k = kind ∙ ap (λ (t : FrameValue). t.kind) start.start in
+    let decimals : AreKindDecimals f (map key_of last) ls old.kind old.settled old.decimals =
+    subst (λ (q : Kind). AreKindDecimals f (map key_of last) ls q old.settled old.decimals) (sym (ap (λ (t : FrameValue). t.kind) start.start))
+    (kind_decimals_grow f rs last (grows_twice rs mid last g far) ls k old.settled old.decimals start.decimals) in
+    let whole : new ≡ with_test (with_test (with_parts old adds.parts) has_unit.test) has_period.test =
+    has_period.text ∙ ap (λ (t : FrameValue). with_test t has_period.test) (has_unit.text ∙ ap (λ (t : FrameValue). with_test t has_unit.test) adds.text) in (
+      is,
       record {
         parts = adds.parts;
+        unit = has_unit.test;
+        period = has_period.test;
         entries = adds.entries;
-        are = adds.are;
+        are = parts_grow f mid last far adds.parts adds.are;
         ready = subst (λ (t : FrameValue). are_ready t adds.parts) (sym head) adds.ready;
-        text = adds.text ∙ ap (λ (t : FrameValue). with_parts t adds.parts) (sym head);
+        text = whole ∙ ap (λ (t : FrameValue). with_test (with_test (with_parts t adds.parts) has_unit.test) has_period.test) (sym head);
+        has_unit = subst (λ (q : Kind). IsUnitTest f (map key_of last) ls q has_unit.test) (sym is) (unit_grows f later last most ls k has_unit.test has_unit.is);
+        has_period = subst (λ (q : Kind). IsPeriodTest f (map key_of last) ls q has_period.test) (sym is) has_period.is;
         lead = ap (λ (t : FrameValue). t.lead) head ∙ ap (λ (t : FrameValue). t.lead) start.start;
-        decimals = subst (λ (t : FrameValue). AreKindDecimals f (map key_of later) ls t.kind t.settled t.decimals) (sym head) decimals;
+        decimals = subst (λ (t : FrameValue). AreKindDecimals f (map key_of last) ls t.kind t.settled t.decimals) (sym head) decimals;
       },
     )
 
+-- THE TESTS
+
+none_wanted : {A : Type 0} (o : Option A) (test : Option ℕ) (S : A → Type 0) → o ≡ None → test ≡ None → MatchOption o (test ≡ None) S
+none_wanted None test S e is = is
+none_wanted (Some x) test S e is = absurd (cc e)
+
+some_wanted : {A : Type 0} (o : Option A) (x : A) (N : Type 0) (S : A → Type 0) → o ≡ Some x → S x → MatchOption o N S
+some_wanted None x N S e h = absurd (cc e)
+some_wanted (Some y) x N S e h = let same : x ≡ y = cc e in subst S same h
+
+module _ (f : TableHeaderValue) (keys : List Key) (ls : List Level) (k : Kind) where
+  abbrev unit_written : Option Written
+  unit_written = written ls (codes "unit")
+
+  abbrev period_written : Option Written
+  period_written = written ls (codes "period")
+
+  -- A kind that wants nothing has no test.
+  pub no_unit : (t : FrameValue) → unit_wanted k ≡ None → AddsUnit f keys ls k t t
+  no_unit t e = record { test = None; is = none_wanted (unit_wanted k) None (λ y. IsTest f keys unit_written (WantedUnit y) None) e refl; text = refl }
+
+  pub no_period : (t : FrameValue) → period_wanted k ≡ None → AddsPeriod f keys ls k t t
+  no_period t e = record { test = None; is = none_wanted (period_wanted k) None (λ p. IsTest f keys period_written (WantedPeriod p (side_written period_written)) None) e refl; text = refl }
+
+  pub a_unit : (y : ValueType) (o : Option Written) (old new : FrameValue) → unit_wanted k ≡ Some y → o ≡ unit_written → AddsTest f keys o (WantedUnit y) old new → AddsUnit f keys ls k old new
+  a_unit y o old new e is h = record {
+    test = h.test;
+    is = some_wanted (unit_wanted k) y (h.test ≡ None) (λ z. IsTest f keys unit_written (WantedUnit z) h.test) e (subst (λ q. IsTest f keys q (WantedUnit y) h.test) is h.is);
+    text = h.text;
+  }
+
+  pub a_period : (p : PeriodType) (s : Side) (o : Option Written) (old new : FrameValue) → period_wanted k ≡ Some p → o ≡ period_written → s ≡ side_written o → AddsTest f keys o (WantedPeriod p s) old new
+      → AddsPeriod f keys ls k old new
+  a_period p s o old new e is side h = record {
+    test = h.test;
+    is = some_wanted (period_wanted k) p (h.test ≡ None) (λ q. IsTest f keys period_written (WantedPeriod q (side_written period_written)) h.test) e
+        (subst (λ q. IsTest f keys q (WantedPeriod p (side_written q)) h.test) is (subst (λ d. IsTest f keys o (WantedPeriod p d) h.test) side h.is));
+    text = h.text;
+  }
+
 -- A concept's kind that was given, or is the same in each row, is the text's.
-pub kind_made : (f : TableHeaderValue) (ls : List Level) (n : ℕ) (k c : Kind) → k ≡ c → (n ≡ kind_code (Some c)) ⊎ HasConstantKind f ls c → (n ≡ kind_code (Some k)) ⊎ HasConstantKind f ls k
-kind_made f ls n k c e h = subst (λ (q : Kind). (n ≡ kind_code (Some q)) ⊎ HasConstantKind f ls q) (sym e) h
+pub kind_made : (f : TableHeaderValue) (ls : List Level) (n : Option Kind) (k c : Kind) → k ≡ c → (n ≡ Some c) ⊎ HasConstantKind f ls c → (n ≡ Some k) ⊎ HasConstantKind f ls k
+kind_made f ls n k c e h = subst (λ (q : Kind). (n ≡ Some q) ⊎ HasConstantKind f ls q) (sym e) h
 
 -- THE CONCEPT
 
@@ -168,15 +228,15 @@ pub constant_made : (f : TableHeaderValue) (keys : List Key) (ls : List Level) (
 constant_made f keys ls p w k n e is v there =
     let written_same : p.written.now ≡ w = ap (λ (q : List ℕ × Written). q.1) e in
     let same : source_written f p.written.now ≡ None = subst (λ (o : Option Kind). IfSome o (λ q. source_written f p.written.now ≡ None)) v is.same in
-    let kind : concept_read f.report (constant_meaning f p.written.now) ≡ Ok k = subst (λ (o : Option Kind). IfSome o (λ q. concept_read f.report (constant_meaning f p.written.now) ≡ Ok q)) v is.concept in
+    let kind : kind_read f.report (constant_meaning f p.written.now) ≡ Some k = subst (λ (o : Option Kind). IfSome o (λ q. kind_read f.report (constant_meaning f p.written.now) ≡ Some q)) v is.concept in
     record {
       concept = w;
       written = there;
       same = ap (source_written f) (sym written_same) ∙ same;
-      kind = ap (λ (q : Written). concept_read f.report (constant_meaning f q)) (sym written_same) ∙ kind;
+      kind = ap (λ (q : Written). kind_read f.report (constant_meaning f q)) (sym written_same) ∙ kind;
     }
 
-pub concept_made : (f : TableHeaderValue) (keys : List Key) (ls : List Level) (p : FramePart) (w : Written) (n : ℕ) (v : Concept) → entry_of p ≡ (codes "concept", w) → IsPart f keys p → SaysConcept p v
+pub concept_made : (f : TableHeaderValue) (keys : List Key) (ls : List Level) (p : FramePart) (w : Written) (n : Option Kind) (v : Concept) → entry_of p ≡ (codes "concept", w) → IsPart f keys p → SaysConcept p v
     → written ls (codes "concept") ≡ Some w → IsConcept f keys ls n v
 concept_made f keys ls p w n (concept.Constant k) e is says there = inr (constant_made f keys ls p w k (codes "concept") e is says there)
 concept_made f keys ls p w n (concept.Reference i) e is says there = referred_made f keys ls p w i e is says there
@@ -184,7 +244,7 @@ concept_made f keys ls p w n concept.Unknown e is says there = tt
 
 -- THE BODY
 
-pub body_made : (f : TableHeaderValue) (keys : List Key) (c : ℕ) (os : List Choice) (n : ℕ) (k : Kind) (o : Option FrameValue) (b : FrameBody) → IfSome o (λ t. (t.kind ≡ k) × IsTextOf f keys (levels_chosen f c os) (column_lead f c) t)
-    → (n ≡ kind_code (Some k)) ⊎ HasConstantKind f (levels_chosen f c os) k → IsBodyOf o b → IsBody f keys c os n b
+pub body_made : (f : TableHeaderValue) (keys : List Key) (c : ℕ) (os : List Choice) (n : Option Kind) (k : Kind) (o : Option FrameValue) (b : FrameBody) → IfSome o (λ t. (t.kind ≡ k) × IsTextOf f keys (levels_chosen f c os) (column_lead f c) t)
+    → (n ≡ Some k) ⊎ HasConstantKind f (levels_chosen f c os) k → IsBodyOf o b → IsBody f keys c os n b
 body_made f keys c os n k None b h by is = subst (IsBody f keys c os n) (sym is) tt
 body_made f keys c os n k (Some t) b h by is = subst (IsBody f keys c os n) (sym is) (h.1, kind_made f (levels_chosen f c os) n t.kind k h.0 by)

@@ -52,6 +52,7 @@ module _ (c : Cell) (k : Kind) (n : List ℕ) where
   no_entry false role.Language = refl
   no_entry false role.Explicit = refl
   no_entry false role.Typed = refl
+  no_entry false (role.TypedBy y) = refl
 
   abbrev entry_by : Option Written → Option (Option (List ℕ))
   entry_by o = cond (is_dropped k (role_of c.report n)) None (entry_given c.report (role_of c.report n) (option_map_or side_of o side.Whole) (option_map_or (value c) o m.Absent))

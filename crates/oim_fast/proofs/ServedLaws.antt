@@ -1,27 +1,25 @@
 -- The frame of a column that is found or made in a row has the text of the column's facts.
-use Rattle.std.proofs.Common.{◌≡◌, ◌<◌, ◌^◌, zero, suc, arith, ℕ, List, [], ◌∷◌, length, map, get_or, codes, Option, Some, None, Ok, IfSome, refl, sym, ap, subst, ◌∙◌, inl, inr, true}
-use Rattle.std.specs.Prelude.{IsSomeAnd, slice_index_or}
+use Rattle.std.proofs.Common.{◌≡◌, ◌<◌, ◌^◌, zero, suc, arith, ℕ, List, [], ◌∷◌, length, map, get_or, codes, Option, Some, None, IfSome, refl, sym, ap, subst, ◌∙◌, inl, inr, true}
+use Rattle.std.specs.Prelude.{IsSomeAnd}
 use Rattle.std.specs.List.{All, slice_get}
 use Rattle.std.specs.Option.{option_and_then, option_map_or}
 use Rattle.std.proofs.lemmas.Option.{slice_get_read}
 use Rattle.oim_cells.specs.Cells.{meaning_of}
 use Rattle.oim_cells.specs.Cells as m
-use Rattle.oim_cells.specs.declared.cells.NumberKind.TheVariants as number
 use Rattle.oim_report.specs.ReportValue.{ReportValue}
 use Rattle.oim_report.specs.declared.data.Level.{Level}
 use Rattle.oim_report.specs.declared.data.Written.{Written}
 use Rattle.oim_report.specs.declared.kind.Kind.{Kind}
-use Rattle.oim_report.specs.declared.kind.Kind.TheVariants as kind
-use Rattle.oim_resolve.specs.Facts.{concept_read, given}
+use Rattle.oim_resolve.specs.Facts.{given}
 use Rattle.oim_resolve.specs.Values.{value}
 use Rattle.oim_resolve.specs.Written.{levels, written}
-use Rattle.oim_row.specs.Answers.{IsAnswer}
+use Rattle.oim_row.specs.Answers.{IsAnswer, kind_read}
 use Rattle.oim_fast.specs.state.Columns.{IsFactColumn}
 use Rattle.oim_fast.specs.state.Frames.{Chooses, HasConstantKind, HasReferredKind, is_known_choice, levels_chosen}
 use Rattle.oim_fast.specs.state.FrameTexts.{FrameValue}
 use Rattle.oim_row.specs.Groups.{IsGroupCell, IsSaid}
 use Rattle.oim_fast.specs.state.ChosenGroups.{choices_in}
-use Rattle.oim_fast.specs.state.KeptFrames.{IsBody, IsFor, IsFrame, IsKnownFor, IsOfConcept, IsTextFor, kind_code, text_of}
+use Rattle.oim_fast.specs.state.KeptFrames.{IsBody, IsFor, IsFrame, IsKnownFor, IsOfConcept, IsTextFor, text_of}
 use Rattle.oim_row.specs.References.{IsFresh, Key, ReferenceValue, key_of, meaning_at_hand}
 use Rattle.oim_row.specs.Rows.{RowValue, column_in}
 use Rattle.oim_row.specs.state.Rows.{cell_in}
@@ -38,33 +36,6 @@ use Rattle.oim_fast.proofs.FrameLaws.{levels_are}
 use Rattle.oim_fast.proofs.PieceLaws.{all_at, found}
 use Rattle.oim_fast.proofs.RowLaws.{value_constant, value_referred}
 
--- NO TWO KINDS HAVE THE SAME NUMBER
-
-kinds : List (Option Kind)
-kinds =
-    None ∷ Some (kind.Number number.Integer) ∷ Some (kind.Number number.Decimal) ∷ Some (kind.Number number.Double) ∷ Some kind.Text ∷ Some kind.Boolean ∷ Some kind.Date
-    ∷ Some kind.Name ∷ Some kind.Explicit ∷ Some kind.Typed ∷ Some kind.Other ∷ []
-
-kind_at : ℕ → Option Kind
-kind_at n = slice_index_or kinds n None
-
-of_code : (o : Option Kind) → kind_at (kind_code o) ≡ o
-unfolding kind_at kinds
-of_code None = refl
-of_code (Some (kind.Number number.Integer)) = refl
-of_code (Some (kind.Number number.Decimal)) = refl
-of_code (Some (kind.Number number.Double)) = refl
-of_code (Some kind.Text) = refl
-of_code (Some kind.Boolean) = refl
-of_code (Some kind.Date) = refl
-of_code (Some kind.Name) = refl
-of_code (Some kind.Explicit) = refl
-of_code (Some kind.Typed) = refl
-of_code (Some kind.Other) = refl
-
-pub same_kind : (a b : Option Kind) → kind_code a ≡ kind_code b → a ≡ b
-same_kind a b e = sym (of_code a) ∙ ap kind_at e ∙ of_code b
-
 -- THE CONCEPT
 
 module _ (x : RowValue) (c : ℕ) where
@@ -72,28 +43,28 @@ module _ (x : RowValue) (c : ℕ) where
   given_is ls w e is =
       ap (λ (q : List Level). option_map_or (value (cell_in x c)) (written q (codes "concept")) m.Absent) e ∙ ap (λ o. option_map_or (value (cell_in x c)) o m.Absent) is
 
-  constant_read : (ls : List Level) (k : Kind) → levels (cell_in x c) ≡ ls → HasConstantKind x.header ls k → concept_read x.header.report (given (cell_in x c) (codes "concept")) ≡ Ok k
-  constant_read ls k e h = ap (concept_read x.header.report) (given_is ls h.concept e h.written ∙ value_constant x c h.concept h.same) ∙ h.kind
+  constant_read : (ls : List Level) (k : Kind) → levels (cell_in x c) ≡ ls → HasConstantKind x.header ls k → kind_read x.header.report (given (cell_in x c) (codes "concept")) ≡ Some k
+  constant_read ls k e h = ap (kind_read x.header.report) (given_is ls h.concept e h.written ∙ value_constant x c h.concept h.same) ∙ h.kind
 
   -- The kind that a reference answers is that of the concept.
   pub referred_read : (rs : List ReferenceValue) (i : ℕ) (a : Answer) (k : Kind) → x.number < 2 ^ 32 → All (IsFresh x) rs → HasReferredKind x.header (map key_of rs) (levels (cell_in x c)) i
-      → IfSome (slice_get rs i) (λ r. IsAnswer r.report r.key.purpose (meaning_at_hand r) a) → a.kind ≡ Some k → concept_read x.header.report (given (cell_in x c) (codes "concept")) ≡ Ok k
+      → IfSome (slice_get rs i) (λ r. IsAnswer r.report r.key.purpose (meaning_at_hand r) a) → a.kind ≡ Some k → kind_read x.header.report (given (cell_in x c) (codes "concept")) ≡ Some k
   referred_read rs i a k few fresh h answer e =
       let at = found key_of rs i _ h.referred.there in
       let r : ReferenceValue = at.0 in
       let so : IsFresh x r = all_at (IsFresh x) rs i r fresh at.1 in
       let said : IsAnswer r.report r.key.purpose (meaning_at_hand r) a = subst (λ (o : Option ReferenceValue). IfSome o (λ q. IsAnswer q.report q.key.purpose (meaning_at_hand q) a)) at.1 answer in
-      let read : concept_read r.report (meaning_of r.text) ≡ Ok k = subst (λ (o : Option Kind). IfSome o (λ q. concept_read r.report (meaning_of r.text) ≡ Ok q)) e said.concept in
+      let read : kind_read r.report (meaning_of r.text) ≡ Some k = subst (λ (o : Option Kind). IfSome o (λ q. kind_read r.report (meaning_of r.text) ≡ Some q)) e said.concept in
       let text : r.text ≡ source_text x h.referred.source = so.text ∙ ap (λ (q : Key). source_text x q.source) at.2 in
-      ap (concept_read x.header.report) (given_is (levels (cell_in x c)) h.concept refl h.written ∙ value_referred x c h.concept h.referred.source few h.referred.written)
-      ∙ ap (λ (q : ReportValue). concept_read q (meaning_of (source_text x h.referred.source))) (sym so.report)
-      ∙ ap (λ (t : List ℕ). concept_read r.report (meaning_of t)) (sym text)
+      ap (kind_read x.header.report) (given_is (levels (cell_in x c)) h.concept refl h.written ∙ value_referred x c h.concept h.referred.source few h.referred.written)
+      ∙ ap (λ (q : ReportValue). kind_read q (meaning_of (source_text x h.referred.source))) (sym so.report)
+      ∙ ap (λ (t : List ℕ). kind_read r.report (meaning_of t)) (sym text)
       ∙ read
 
   -- THE TEXT
 
-  pub served_body : (keys : List Key) (os : List Choice) (n : ℕ) (b : FrameBody) → levels (cell_in x c) ≡ levels_chosen x.header c os → Chooses x (column_in x.header c).from os → IsBody x.header keys c os n b
-      → ((k : Kind) → n ≡ kind_code (Some k) → concept_read x.header.report (given (cell_in x c) (codes "concept")) ≡ Ok k) → IfSome (text_of b) (IsTextFor x keys c)
+  pub served_body : (keys : List Key) (os : List Choice) (n : Option Kind) (b : FrameBody) → levels (cell_in x c) ≡ levels_chosen x.header c os → Chooses x (column_in x.header c).from os → IsBody x.header keys c os n b
+      → ((k : Kind) → n ≡ Some k → kind_read x.header.report (given (cell_in x c) (codes "concept")) ≡ Some k) → IfSome (text_of b) (IsTextFor x keys c)
   served_body keys os n (body.Text t) is chosen h by = record {
     choices = os;
     chosen = chosen;
@@ -124,20 +95,20 @@ module _ (x : RowValue) (cells : List GroupCell) (c : FactColumn) (column : IsFa
         (subst (λ (q : ℕ). HasReferredKind x.header keys (levels_chosen x.header q v.choices.items) i) is.column here))
 
     served_one : (keys : List Key) (k : Option Kind) (v : Frame) → IsFor cells c k v → IsFrame x.header keys v
-        → ((q : Kind) → kind_code k ≡ kind_code (Some q) → concept_read x.header.report (given (cell_in x c.column) (codes "concept")) ≡ Ok q) → IfSome (text_of v.body) (IsTextFor x keys c.column)
+        → ((q : Kind) → k ≡ Some q → kind_read x.header.report (given (cell_in x c.column) (codes "concept")) ≡ Some q) → IfSome (text_of v.body) (IsTextFor x keys c.column)
     served_one keys k v is frame by =
-        let here : IsBody x.header keys c.column (choices_in cells c.groups.items) (kind_code k) v.body =
-        subst (λ (n : ℕ). IsBody x.header keys c.column (choices_in cells c.groups.items) n v.body) is.kind
+        let here : IsBody x.header keys c.column (choices_in cells c.groups.items) k v.body =
+        subst (λ (n : Option Kind). IsBody x.header keys c.column (choices_in cells c.groups.items) n v.body) is.kind
         (subst (λ (os : List Choice). IsBody x.header keys c.column os v.kind v.body) is.choices
         (subst (λ (q : ℕ). IsBody x.header keys q v.choices.items v.kind v.body) is.column frame)) in
-        served_body x c.column keys (choices_in cells c.groups.items) (kind_code k) v.body levels_found chosen here by
+        served_body x c.column keys (choices_in cells c.groups.items) k v.body levels_found chosen here by
 
     -- A frame whose concept is the same in each row.
     pub served_first : (keys : List Key) (vs : List Frame) (place : ℕ) (v : Frame) → slice_get vs place ≡ Some v → IsFor cells c None v → All (IsFrame x.header keys) vs
         → IfSome (option_and_then (λ (q : Frame). text_of q.body) (slice_get vs place)) (IsTextFor x keys c.column)
     served_first keys vs place v e is frames =
         subst (λ (o : Option Frame). IfSome (option_and_then (λ (q : Frame). text_of q.body) o) (IsTextFor x keys c.column)) (sym e)
-        (served_one keys None v is (all_at (IsFrame x.header keys) vs place v frames e) (λ q same. let no : None ≡ Some q = same_kind None (Some q) same in absurd (cc)))
+        (served_one keys None v is (all_at (IsFrame x.header keys) vs place v frames e) (λ q same. absurd (cc same)))
 
     -- A frame for the kind of the row's concept.
     served_kind : (keys : List Key) (vs : List Frame) (place : ℕ) (o : Option Frame) → slice_get vs place ≡ o → IsSomeAnd o (IsOfConcept x cells c) → All (IsFrame x.header keys) vs
@@ -145,7 +116,7 @@ module _ (x : RowValue) (cells : List GroupCell) (c : FactColumn) (column : IsFa
     served_kind keys vs place None e h frames = absurd h
     served_kind keys vs place (Some v) e h frames =
         served_one keys (Some h.kind) v h.is (all_at (IsFrame x.header keys) vs place v frames e)
-        (λ q same. let kinds_same : Some h.kind ≡ Some q = same_kind (Some h.kind) (Some q) same in let it : h.kind ≡ q = cc in h.concept ∙ ap Ok it)
+        (λ q same. h.concept ∙ same)
 
     pub served_concept : (keys : List Key) (vs : List Frame) (place : ℕ) → IsSomeAnd (slice_get vs place) (IsOfConcept x cells c) → All (IsFrame x.header keys) vs
         → IfSome (option_and_then (λ (q : Frame). text_of q.body) (slice_get vs place)) (IsTextFor x keys c.column)

@@ -1,9 +1,9 @@
 -- A cell has no fault in its groups, its concept, its dimensions and its decimals, if its frame is
 -- known and no reference of the frame has a fault.
-use Rattle.std.proofs.Common.{◌≡◌, ◌<◌, ◌^◌, ℕ, zero, suc, Bool, true, false, cond, ◌||◌, List, [], ◌∷◌, ◌++◌, length, map, Option, Some, None, Ok, is_ok, refl, sym, ap, subst, ◌∙◌, arith}
+use Rattle.std.proofs.Common.{◌≡◌, ◌<◌, ◌^◌, ℕ, zero, suc, Bool, true, false, cond, not, ◌||◌, List, [], ◌∷◌, ◌++◌, length, map, codes, Option, Some, None, Ok, is_ok, refl, sym, ap, subst, ◌∙◌, arith}
 use Rattle.std.specs.List.{All, flat_map, list_any, slice_get}
 use Rattle.std.specs.Option.{option_and_then, option_map_or}
-use Rattle.std.specs.Prelude.{if◌then◌else◌}
+use Rattle.std.specs.Prelude.{MatchOption, if◌then◌else◌}
 use Rattle.oim_cells.specs.Cells.{Meaning, meaning_of}
 use Rattle.oim_cells.specs.Cells as m
 use Rattle.oim_json.specs.JsonText.{decimals_text}
@@ -14,19 +14,24 @@ use Rattle.oim_report.specs.declared.data.Side.TheVariants as side
 use Rattle.oim_report.specs.declared.data.Written.{Written}
 use Rattle.oim_report.specs.declared.data.WrittenDecimals.{WrittenDecimals}
 use Rattle.oim_report.specs.declared.kind.Kind.{Kind}
+use Rattle.oim_report.specs.declared.kind.Kind.TheVariants as kind
+use Rattle.oim_report.specs.declared.kind.PeriodType.{PeriodType}
+use Rattle.oim_report.specs.declared.kind.ValueType.{ValueType}
+use Rattle.oim_report.specs.declared.kind.ValueType.TheVariants as item
 use Rattle.oim_resolve.specs.Cell.{Cell, meaning_at}
-use Rattle.oim_resolve.specs.Facts.{dimension_faults, entry_given, is_dropped, is_unknown, names_no_group, places, role_of, stated_accuracy, stated_by, stated_faults, stated_read, value_faults_of, value_read}
-use Rattle.oim_resolve.specs.Faults.{least, unless}
+use Rattle.oim_resolve.specs.Facts.{dimension_faults, entry_given, is_dropped, is_unknown, lacks_period, lacks_unit, names_no_group, places, role_of, stated_accuracy, stated_by, stated_faults, stated_read, value_faults_of, value_read, wanted_faults}
+use Rattle.oim_resolve.specs.Faults.{fault_if, least, unless}
 use Rattle.oim_resolve.specs.Values.{Read, Stated, side_of, value}
 use Rattle.oim_resolve.specs.Written.{levels, written}
 use Rattle.oim_resolve.specs.declared.fact.CellFault.{CellFault}
+use Rattle.oim_resolve.specs.declared.fact.CellFault.TheVariants.{BadUnit, WrongPeriod}
 use Rattle.oim_resolve.specs.declared.role.Role.{Role}
 use Rattle.oim_resolve.specs.declared.role.Role.TheVariants as role
 use Rattle.oim_rows.specs.RowFacts.{field_or_empty, source_of_column}
-use Rattle.oim_row.specs.Answers.{is_sound_for}
+use Rattle.oim_row.specs.Answers.{is_sound_for, kind_in}
 use Rattle.oim_fast.specs.state.FactTexts.{frame_decimals, has_decimals}
 use Rattle.oim_fast.specs.state.FrameTexts.{FrameValue, Segment, is_known, is_ready, with_part, with_value}
-use Rattle.oim_fast.specs.state.Frames.{AreFrameDecimals, Chooses, are_ready, entry_of, is_known_choice, with_parts}
+use Rattle.oim_fast.specs.state.Frames.{AreFrameDecimals, Chooses, IsPeriodTest, IsTest, IsUnitTest, are_ready, entry_of, is_known_choice, side_written, unit_type, with_parts, with_test}
 use Rattle.oim_row.specs.Groups.{Names, Says}
 use Rattle.oim_fast.specs.state.FrameParts.{IsPart, IsPartValue}
 use Rattle.oim_fast.specs.state.Pieces.{AreSound, constant_stated, is_sound_dimension}
@@ -43,6 +48,8 @@ use Rattle.oim_fast.specs.declared.frame.part.PartValue.{PartValue}
 use Rattle.oim_fast.specs.declared.frame.part.PartValue.TheVariants as part
 use Rattle.oim_row.specs.declared.group_cells.Choice.{Choice}
 use Rattle.oim_row.specs.declared.group_cells.Choice.TheVariants as choice
+use Rattle.oim_row.specs.declared.purpose.Purpose.{Purpose}
+use Rattle.oim_row.specs.declared.purpose.Purpose.TheVariants.{WantedPeriod, WantedUnit}
 use Rattle.oim_fast.proofs.FrameLaws.{kind_kept}
 use Rattle.oim_fast.proofs.PieceLaws.{all_at, found, given_at}
 use Rattle.oim_fast.proofs.RowLaws.{stated_constant, stated_referred, text_is, value_constant, value_referred}
@@ -62,6 +69,26 @@ read_sound r o s v e = none_least (value_faults_of r o s v) (no_least (least (va
 
 stated_sound : (s : Stated) → is_ok (stated_read s) ≡ true → stated_faults s ≡ []
 stated_sound s e = none_least (stated_faults s) (no_least (least (stated_faults s)) (stated_accuracy s) e)
+
+-- THE CONCEPT
+
+-- A concept's value has no fault and this kind.
+pub record IsRead (o : Option CellFault) (k j : Kind) : Type 0 where
+  pub none : o ≡ None
+  pub kind : j ≡ k
+
+pub concept_sound : (o : Option CellFault) (k j : Kind) → kind_in (unless o (Ok k)) ≡ Some j → IsRead o k j
+concept_sound (Some f) k j e = absurd (cc e)
+concept_sound None k j e = record { none = refl; kind = cc e }
+
+not_true : (b : Bool) → not b ≡ true → b ≡ false
+not_true false e = refl
+not_true true e = absurd (cc e)
+
+no_wanted : (a b : Bool) → a ≡ false → b ≡ false → fault_if BadUnit a ++ fault_if WrongPeriod b ≡ []
+no_wanted false false p q = refl
+no_wanted true b p q = absurd (cc p)
+no_wanted false true p q = absurd (cc q)
 
 -- GROUPS
 
@@ -106,6 +133,7 @@ module _ (c : Cell) (k : Kind) (n : List ℕ) where
   no_faults false role.Language = refl
   no_faults false role.Explicit = refl
   no_faults false role.Typed = refl
+  no_faults false (role.TypedBy y) = refl
 
   abbrev faults_by : Option Written → List CellFault
   faults_by o = cond (is_dropped k (role_of c.report n)) [] (value_faults_of c.report (role_of c.report n) (option_map_or side_of o side.Whole) (option_map_or (value c) o m.Absent))
@@ -216,6 +244,61 @@ module _ (x : RowValue) (c : ℕ) (few : x.number < 2 ^ 32) (rs : List Reference
       let more = parts_sound (with_part t p) ps (λ k e b. are (suc k) e (omega arith)) ready.1 h in
       let kept : AreSound (cell_in x c) t.kind (map entry_of ps) = subst (λ (k : Kind). AreSound (cell_in x c) k (map entry_of ps)) (kind_kept t p) more in
       kept i d (omega arith)
+
+  -- THE UNIT AND THE PERIOD
+
+  pub test_kept : (t : FrameValue) (test : Option ℕ) → All IsSoundSegment (with_test t test).segments → All IsSoundSegment t.segments
+  test_kept t None h = h
+  test_kept t (Some i) h = all_front IsSoundSegment t.segments _ h
+
+  abbrev row_gives : Option Written → Meaning
+  row_gives o = option_map_or (value (cell_in x c)) o m.Absent
+
+  -- What was tested has no fault in the row.
+  test_sound : (o : Option Written) (p : Purpose) (t : FrameValue) (test : Option ℕ) → IsTest x.header (map key_of rs) o p test → All IsSoundSegment (with_test t test).segments
+      → is_sound_for x.header.report p (row_gives o) ≡ true
+  test_sound None p t None (same, sound) h = sound
+  test_sound (Some w) p t None (same, sound) h = ap (is_sound_for x.header.report p) (value_constant x c w same) ∙ sound
+  test_sound None p t (Some i) (source, is, at) h = absurd (cc is)
+  test_sound (Some w) p t (Some i) (source, is, at) h =
+      ap (is_sound_for x.header.report p) (value_referred x c w source few is) ∙ sym (sound_at i _ at) ∙ last_of IsSoundSegment t.segments (record { alone = t.rest; name = []; reference = i }) h
+
+  unit_sound : (y : ValueType) (o : Option Written) (t : FrameValue) (test : Option ℕ)
+      → MatchOption (unit_type y) (test ≡ None) (λ z. IsTest x.header (map key_of rs) o (WantedUnit z) test) → All IsSoundSegment (with_test t test).segments
+      → lacks_unit x.header.report y (row_gives o) ≡ false
+  unit_sound (item.Simple s) o t test h all = refl
+  unit_sound item.Monetary o t test h all = not_true (lacks_unit x.header.report item.Monetary (row_gives o)) (test_sound o (WantedUnit item.Monetary) t test h all)
+  unit_sound item.Shares o t test h all = not_true (lacks_unit x.header.report item.Shares (row_gives o)) (test_sound o (WantedUnit item.Shares) t test h all)
+  unit_sound item.Text o t test h all = refl
+  unit_sound item.Enumeration o t test h all = refl
+  unit_sound item.Enumerations o t test h all = refl
+  unit_sound item.Other o t test h all = refl
+
+  period_sound : (wanted : Option PeriodType) (o : Option Written) (t : FrameValue) (test : Option ℕ)
+      → MatchOption wanted (test ≡ None) (λ p. IsTest x.header (map key_of rs) o (WantedPeriod p (side_written o)) test) → All IsSoundSegment (with_test t test).segments
+      → option_map_or (λ p. lacks_period p (side_written o) (row_gives o)) wanted false ≡ false
+  period_sound None o t test h all = refl
+  period_sound (Some p) o t test h all = not_true (lacks_period p (side_written o) (row_gives o)) (test_sound o (WantedPeriod p (side_written o)) t test h all)
+
+  -- The unit and the period are those that the concept wants.
+  pub nothing_wanted : (k : Kind) (t : FrameValue) (unit period : Option ℕ) → IsUnitTest x.header (map key_of rs) (levels (cell_in x c)) k unit
+      → IsPeriodTest x.header (map key_of rs) (levels (cell_in x c)) k period → All IsSoundSegment (with_test (with_test t unit) period).segments → wanted_faults (cell_in x c) k ≡ []
+  nothing_wanted (kind.Concept a) t unit period u p all =
+      let of_unit = written (levels (cell_in x c)) (codes "unit") in
+      let of_period = written (levels (cell_in x c)) (codes "period") in
+      no_wanted (lacks_unit x.header.report a.value (row_gives of_unit)) (option_map_or (λ p. lacks_period p (side_written of_period) (row_gives of_period)) a.period false)
+      (unit_sound a.value of_unit t unit u (test_kept (with_test t unit) period all))
+      (period_sound a.period of_period (with_test t unit) period p all)
+  nothing_wanted (kind.Number n) t unit period u p all = refl
+  nothing_wanted kind.Text t unit period u p all = refl
+  nothing_wanted kind.Boolean t unit period u p all = refl
+  nothing_wanted kind.Date t unit period u p all = refl
+  nothing_wanted kind.Name t unit period u p all = refl
+  nothing_wanted kind.Other t unit period u p all = refl
+  nothing_wanted kind.Explicit t unit period u p all = refl
+  nothing_wanted kind.Typed t unit period u p all = refl
+  nothing_wanted (kind.TypedBy s) t unit period u p all = refl
+  nothing_wanted kind.Member t unit period u p all = refl
 
   -- DECIMALS
 

@@ -1,5 +1,5 @@
 -- What the cell of a fact gives, by the kind of its concept.
-use Rattle.std.proofs.Common.{◌≡◌, ◌<◌, ◌≤◌, ℕ, zero, suc, Bool, true, false, inl, inr, List, [], ◌∷◌, ◌++◌, length, take, get_or, Option, Some, None, Ok, codes, is_none, refl, sym, ap, subst, ◌∙◌, arith, take-take, length-take-le, length-append}
+use Rattle.std.proofs.Common.{◌≡◌, ◌<◌, ◌≤◌, ℕ, zero, suc, Bool, true, false, inl, inr, List, [], ◌∷◌, ◌++◌, length, take, get_or, Option, Some, None, IfSome, Result, Ok, Err, codes, is_none, refl, sym, ap, subst, ◌∙◌, arith, take-take, length-take-le, length-append}
 use Rattle.std.specs.Prelude.{if◌then◌else◌}
 use Rattle.std.specs.Char.{digit_value}
 use Rattle.std.specs.Str.Parse.{without_leading_sign}
@@ -15,10 +15,20 @@ use Rattle.oim_cells.proofs.Values.{numeral_law}
 use Rattle.oim_report.specs.ReportValue.{ReportValue}
 use Rattle.oim_report.specs.declared.kind.Kind.{Kind}
 use Rattle.oim_report.specs.declared.kind.Kind.TheVariants as kind
-use Rattle.oim_resolve.specs.FactValues.{ValueParts, in_form, numeral_given, plain, text_given, value_given}
+use Rattle.oim_report.specs.declared.kind.SimpleType.{SimpleType}
+use Rattle.oim_report.specs.declared.kind.SimpleType.TheVariants as simple
+use Rattle.oim_report.specs.declared.kind.ValueType.{ValueType}
+use Rattle.oim_report.specs.declared.kind.ValueType.TheVariants as item
+use Rattle.oim_resolve.specs.FactValues.{ValueParts, bounded_given, in_form, numeral_given, plain, set_given, set_read, simple_given, text_given, typed_given, value_given}
+use Rattle.oim_resolve.specs.declared.fact.CellFault.{CellFault}
+use Rattle.oim_resolve.specs.declared.fact.CellFault.TheVariants.{BadFactValue, BadNumber, UnknownMember}
 use Rattle.oim_resolve.specs.Facts.{is_absent, is_nil, is_unknown}
 use Rattle.oim_fast.specs.state.CellValues.{IsValue}
 use Rattle.oim_fast.specs.declared.frame.value.Value.{Value}
+use Rattle.oim_fast.specs.state.ValueForms.{form_of}
+use Rattle.oim_fast.specs.declared.frame.value_form.ValueForm.{ValueForm}
+use Rattle.oim_fast.specs.declared.frame.value_form.ValueForm.TheVariants as form
+use Rattle.oim_fast.proofs.ValueFormLaws.{form_numeral}
 use Rattle.oim_row.proofs.Texts.{plain_meaning}
 
 -- A NUMERAL DOES NOT BEGIN WITH `#`
@@ -101,13 +111,13 @@ text_value r k cell x begins within some given =
     }
 
 -- A number's cell that is split.
-pub number_value : (r : ReportValue) (n : NumberKind) (cell : List ℕ) (x : Value) → take (length cell) x.bytes.now ≡ cell → length cell ≤ length x.bytes.now → x.is_nil ≡ false
-    → x.len ≤ length cell → IsSplit n (trimmed cell) (take x.len cell) x.accuracy → IsValue r (kind.Number n) (meaning_of cell) x
-number_value r n cell x same within some few split =
+pub number_value : (r : ReportValue) (k : Kind) (n : NumberKind) (cell : List ℕ) (x : Value) → form_of k ≡ form.Number n → take (length cell) x.bytes.now ≡ cell → length cell ≤ length x.bytes.now → x.is_nil ≡ false
+    → x.len ≤ length cell → IsSplit n (trimmed cell) (take x.len cell) x.accuracy → IsValue r k (meaning_of cell) x
+number_value r k n cell x read same within some few split =
     let front : take x.len x.bytes.now ≡ take x.len cell = sym (take-take x.len (length cell) x.bytes.now few) ∙ ap (take x.len) same in
-    text_value r (kind.Number n) cell x (front_begins cell x.len (numeral_begins n (take x.len cell) (split_numeral n (trimmed cell) (take x.len cell) x.accuracy split)))
+    text_value r k cell x (front_begins cell x.len (numeral_begins n (take x.len cell) (split_numeral n (trimmed cell) (take x.len cell) x.accuracy split)))
     (omega (arith, within, few)) some
-    (ap numeral_given ((numeral_law n cell (take x.len cell) x.accuracy).1 split) ∙ ap (λ t. Ok (record { text = Some t; accuracy = x.accuracy })) (sym front))
+    (form_numeral r k n cell read ∙ ap numeral_given ((numeral_law n cell (take x.len cell) x.accuracy).1 split) ∙ ap (λ t. Ok (record { text = Some t; accuracy = x.accuracy })) (sym front))
 
 -- The cell of a text as it is written.
 pub plain_value : (r : ReportValue) (k : Kind) (cell : List ℕ) (x : Value) → take x.len x.bytes.now ≡ cell → x.len ≤ length x.bytes.now → x.is_nil ≡ false → x.accuracy ≡ None
@@ -134,6 +144,43 @@ numeral_some : (o : Option (List ℕ × Option Accuracy)) (p : ValueParts) → n
 numeral_some (Some q) p e = let is : (record { text = Some q.0; accuracy = q.1 }) ≡ p = cc e in ap (λ (q : ValueParts). is_none q.text) (sym is)
 numeral_some None p e = absurd (cc e)
 
+bounded_some : (within : Bool) (q : List ℕ × Option Accuracy) (p : ValueParts) → (if within then numeral_given (Some q) else Err BadNumber) ≡ Ok p → is_none p.text ≡ false
+bounded_some true q p e = numeral_some (Some q) p e
+bounded_some false q p e = absurd (cc e)
+
+simple_some : (r : ReportValue) (s : SimpleType) (t : List ℕ) (p : ValueParts) → simple_given r s t ≡ Ok p → is_none p.text ≡ false
+simple_some r (simple.Number n) t p e = numeral_some (numeral_of n t) p e
+simple_some r (simple.Bounded b) t p e = by (numeral_of Integer t) e
+  where
+    by : (o : Option (List ℕ × Option Accuracy)) → bounded_given b o ≡ Ok p → is_none p.text ≡ false
+    by None is = absurd (cc is)
+    by (Some q) is = bounded_some _ q p is
+simple_some r simple.Boolean t p e = form_some _ (trimmed t) p e
+simple_some r simple.QName t p e = form_some _ (trimmed t) p e
+simple_some r (simple.DateTime f) t p e = form_some _ (trimmed t) p e
+simple_some r simple.Duration t p e = form_some _ (trimmed t) p e
+simple_some r simple.Language t p e = form_some _ (trimmed t) p e
+simple_some r simple.NcName t p e = form_some _ (trimmed t) p e
+simple_some r simple.HexBinary t p e = form_some _ (trimmed t) p e
+
+member_some : (named known : Bool) (t : List ℕ) (p : ValueParts) → (if named then (if known then Ok (plain t) else Err UnknownMember) else Err BadFactValue) ≡ Ok p → is_none p.text ≡ false
+member_some true true t p e = form_some true t p e
+member_some true false t p e = absurd (cc e)
+member_some false known t p e = absurd (cc e)
+
+set_some : (o : Result (List ℕ) CellFault) (p : ValueParts) → set_given o ≡ Ok p → is_none p.text ≡ false
+set_some (Ok t) p e = form_some true t p e
+set_some (Err f) p e = absurd (cc e)
+
+typed_some : (r : ReportValue) (y : ValueType) (t : List ℕ) (p : ValueParts) → typed_given r y t ≡ Ok p → is_none p.text ≡ false
+typed_some r (item.Simple s) t p e = simple_some r s t p e
+typed_some r item.Monetary t p e = numeral_some (numeral_of Decimal t) p e
+typed_some r item.Shares t p e = numeral_some (numeral_of Decimal t) p e
+typed_some r item.Text t p e = form_some true t p e
+typed_some r item.Enumeration t p e = member_some _ _ (trimmed t) p e
+typed_some r item.Enumerations t p e = set_some (set_read r t) p e
+typed_some r item.Other t p e = form_some true t p e
+
 text_some : (r : ReportValue) (k : Kind) (t : List ℕ) (p : ValueParts) → text_given r k t ≡ Ok p → is_none p.text ≡ false
 text_some r (kind.Number n) t p e = numeral_some (numeral_of n t) p e
 text_some r kind.Boolean t p e = form_some _ (trimmed t) p e
@@ -143,6 +190,9 @@ text_some r kind.Text t p e = form_some true t p e
 text_some r kind.Other t p e = form_some true t p e
 text_some r kind.Explicit t p e = form_some true t p e
 text_some r kind.Typed t p e = form_some true t p e
+text_some r (kind.TypedBy s) t p e = form_some true t p e
+text_some r kind.Member t p e = form_some true t p e
+text_some r (kind.Concept a) t p e = typed_some r a.value t p e
 
 -- A cell with a known meaning is nil if its value has no text.
 nil_where : (r : ReportValue) (k : Kind) (v : Meaning) (p : ValueParts) → is_absent v ≡ false → is_unknown v ≡ false → value_given r k v ≡ Ok p → is_none p.text ≡ is_nil v
@@ -152,31 +202,28 @@ nil_where r k m.Nil p said known e = let is : (record { text = None; accuracy = 
 nil_where r k m.Empty p said known e = text_some r k [] p e
 nil_where r k (m.Text t) p said known e = text_some r k t p e
 
-text_or_none : (o : Option (List ℕ)) (t : List ℕ) → ((s : List ℕ) → o ≡ Some s → s ≡ t) → o ≡ (if is_none o then None else Some t)
-text_or_none None t h = refl
-text_or_none (Some s) t h = ap Some (h s refl)
-
--- A value that was read, and its text, copied if it has one.
-pub read_value : (r : ReportValue) (k : Kind) (v : Meaning) (p : ValueParts) (x : Value) → value_given r k v ≡ Ok p → is_absent v ≡ false → is_unknown v ≡ false
-    → x.len ≤ length x.bytes.now → x.is_nil ≡ is_none p.text → x.accuracy ≡ p.accuracy → ((s : List ℕ) → p.text ≡ Some s → s ≡ take x.len x.bytes.now) → IsValue r k v x
-read_value r k v p x given said known within nil exact text = record {
+-- A value that was read is the text's, nil or not.
+pub taken_value : (r : ReportValue) (k : Kind) (v : Meaning) (x : Value) → value_given r k v ≡ Ok (record { text = if x.is_nil then None else Some (take x.len x.bytes.now); accuracy = x.accuracy })
+    → is_absent v ≡ false → is_unknown v ≡ false → x.len ≤ length x.bytes.now → IsValue r k v x
+taken_value r k v x given said known within = record {
   within = within;
   said = said;
   known = known;
-  given = given
-      ∙ ap (λ o. Ok (record { text = o; accuracy = p.accuracy })) (text_or_none p.text (take x.len x.bytes.now) text)
-      ∙ ap (λ b. Ok (record { text = if b then None else Some (take x.len x.bytes.now); accuracy = p.accuracy })) (sym nil)
-      ∙ ap (λ a. Ok (record { text = if x.is_nil then None else Some (take x.len x.bytes.now); accuracy = a })) (sym exact);
-  nil = nil ∙ nil_where r k v p said known given;
+  given = given;
+  nil = nil_or x.is_nil (take x.len x.bytes.now) ∙ nil_where r k v _ said known given;
 }
+  where
+    nil_or : (b : Bool) (t : List ℕ) → b ≡ is_none (if b then None else Some t)
+    nil_or true t = refl
+    nil_or false t = refl
 
 -- A number's cell that is split, if the bytes begin with it.
-pub number_found : (r : ReportValue) (n : NumberKind) (cell bytes : List ℕ) (len : ℕ) (x : Value) → take len bytes ≡ cell → len ≤ length bytes → x.bytes.now ≡ bytes → x.is_nil ≡ false
-    → x.len ≤ len → (take (length cell) bytes ≡ cell → length cell ≡ len → IsSplit n (trimmed cell) (take x.len cell) x.accuracy) → IsValue r (kind.Number n) (meaning_of cell) x
-number_found r n cell bytes len x same within is some few split =
+pub number_found : (r : ReportValue) (k : Kind) (n : NumberKind) (cell bytes : List ℕ) (len : ℕ) (x : Value) → form_of k ≡ form.Number n → take len bytes ≡ cell → len ≤ length bytes → x.bytes.now ≡ bytes → x.is_nil ≡ false
+    → x.len ≤ len → (take (length cell) bytes ≡ cell → length cell ≡ len → IsSplit n (trimmed cell) (take x.len cell) x.accuracy) → IsValue r k (meaning_of cell) x
+number_found r k n cell bytes len x read same within is some few split =
     let long : length cell ≡ len = ap length (sym same) ∙ length-take-le len bytes within in
     let whole : take (length cell) bytes ≡ cell = ap (λ k. take k bytes) long ∙ same in
-    number_value r n cell x (ap (take (length cell)) is ∙ whole) (omega (arith, long, within, ap length is)) some (omega (arith, long, few)) (split whole long)
+    number_value r k n cell x read (ap (take (length cell)) is ∙ whole) (omega (arith, long, within, ap length is)) some (omega (arith, long, few)) (split whole long)
 
 -- The cell `#nil`.
 pub nil_value : (r : ReportValue) (k : Kind) (x : Value) → x.is_nil ≡ true → x.accuracy ≡ None → x.len ≡ 0 → IsValue r k (meaning_of (codes "#nil")) x
@@ -190,3 +237,9 @@ nil_value r k x some exact none =
           ∙ ap (λ a. Ok (record { text = if x.is_nil then None else Some (take x.len x.bytes.now); accuracy = a })) (sym exact);
       nil = some;
     })
+
+-- A number that was found, for each kind that is read so.
+pub number_there : (r : ReportValue) (v : Meaning) (by : ValueForm) (n : NumberKind) (o : Option Value) → by ≡ form.Number n
+    → IfSome o (λ x. (q : ReportValue) (k : Kind) → form_of k ≡ form.Number n → IsValue q k v x) → IfSome o (λ x. (k : Kind) → form_of k ≡ by → IsValue r k v x)
+number_there r v by n None e h = tt
+number_there r v by n (Some x) e h = λ k read. h r k (read ∙ e)

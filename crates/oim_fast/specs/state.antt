@@ -2,6 +2,7 @@ pub mod GivenTexts
 pub mod StillHolds
 pub mod ChosenGroups
 pub mod Pieces
+pub mod ValueForms
 pub mod FrameParts
 pub mod FrameTexts
 pub mod Writing

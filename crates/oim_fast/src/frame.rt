@@ -12,5 +12,7 @@ pub(crate) mod frames;
 pub(crate) mod hash_index;
 pub(crate) mod part;
 pub(crate) mod parts;
+pub(crate) mod same_kind;
 pub(crate) mod value;
+pub(crate) mod value_form;
 pub(crate) mod write;

@@ -35,6 +35,7 @@
 mod early_fault;
 mod folder;
 mod steps;
+mod watched;
 
 pub use early_fault::{EarlyFault, Source};
 pub use folder::{Folder, Texts, folder_of};

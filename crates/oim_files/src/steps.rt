@@ -1,9 +1,8 @@
 //! The steps that read a report from its files. Each step reads a file, or fails with the early
 //! fault that names the file and its fault.
 
-ghost use Rattle.std.specs.Prelude.{◌≡◌, ◌≢◌, ◌⊎◌, ◌++◌, [], ◌∷◌, IfErr, IfOk, IfSome, Ok, Some, option_map, string_bytes};
+ghost use Rattle.std.specs.Prelude.{◌≡◌, ◌⊎◌, ◌++◌, [], ◌∷◌, IfErr, IfOk, IfSome, Ok, Some, false, option_map, string_bytes, true};
 ghost use Rattle.std.specs.Option.{option_to_list};
-ghost use Rattle.std.specs.IoError.{error_kind};
 ghost use Rattle.serde_json.specs.View.{view};
 ghost use Rattle.oim_meta.specs.Reading.{Reads};
 ghost use Rattle.oim_files.specs.Metadata.{front_within, profile, report_in as said_in, url_finding, url_place};
@@ -15,14 +14,14 @@ ghost use Rattle.oim_entries.specs.declared.fault.MetaFault.TheVariants as refus
 
 use crate::early_fault::{EarlyFault, Source};
 use crate::folder::Folder;
+use crate::watched::Watched;
 use oim_meta::{
     Finding, Limits, MetaFault, Metadata, Parameters, Refusal, Report, Types, parameter_url,
     read_parameters, read_types,
 };
 use oim_names::{Items, Text};
 use std::alloc::{AllocError, Global};
-use std::io;
-use std::io::{ErrorKind, Read};
+use std::io::Read;
 
 /// Returns the path of a file in the report's folder.
 pub fn path_in(alloc: Global, base: &str, url: &str) -> Result<String, AllocError>
@@ -67,28 +66,31 @@ fn whole(alloc: Global, source: Source, fault: MetaFault) -> EarlyFault
     EarlyFault::Report(source, Finding { fault, place })
 }
 
-/// Returns why the metadata was not read to its end.
-fn unread(alloc: Global, error: io::Error) -> EarlyFault
-    ensures memory { error_kind error ≡ ErrorKind.OutOfMemory → result ≡ early.Memory }
-    ensures read { error_kind error ≢ ErrorKind.OutOfMemory → result ≡ spec.whole source.Report refused.Read }
+/// Returns why the metadata was not read to its end: a read has failed, or memory ran out.
+fn unread(alloc: Global, has_failed: bool) -> EarlyFault
+    ensures read { has_failed ≡ true → result ≡ spec.whole source.Report refused.Read }
+    ensures memory { has_failed ≡ false → result ≡ early.Memory }
     ensures one { IsAmong result (spec.whole source.Report refused.Read ∷ early.Memory ∷ []) }
 {
-    match error.kind() {
-        ErrorKind::OutOfMemory => EarlyFault::Memory,
-        _ => whole(alloc, Source::Report, MetaFault::Read),
+    if has_failed {
+        return whole(alloc, Source::Report, MetaFault::Read);
     }
+    EarlyFault::Memory
 }
 
-/// Reads a metadata, up to one byte past the limit.
-fn bytes_of<R: Read + Drop>(alloc: Global, reader: R) -> Result<Vec<u8>, EarlyFault>
-    ensures bytes { IfSome (R.remaining reader) (λ bytes. IfOk result (λ v. v.items ≡ front_within profile bytes)) }
+/// Reads a metadata, up to one byte past the limit. Fails with Read if a read has failed, and
+/// otherwise with Memory.
+fn bytes_of<R: Read + Drop>(alloc: Global, reader: &mut Watched<R>) -> Result<Vec<u8>, EarlyFault>
+    ensures bytes { IfSome (R.remaining reader.old.reader) (λ bytes. IfOk result (λ v. v.items ≡ front_within profile bytes)) }
     ensures refused { IfErr result (λ e. IsAmong e (spec.whole source.Report refused.Read ∷ early.Memory ∷ [])) }
+    ensures read { IfErr result (λ e. reader.new.has_failed ≡ true → e ≡ spec.whole source.Report refused.Read) }
+    ensures memory { IfErr result (λ e. reader.new.has_failed ≡ false → e ≡ early.Memory) }
 {
     let mut bytes = Vec::new(alloc);
     let most = Limits::profile().metadata as u64 + 1;
-    match reader.take(most).read_to_end(&mut bytes) {
+    match Read::take(&mut *reader, most).read_to_end(&mut bytes) {
         Ok(_) => Ok(bytes),
-        Err(error) => Err(unread(alloc, error)),
+        Err(_) => Err(unread(alloc, reader.has_failed())),
     }
 }
 
@@ -102,7 +104,7 @@ pub fn metadata_at<R: Read + Drop, F: Folder<R>>(
     ensures gives { IfSome (F.files folder.old) (λ files. Takes (metadata_steps files path.now) (λ v. v.items ≡ front_at files path.now) result) }
 {
     match opened(alloc, folder, path) {
-        Ok(reader) => bytes_of(alloc, reader),
+        Ok(reader) => bytes_of(alloc, &mut Watched::new(reader)),
         Err(early) => Err(early),
     }
 }

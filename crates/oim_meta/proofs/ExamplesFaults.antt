@@ -16,7 +16,10 @@ use Rattle.oim_entries.specs.declared.fault.MetaFault.TheVariants.{NotReport, Ba
 use Rattle.oim_entries.specs.declared.fault.MetaFault.TheVariants.{UnknownTemplate, UnknownColumn, BadDimension, BadDecimals, BadParameter, TooLarge, Syntax, BadTypes, Memory, Read}
 use Rattle.oim_report.specs.declared.kind.Kind.{Kind}
 use Rattle.oim_report.specs.declared.typed_name.TypedName.{TypedName}
-use Rattle.oim_report.specs.declared.kind.Kind.TheVariants.{Number, Text, Boolean, Date, Name, Other, Explicit, Typed}
+use Rattle.oim_report.specs.declared.kind.Kind.TheVariants.{Number, Text, Boolean, Date, Name, Other, Explicit, Typed, Concept, TypedBy, Member}
+use Rattle.oim_report.specs.declared.kind.PeriodType.TheVariants.{Instant}
+use Rattle.oim_report.specs.declared.kind.SimpleType.TheVariants as simple
+use Rattle.oim_report.specs.declared.kind.ValueType.TheVariants as value
 use Rattle.oim_report.specs.Types.{TypesValue}
 use Rattle.oim_meta.specs.Written.{strip_front, strip_back, name_and_side}
 use Rattle.oim_names.specs.PlainPath.{is_plain_path}
@@ -238,16 +241,23 @@ prefixes = (codes "p", codes "u") ∷ []
 abbrev typed : List ℕ → Kind → TypedName
 typed local k = record { uri = codes "u"; local = local; kind = k }
 
+-- As the header type3 gives them: a concept, a typed dimension of a simple type, and a member.
+abbrev concept : Kind
+concept = Concept (record { value = value.Monetary; period = Some Instant })
+
+abbrev longer_types : TypesValue
+longer_types = typed (codes "C") concept ∷ typed (codes "B") (TypedBy simple.Boolean) ∷ typed (codes "M") Member ∷ []
+
 abbrev types : TypesValue
-types = typed (codes "E") Explicit ∷ typed (codes "N") (Number Integer) ∷ typed (codes "O") Other ∷ typed (codes "T") Typed ∷ typed (codes "X") Text ∷ []
+types = typed (codes "E") Explicit ∷ typed (codes "N") (Number Integer) ∷ typed (codes "O") Other ∷ typed (codes "T") Typed ∷ typed (codes "X") Text ∷ longer_types
 
 -- Only the name of an explicit or typed dimension names a dimension (XBRL Dimensions 1.0).
 abbrev no_dimension_kinds : List (Option Kind)
-no_dimension_kinds = None ∷ Some (Number Integer) ∷ Some Text ∷ Some Boolean ∷ Some Date ∷ Some Name ∷ Some Other ∷ []
+no_dimension_kinds = None ∷ Some (Number Integer) ∷ Some Text ∷ Some Boolean ∷ Some Date ∷ Some Name ∷ Some Other ∷ Some concept ∷ Some Member ∷ []
 
 kinds_of_dimensions :
-    (list_any is_dimension no_dimension_kinds ≡ false) × (list_all is_dimension (Some Explicit ∷ Some Typed ∷ []) ≡ true)
-    × (list_any is_typed (Some Explicit ∷ no_dimension_kinds) ≡ false) × (is_typed (Some Typed) ≡ true)
+    (list_any is_dimension no_dimension_kinds ≡ false) × (list_all is_dimension (Some Explicit ∷ Some Typed ∷ Some (TypedBy simple.Boolean) ∷ []) ≡ true)
+    × (list_any is_typed (Some Explicit ∷ no_dimension_kinds) ≡ false) × (list_all is_typed (Some Typed ∷ Some (TypedBy simple.Boolean) ∷ []) ≡ true)
 kinds_of_dimensions = (refl, refl, refl, refl)
 
 unfoldable is_bad_key : List ℕ → Bool
@@ -256,11 +266,11 @@ is_bad_key key = is_bad_dimension types prefixes key (text (codes "x"))
 unfoldable is_bad_at : List ℕ → List ℕ → Bool
 is_bad_at key value = is_bad_dimension types prefixes key (text value)
 
-dimensions : list_any is_bad_key (codes "concept" ∷ codes "entity" ∷ codes "period" ∷ codes "unit" ∷ codes "language" ∷ codes "p:E" ∷ codes "p:T" ∷ []) ≡ false
+dimensions : list_any is_bad_key (codes "concept" ∷ codes "entity" ∷ codes "period" ∷ codes "unit" ∷ codes "language" ∷ codes "p:E" ∷ codes "p:T" ∷ codes "p:B" ∷ []) ≡ false
 unfolding is_bad_key is_bad_dimension strip_front meaning_of qname_of is_ncname is_name_char is_name_start chars is_utf8 encode
 dimensions = refl
 
-no_dimensions : list_all is_bad_key (codes "Concept" ∷ codes "p:N" ∷ codes "p:O" ∷ codes "p:X" ∷ codes "p:Z" ∷ codes "q:E" ∷ codes "E" ∷ [] ∷ []) ≡ true
+no_dimensions : list_all is_bad_key (codes "Concept" ∷ codes "p:N" ∷ codes "p:O" ∷ codes "p:X" ∷ codes "p:C" ∷ codes "p:M" ∷ codes "p:Z" ∷ codes "q:E" ∷ codes "E" ∷ [] ∷ []) ≡ true
 unfolding is_bad_key is_bad_dimension strip_front meaning_of qname_of is_ncname is_name_char is_name_start chars is_utf8 encode
 no_dimensions = refl
 
@@ -284,6 +294,10 @@ bad_periods = refl
 typed_values : list_any (is_bad_at (codes "p:T")) (codes "#nil" ∷ codes "#empty" ∷ []) ≡ false
 unfolding is_bad_at is_bad_dimension name_and_side strip_front strip_back meaning_of qname_of is_identifier is_plain_char is_ncname is_name_char is_name_start chars is_utf8 encode
 typed_values = refl
+
+values_of_types : list_any (is_bad_at (codes "p:B")) (codes "#nil" ∷ codes "#empty" ∷ codes "true" ∷ []) ≡ false
+unfolding is_bad_at is_bad_dimension name_and_side strip_front strip_back meaning_of qname_of is_identifier is_plain_char is_ncname is_name_char is_name_start chars is_utf8 encode
+values_of_types = refl
 
 explicit_values : list_all (is_bad_at (codes "p:E")) (codes "#nil" ∷ codes "#empty" ∷ []) ≡ true
 unfolding is_bad_at is_bad_dimension name_and_side strip_front strip_back meaning_of qname_of is_identifier is_plain_char is_ncname is_name_char is_name_start chars is_utf8 encode

@@ -22,7 +22,7 @@ use Rattle.oim_report.specs.declared.data.Side.TheVariants.{Whole, Start, End}
 use Rattle.oim_report.specs.declared.data.Written.{Written}
 use Rattle.oim_report.specs.declared.data.Written.TheVariants.{Text}
 use Rattle.oim_meta.specs.BadDimensions.{is_bad_meaning, is_bad_reference, is_bad_by_dollar, is_bad_text}
-use Rattle.oim_meta.specs.Writes.{IsLiteral, absent, nil, empty, text, Writes, literal, doubled, reference, at_start, at_end}
+use Rattle.oim_meta.specs.Writes.{IsLiteral, of_text, of_type, absent, nil, empty, text, Writes, literal, doubled, reference, at_start, at_end}
 use Rattle.oim_meta.specs.Written.{strip_front, strip_back, named, or_whole, name_and_side, reference_of, literal_by, unless_dollar, by_dollar, written_of}
 
 -- A text without a mark, and with it.
@@ -179,8 +179,10 @@ by_name kind key rest name side l n h =
 
 good_literal : {kind : Option Kind} {m : Meaning} {value : Written} → IsLiteral kind m value → (is_bad_meaning kind m ≡ false) × (literal_by m ≡ value)
 good_literal (absent kind) = (refl, refl)
-good_literal nil = (refl, refl)
-good_literal empty = (refl, refl)
+good_literal (nil kind of_text) = (refl, refl)
+good_literal (nil kind (of_type type)) = (refl, refl)
+good_literal (empty kind of_text) = (refl, refl)
+good_literal (empty kind (of_type type)) = (refl, refl)
 good_literal (text kind t) = (refl, refl)
 
 writes_good : {kind : Option Kind} {key t : List ℕ} {value : Written} → Writes kind key t value → IsGood kind key t value
@@ -206,8 +208,10 @@ writes_good (at_end kind name h) =
 -- A text that is not bad writes the value of the functions.
 literal_from : (k : Option Kind) (m : Meaning) → is_bad_meaning k m ≡ false → IsLiteral k m (literal_by m)
 literal_from k meaning.Absent h = absent k
-literal_from (Some kind.Typed) meaning.Nil h = nil
-literal_from (Some kind.Typed) meaning.Empty h = empty
+literal_from (Some kind.Typed) meaning.Nil h = nil kind.Typed of_text
+literal_from (Some kind.Typed) meaning.Empty h = empty kind.Typed of_text
+literal_from (Some (kind.TypedBy t)) meaning.Nil h = nil (kind.TypedBy t) (of_type t)
+literal_from (Some (kind.TypedBy t)) meaning.Empty h = empty (kind.TypedBy t) (of_type t)
 literal_from k (meaning.Text t) h = text k t
 literal_from k m h = absurd cc
 

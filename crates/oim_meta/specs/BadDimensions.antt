@@ -9,7 +9,7 @@ use Rattle.oim_cells.specs.Cells.{Meaning, meaning_of}
 use Rattle.oim_cells.specs.Cells as meaning
 use Rattle.oim_report.specs.Types.{TypesValue, kind_in}
 use Rattle.oim_report.specs.declared.kind.Kind.{Kind}
-use Rattle.oim_report.specs.declared.kind.Kind.TheVariants.{Number, Text, Boolean, Date, Name, Other, Explicit, Typed}
+use Rattle.oim_report.specs.declared.kind.Kind.TheVariants.{Number, Text, Boolean, Date, Name, Other, Explicit, Typed, Concept, TypedBy, Member}
 use Rattle.oim_meta.specs.Members.{is_text, text_of, section, any_member}
 use Rattle.oim_meta.specs.Levels.{any_level}
 use Rattle.oim_meta.specs.Prefixes.{prefixes_of}
@@ -34,6 +34,9 @@ is_typed (Some Name) = false
 is_typed (Some Other) = false
 is_typed (Some Explicit) = false
 is_typed (Some Typed) = true
+is_typed (Some (Concept c)) = false
+is_typed (Some (TypedBy t)) = true
+is_typed (Some Member) = false
 
 abbrev pub is_dimension : Option Kind → Bool
 is_dimension None = false
@@ -45,6 +48,9 @@ is_dimension (Some Name) = false
 is_dimension (Some Other) = false
 is_dimension (Some Explicit) = true
 is_dimension (Some Typed) = true
+is_dimension (Some (Concept c)) = false
+is_dimension (Some (TypedBy t)) = true
+is_dimension (Some Member) = false
 
 -- An unknown special value, or nil or empty where it is not allowed.
 abbrev pub is_bad_meaning : Option Kind → Meaning → Bool

@@ -7,18 +7,24 @@ use Rattle.oim_names.specs.Names.{is_identifier}
 use Rattle.oim_cells.specs.Cells.{Meaning, meaning_of}
 use Rattle.oim_cells.specs.Cells as meaning
 use Rattle.oim_report.specs.declared.kind.Kind.{Kind}
-use Rattle.oim_report.specs.declared.kind.Kind.TheVariants.{Typed}
+use Rattle.oim_report.specs.declared.kind.Kind.TheVariants.{Typed, TypedBy}
+use Rattle.oim_report.specs.declared.kind.SimpleType.{SimpleType}
 use Rattle.oim_report.specs.declared.data.Side.TheVariants.{Whole, Start, End}
 use Rattle.oim_report.specs.declared.data.Written.{Written}
 use Rattle.oim_report.specs.declared.data.Written.TheVariants.{Absent, Nil, Empty, Text}
 use Rattle.oim_meta.specs.Written.{named}
 
+-- A typed dimension: of any text, or of a simple type.
+pub data IsTyped : Kind → Type 0 where
+  of_text : IsTyped Typed
+  of_type : (type : SimpleType) → IsTyped (TypedBy type)
+
 -- A literal by its meaning, for a dimension of this kind. Nil and empty are values of typed
 -- dimensions only.
 pub data IsLiteral : Option Kind → Meaning → Written → Type 0 where
   absent : (kind : Option Kind) → IsLiteral kind meaning.Absent Absent
-  nil : IsLiteral (Some Typed) meaning.Nil Nil
-  empty : IsLiteral (Some Typed) meaning.Empty Empty
+  nil : (kind : Kind) → IsTyped kind → IsLiteral (Some kind) meaning.Nil Nil
+  empty : (kind : Kind) → IsTyped kind → IsLiteral (Some kind) meaning.Empty Empty
   text : (kind : Option Kind) (t : List ℕ) → IsLiteral kind (meaning.Text t) (Text t)
 
 -- The text writes the value at this key: a literal, a literal that begins with a dollar sign, which

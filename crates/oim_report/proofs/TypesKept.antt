@@ -1,11 +1,11 @@
 -- One more record of a types table: its kinds, and that a lookup by groups gives them.
-use Rattle.std.proofs.Common.{◌≡◌, ◌∙◌, ℕ, List, [], ◌∷◌, Option, Some, None, Bool, true, false, ◌&&◌, if◌then◌else◌, refl, sym, ap}
-use Rattle.std.proofs.lemmas.List.Folds.{find-append}
+use Rattle.std.proofs.Common.{◌≡◌, ◌∙◌, ℕ, List, [], ◌∷◌, Option, Some, None, Bool, true, false, ◌&&◌, ◌||◌, if◌then◌else◌, refl, sym, ap}
+use Rattle.std.proofs.lemmas.List.Folds.{find-append, list_any-append}
 use Rattle.std.specs.Option.{option_map, option_or}
 use Rattle.std.specs.List.{find}
 use Rattle.std.specs.Str.{bytes_eq}
 use Rattle.oim_report.specs.Named.{ExtendsUnder, Grouped, value_under}
-use Rattle.oim_report.specs.Types.{TypesValue, is_of, kind_in}
+use Rattle.oim_report.specs.Types.{TypesValue, has_members, is_member, is_of, kind_in}
 use Rattle.oim_report.specs.state.Types.{GivesKinds}
 use Rattle.oim_report.specs.Types.{with_kind}
 use Rattle.oim_report.specs.declared.kind.Kind.{Kind}
@@ -56,3 +56,15 @@ kept-more groups more types u l k kept none extends =
         let absent : kind_in types uri local ≡ None = rw (← same-bytes u uri same.0, ← same-bytes l local same.1) none in
         rw absent refl
     by uri local false h = kept uri local ∙ sym (or-none (kind_in types uri local))
+
+or-false : (b : Bool) → (b || false) ≡ b
+or-false true = refl
+or-false false = refl
+
+-- One more record names a member, or an earlier one did.
+pub members-more : (members : Bool) (types : TypesValue) (u l : List ℕ) (k : Kind) → members ≡ has_members types
+    → (members || is_member k) ≡ has_members (with_kind types u l k)
+members-more members types u l k kept =
+    ap (λ b. b || is_member k) kept
+    ∙ ap (λ b. has_members types || b) (sym (or-false (is_member k)))
+    ∙ sym (list_any-append (λ (name : TypedName). is_member name.kind) types (record { uri = u; local = l; kind = k } ∷ []))

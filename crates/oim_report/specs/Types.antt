@@ -1,7 +1,9 @@
 -- The types of concepts and dimensions: the records of the types table, in file order.
-use Rattle.std.specs.Prelude.{ℕ, List, [], ◌∷◌, ◌++◌, Bool, ◌&&◌, Option, option_map, find}
+use Rattle.std.specs.Prelude.{ℕ, List, [], ◌∷◌, ◌++◌, Bool, true, false, ◌&&◌, Option, option_map, find}
+use Rattle.std.specs.List.{list_any}
 use Rattle.std.specs.Str.{bytes_eq}
 use Rattle.oim_report.specs.declared.kind.Kind.{Kind}
+use Rattle.oim_report.specs.declared.kind.Kind.TheVariants.{Member}
 use Rattle.oim_report.specs.declared.typed_name.TypedName.{TypedName}
 
 abbrev pub TypesValue : Type 0
@@ -18,3 +20,11 @@ kind_in types uri local = option_map (λ (name : TypedName). name.kind) (find (i
 -- The types with one more record at the end.
 abbrev pub with_kind : TypesValue → List ℕ → List ℕ → Kind → TypesValue
 with_kind types uri local k = types ++ record { uri = uri; local = local; kind = k } ∷ []
+
+-- A kind is that of a member. The types have members if a record names one.
+abbrev pub is_member : Kind → Bool
+is_member Member = true
+is_member _ = false
+
+abbrev pub has_members : TypesValue → Bool
+has_members types = list_any (λ (name : TypedName). is_member name.kind) types

@@ -6,8 +6,8 @@
 //! - The parts of any `Report` are in byte order of name, and its tables, templates and columns
 //!   have identifiers (`stands_in_order`, `specs/InOrder.antt`). The places that `row_id_column`
 //!   and `column` return are in range.
-//! - `Types::kind_of` returns the kind that the types table's records give, and `Parameters` the
-//!   names and values that were added.
+//! - `Types::kind_of` returns the kind that the types table's records give, `Types::has_members`
+//!   whether one names a member, and `Parameters` the names and values that were added.
 //!
 //! The crate reads neither JSON nor files.
 //!
@@ -39,7 +39,7 @@ mod typed_name;
 mod types;
 
 pub use data::{Column, ColumnKind, Info, Level, Side, Table, Template, Written, WrittenDecimals};
-pub use kind::Kind;
+pub use kind::{Concept, Kind, PeriodType, SimpleType, ValueType};
 pub use limits::Limits;
 pub use named::Named;
 pub use parameters::Parameters;

@@ -7,6 +7,7 @@ ghost use Rattle.oim_names.specs.Lookup.{value_at};
 ghost use Rattle.oim_report.specs.InOrder.{PartsRise, HaveIdentifiers};
 ghost use Rattle.oim_report.specs.Places.{HasColumns};
 ghost use Rattle.oim_report.specs.Readers.{table_of, template_of, columns_of, column_of, column_named, parameter_of, kind_of};
+ghost use Rattle.oim_report.specs.Types.{has_members};
 
 use crate::by_name::place_in_order;
 use crate::data::{Column, Info, Level, Table, Template};
@@ -187,6 +188,13 @@ impl Report {
         ensures { result ≡ kind_of self.now uri.now local.now }
     {
         self.types.kind_of(uri, local)
+    }
+
+    /// Returns whether the types table names a member of a dictionary.
+    pub fn has_members(&self) -> bool
+        ensures { result ≡ has_members self.now.types }
+    {
+        self.types.has_members()
     }
 
     /// Proves that the report's parts are in byte order of name, and that its tables, templates and

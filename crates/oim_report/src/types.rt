@@ -1,7 +1,7 @@
 //! The types of concepts and dimensions.
 
-ghost use Rattle.std.specs.Prelude.{◌≡◌, [], IfOk, None};
-ghost use Rattle.oim_report.specs.Types.{kind_in, with_kind};
+ghost use Rattle.std.specs.Prelude.{◌≡◌, ◌||◌, [], IfOk, None};
+ghost use Rattle.oim_report.specs.Types.{has_members, is_member, kind_in, with_kind};
 
 use crate::kind::Kind;
 use crate::named::Named;
@@ -16,18 +16,19 @@ use std::marker::Model;
 #[derive(Drop)]
 pub struct Types {
     namespaces: Named<Named<Kind>>,
+    has_members: bool,
     records: GhostValue<Items<TypedName>>,
 }
 
 impl Model for Types {
     ghost use Rattle.oim_report.specs.Types.{TypesValue};
-    ghost use Rattle.oim_report.specs.state.Types.{GivesKinds};
+    ghost use Rattle.oim_report.specs.state.Types.{AreKept};
 
     ghost Value = { TypesValue };
 
     ghost view = { λ t. t.records.value };
 
-    ghost invariant = { λ t. GivesKinds t.namespaces t.records.value };
+    ghost invariant = { λ t. AreKept t.namespaces t.has_members t.records.value };
 }
 
 impl Clone for Types {
@@ -36,6 +37,7 @@ impl Clone for Types {
     fn clone(&self) -> Result<Types, AllocError> {
         Ok(Types {
             namespaces: self.namespaces.clone()?,
+            has_members: self.has_members,
             records: self.records.again(),
         })
     }
@@ -54,6 +56,13 @@ impl Denotes<Items<TypedName>> for OneMoreName<'_> {
     ghost denoted = { λ t. with_kind t.before.now.value t.uri.now t.local.now t.kind };
 }
 
+/// Returns whether a kind is that of a member, or a member is known already.
+fn knows_member(known: bool, kind: Kind) -> bool
+    ensures { result ≡ (known || is_member kind) }
+{
+    known || matches!(&kind, Kind::Member)
+}
+
 impl Types {
     /// Returns the kind of the concept or dimension with this namespace URI and local part, or
     /// `None` if the table does not name it. Does not search through all names.
@@ -66,12 +75,20 @@ impl Types {
         }
     }
 
+    /// Returns whether a record names a member of a dictionary.
+    pub fn has_members(&self) -> bool
+        ensures { result ≡ has_members self.now }
+    {
+        self.has_members
+    }
+
     /// Makes an empty collection of types. Takes no memory.
     pub fn none(alloc: Global) -> Types
         ensures { result ≡ [] }
     {
         Types {
             namespaces: Named::new(alloc),
+            has_members: false,
             records: GhostValue::seen(&Items::new(alloc)),
         }
     }
@@ -89,12 +106,14 @@ impl Types {
     {
         let Types {
             mut namespaces,
+            has_members,
             records,
         } = self;
         namespaces.push_under(alloc, uri, local, kind)?;
         let before = &records;
         Ok(Types {
             namespaces,
+            has_members: knows_member(has_members, kind),
             records: GhostValue::of(&OneMoreName {
                 before,
                 uri,

@@ -62,18 +62,18 @@ unfoldable short_forms_on_literals : ⊤
 unfolding first_number year_of month_of date_in_year day_text moment_text period_text
 short_forms_on_literals = tt
 
-unfoldable on_literals : ⊤
+unfoldable pub on_literals : ⊤
 unfolding cell_result rest_faults fact_of meaning_of numeral_of accuracy_of names_on_literals periods_on_literals short_forms_on_literals
 on_literals = tt
 
-abbrev names : Bindings
+abbrev pub names : Bindings
 names =
     (codes "eg", codes "http://example.com/eg")
     ∷ (codes "iso4217", codes "http://www.xbrl.org/2003/iso4217")
     ∷ (codes "xbrli", codes "http://www.xbrl.org/2003/instance")
     ∷ []
 
-abbrev known : List ℕ → Kind → TypedName
+abbrev pub known : List ℕ → Kind → TypedName
 known local k = record { uri = codes "http://example.com/eg"; local = local; kind = k }
 
 abbrev types : TypesValue
@@ -84,28 +84,28 @@ types =
     ∷ known (codes "Rule") kind.Name ∷ []
 
 -- A text, and a reference.
-abbrev text : List ℕ → Written
+abbrev pub text : List ℕ → Written
 text t = w.Text t
 
-abbrev reference : List ℕ → Written
+abbrev pub reference : List ℕ → Written
 reference n = w.Named n side.Whole
 
 abbrev level : List (List ℕ × Written) → Level
 level dimensions = record { dimensions = dimensions; decimals = None }
 
-abbrev base_level : List (List ℕ × Written)
+abbrev pub base_level : List (List ℕ × Written)
 base_level = (codes "entity", text (codes "eg:A1")) ∷ (codes "period", text (codes "0005Q4")) ∷ (codes "unit", text (codes "iso4217:EUR")) ∷ []
 
-abbrev fact_column : List ℕ → List (List ℕ × Written) → List ℕ → Column
+abbrev pub fact_column : List ℕ → List (List ℕ × Written) → List ℕ → Column
 fact_column id dimensions from = record { id = id; kind = column.Fact; level = level dimensions; groups = []; from = from }
 
-abbrev plain_column : List ℕ → Column
+abbrev pub plain_column : List ℕ → Column
 plain_column id = record { id = id; kind = column.Plain; level = level []; groups = []; from = [] }
 
-abbrev template : List Column → Template
+abbrev pub template : List Column → Template
 template columns = record { id = codes "p"; columns = columns; row_id_column = None; level = level [] }
 
-abbrev table : List (List ℕ × List ℕ) → Table
+abbrev pub table : List (List ℕ × List ℕ) → Table
 table parameters = record { id = codes "t1"; url = codes "t1.csv"; is_optional = false; template = 0; parameters = parameters }
 
 -- A report of one table t1: report dimensions and decimals, columns, the table's and the report's
@@ -121,7 +121,7 @@ report dimensions decimals columns of_table of_report = record {
   parameters = of_report;
 }
 
-abbrev row : List (List ℕ) → Row
+abbrev pub row : List (List ℕ) → Row
 row cells = record { number = 1; id = codes "r_1"; cells = cells }
 
 -- What a cell of a report of these parts gives.
@@ -130,32 +130,32 @@ abbrev gives : (dimensions : List (List ℕ × Written)) → Option WrittenDecim
 gives dimensions decimals columns of_table of_report cells column =
     cell_result (record { report = report dimensions decimals columns of_table of_report; table = 0; row = row cells; column = column })
 
-abbrev entry : List ℕ → List ℕ → List ℕ × Option (List ℕ)
+abbrev pub entry : List ℕ → List ℕ → List ℕ × Option (List ℕ)
 entry n t = (n, Some t)
 
 -- Concept, entity and period of each fact.
-abbrev common : List ℕ → List (List ℕ × Option (List ℕ))
+abbrev pub common : List ℕ → List (List ℕ × Option (List ℕ))
 common concept = entry (codes "concept") concept ∷ entry (codes "entity") (codes "eg:A1") ∷ []
 
-abbrev period : List ℕ → List (List ℕ × Option (List ℕ))
+abbrev pub period : List ℕ → List (List ℕ × Option (List ℕ))
 period t = entry (codes "period") t ∷ []
 
-abbrev quarter : List ℕ
+abbrev pub quarter : List ℕ
 quarter = codes "0005-10-01T00:00:00/0006-01-01T00:00:00"
 
-abbrev with_period : List ℕ → List (List ℕ × Option (List ℕ))
+abbrev pub with_period : List ℕ → List (List ℕ × Option (List ℕ))
 with_period concept = common concept ++ period quarter
 
-abbrev unit : List ℕ → List (List ℕ × Option (List ℕ))
+abbrev pub unit : List ℕ → List (List ℕ × Option (List ℕ))
 unit u = entry (codes "unit") u ∷ []
 
-abbrev fact : List ℕ → Option (List ℕ) → Option ℤ → List (List ℕ × Option (List ℕ)) → Result (Option Fact) CellFault
+abbrev pub fact : List ℕ → Option (List ℕ) → Option ℤ → List (List ℕ × Option (List ℕ)) → Result (Option Fact) CellFault
 fact column value decimals dimensions = Ok (Some (record { id = codes "t1.r_1." ++ column; value = value; decimals = decimals; dimensions = dimensions }))
 
 abbrev cash : List ℕ → List ℕ → List (List ℕ × Option (List ℕ)) → Result (Option Fact) CellFault
 cash column value more = fact column (Some value) None (with_period (codes "eg:Cash") ++ more)
 
-abbrev concept : List ℕ → List ℕ × Written
+abbrev pub concept : List ℕ → List ℕ × Written
 concept t = (codes "concept", text t)
 
 -- A cell of one column of a concept.
@@ -767,16 +767,18 @@ two_faults = refl
 all_faults : List CellFault
 all_faults =
     fault.UnknownSpecial ∷ fault.UnknownGroup ∷ fault.NoConcept ∷ fault.UnknownName ∷ fault.BadReference ∷ fault.BadValue
-    ∷ fault.BadPeriod ∷ fault.NotDuration ∷ fault.BadDecimals ∷ fault.BadNumber ∷ fault.Memory ∷ fault.BadFactValue ∷ []
+    ∷ fault.BadPeriod ∷ fault.NotDuration ∷ fault.BadDecimals ∷ fault.BadNumber ∷ fault.Memory ∷ fault.BadFactValue ∷ fault.BadUnit
+    ∷ fault.WrongPeriod ∷ fault.UnknownMember ∷ []
 
-numbers : map number_of all_faults ≡ 31 ∷ 32 ∷ 33 ∷ 34 ∷ 35 ∷ 36 ∷ 37 ∷ 38 ∷ 39 ∷ 40 ∷ 42 ∷ 44 ∷ []
+numbers : map number_of all_faults ≡ 31 ∷ 32 ∷ 33 ∷ 34 ∷ 35 ∷ 36 ∷ 37 ∷ 38 ∷ 39 ∷ 40 ∷ 42 ∷ 44 ∷ 45 ∷ 46 ∷ 47 ∷ []
 unfolding all_faults
 numbers = refl
 
 fault_names :
     map name_of all_faults
     ≡ codes "UnknownSpecial" ∷ codes "UnknownGroup" ∷ codes "NoConcept" ∷ codes "UnknownName" ∷ codes "BadReference" ∷ codes "BadValue"
-    ∷ codes "BadPeriod" ∷ codes "NotDuration" ∷ codes "BadDecimals" ∷ codes "BadNumber" ∷ codes "Memory" ∷ codes "BadFactValue" ∷ []
+    ∷ codes "BadPeriod" ∷ codes "NotDuration" ∷ codes "BadDecimals" ∷ codes "BadNumber" ∷ codes "Memory" ∷ codes "BadFactValue" ∷ codes "BadUnit"
+    ∷ codes "WrongPeriod" ∷ codes "UnknownMember" ∷ []
 unfolding all_faults
 fault_names = refl
 

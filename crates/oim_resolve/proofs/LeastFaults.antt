@@ -4,7 +4,7 @@ use Rattle.std.proofs.lemmas.Bool.Decides.{nat_tests}
 use Rattle.std.proofs.lemmas.List.{append-nil}
 use Rattle.oim_resolve.specs.declared.fact.CellFault.{CellFault}
 use Rattle.oim_resolve.specs.Faults.{number_of, lesser, least, unless}
-use Rattle.oim_resolve.specs.state.ProgramFaults.{least_of, both}
+use Rattle.oim_resolve.specs.state.ProgramFaults.{least_of, both, or_fault}
 
 above : (a b c : ℕ) → leb a b ≡ false → leb b c ≡ false → leb a c ≡ false
 above a b c e k = grind (arith, nat_tests)
@@ -46,6 +46,16 @@ pub both_unless : {A B C : Type 0} (join : A → B → C) (xs ys : List CellFaul
 both_unless join xs ys a b = by (least xs) (least ys) ∙ ap (λ f. unless f (Ok (join a b))) (sym (least-append xs ys))
   where
     by : (x y : Option CellFault) → both join (unless x (Ok a)) (unless y (Ok b)) ≡ unless (least_of x y) (Ok (join a b))
+    by None None = refl
+    by None (Some g) = refl
+    by (Some f) None = refl
+    by (Some f) (Some g) = refl
+
+-- A reading, unless a set has a fault, and another set.
+pub or_fault_unless : {A : Type 0} (xs ys : List CellFault) (a : A) → or_fault (unless (least xs) (Ok a)) (least ys) ≡ unless (least (xs ++ ys)) (Ok a)
+or_fault_unless xs ys a = by (least xs) (least ys) ∙ ap (λ f. unless f (Ok a)) (sym (least-append xs ys))
+  where
+    by : (x y : Option CellFault) → or_fault (unless x (Ok a)) y ≡ unless (least_of x y) (Ok a)
     by None None = refl
     by None (Some g) = refl
     by (Some f) None = refl

@@ -6,5 +6,7 @@ pub mod Names
 pub mod Outcomes
 pub mod Overrides
 pub mod RowFacts
+pub mod Suffixes
 mod Examples
+mod ExamplesTypes
 pub mod LevelOrder

@@ -1,11 +1,11 @@
 -- Names of levels merged: the order in which they are inserted does not matter.
 use Rattle.std.proofs.Common.{◌≡◌, ◌<◌, ◌≤◌, ◌+◌, ◌-◌, ℕ, reverse, List, [], ◌∷◌, ◌++◌, take, drop, get_or, length, map, Option, Some, None, refl, sym, ap, subst, ◌∙◌, append_assoc, arith}
 use Rattle.std.specs.Borrow.{Bor}
-use Rattle.std.specs.List.{All, fold, flat_map}
+use Rattle.std.specs.List.{fold, flat_map}
 use Rattle.std.specs.Option.{option_or, option_to_list}
-use Rattle.std.specs.Ordering.{match_ordering, nat_cmp, ordering_reverse}
+use Rattle.std.specs.Ordering.{match_ordering, ordering_reverse}
 use Rattle.std.specs.Cmp.{alike_right}
-use Rattle.std.specs.Cmp.Lexicographic.{slice_cmp, nat_list_cmp_total}
+use Rattle.std.specs.Cmp.Lexicographic.{nat_list_cmp_total}
 use Rattle.std.specs.FinMap.{slice_cmp-IsAntisymmetric, nat_cmp-IsAntisymmetric}
 use Rattle.std.specs.declared.cmp.Ordering.{Ordering}
 use Rattle.std.specs.declared.cmp.Ordering.TheVariants.{Less, Equal, Greater}

@@ -5,17 +5,17 @@ use Rattle.oim_resolve.specs.FactParts.{FactParts as Fact}
 use Rattle.oim_resolve.specs.declared.fact.CellFault.{CellFault}
 use Rattle.oim_resolve.specs.Cell.{Cell}
 use Rattle.oim_resolve.specs.Faults.{least, unless}
-use Rattle.oim_resolve.specs.state.ProgramFaults.{both}
-use Rattle.oim_resolve.specs.FactValues.{ValueParts, value_given, faults_in, text_in, accuracy_in}
+use Rattle.oim_resolve.specs.state.ProgramFaults.{both, or_fault}
+use Rattle.oim_resolve.specs.FactValues.{ValueParts, value_given, suffix_given, faults_in, text_in}
 use Rattle.oim_resolve.specs.state.ProgramValues.{text_read, decimals_read}
 use Rattle.std.specs.List.{flat_map}
 use Rattle.oim_report.specs.declared.kind.Kind.{Kind}
 use Rattle.oim_resolve.specs.Written.{levels, names}
-use Rattle.oim_resolve.proofs.LeastFaults.{both_unless, pair}
+use Rattle.oim_resolve.proofs.LeastFaults.{both_unless, or_fault_unless, pair}
 use Rattle.oim_cells.specs.Cells.{Meaning}
 use Rattle.oim_cells.specs.declared.cells.Accuracy.{Accuracy}
 use Rattle.oim_resolve.specs.Values.{Stated}
-use Rattle.oim_resolve.specs.Facts.{id_of, fact_value, fact_decimals, named_entry, dimension_entry, dimension_faults, decimals_faults, stated, is_absent}
+use Rattle.oim_resolve.specs.Facts.{id_of, fact_value, fact_decimals, named_entry, dimension_entry, dimension_faults, decimals_faults, wanted_faults, stated, is_absent}
 use Rattle.oim_resolve.specs.Facts.{fact_meaning, cell_and_group_faults, concept_faults, concept_kind, rest_faults, fact_of, rest_result, as_result, cell_result, early_result}
 
 unfoldable pub outcome : Bool → Option CellFault → Option CellFault → Option CellFault → Fact → Result (Option Fact) CellFault
@@ -142,35 +142,42 @@ module _ (c : Cell) (k : Kind) where
   abbrev pub rest : Option CellFault
   rest = least (rest_faults c k)
 
-  -- Dimensions, decimals and text, each read.
-  all_three : (d : Result Dimensions CellFault) (n : Result (Option ℤ) CellFault) (t : Result (Option (List ℕ)) CellFault)
+  -- Dimensions, decimals and text, each read, and what the concept wants.
+  all_three : (d : Result Dimensions CellFault) (n : Result (Option ℤ) CellFault) (w : Option CellFault) (t : Result (Option (List ℕ)) CellFault)
       → d ≡ unless (least given_faults) (Ok given_dimensions)
       → n ≡ unless (least (decimals_faults c k)) (Ok (fact_decimals c k))
+      → w ≡ least (wanted_faults c k)
       → t ≡ text_read (fact_value c k)
-      → both pair (both pair d n) t ≡ unless rest (Ok all_given)
+      → both pair (or_fault (both pair d n) w) t ≡ unless rest (Ok all_given)
   unfolding rest_faults
-  all_three d n t hd hn ht =
-      let both_given = unless (least (given_faults ++ decimals_faults c k)) (Ok (given_dimensions, fact_decimals c k)) in
-      ap (λ x. both pair (both pair x n) t) hd
-      ∙ ap (λ x. both pair (both pair (unless (least given_faults) (Ok given_dimensions)) x) t) hn
-      ∙ ap (λ x. both pair x t) (both_unless pair given_faults (decimals_faults c k) given_dimensions (fact_decimals c k))
-      ∙ ap (λ x. both pair both_given x) (ht ∙ text_read-unless (fact_value c k))
-      ∙ both_unless pair (given_faults ++ decimals_faults c k) (faults_in (fact_value c k)) (given_dimensions, fact_decimals c k) (text_in (fact_value c k))
+  all_three d n w t hd hn hw ht =
+      let two_faults : List CellFault = given_faults ++ decimals_faults c k in
+      let two_given : Dimensions × Option ℤ = (given_dimensions, fact_decimals c k) in
+      let both_given : Result (Dimensions × Option ℤ) CellFault = unless (least two_faults) (Ok two_given) in
+      let wanted_given : Result (Dimensions × Option ℤ) CellFault = unless (least (two_faults ++ wanted_faults c k)) (Ok two_given) in
+      ap (λ x. both pair (or_fault (both pair x n) w) t) hd
+      ∙ ap (λ x. both pair (or_fault (both pair (unless (least given_faults) (Ok given_dimensions)) x) w) t) hn
+      ∙ ap (λ x. both pair (or_fault x w) t) (both_unless pair given_faults (decimals_faults c k) given_dimensions (fact_decimals c k))
+      ∙ ap (λ x. both pair (or_fault both_given x) t) hw
+      ∙ ap (λ x. both pair x t) (or_fault_unless two_faults (wanted_faults c k) two_given)
+      ∙ ap (λ x. both pair wanted_given x) (ht ∙ text_read-unless (fact_value c k))
+      ∙ both_unless pair (two_faults ++ wanted_faults c k) (faults_in (fact_value c k)) two_given (text_in (fact_value c k))
 
   -- The same, from the steps by which a program reads them: the meaning of the cell, its reading
-  -- and its suffix, the stated decimals, and the three.
+  -- and its suffix, the stated decimals, what the concept wants, and the three.
   pub read_together : (v : Meaning) (r : Result ValueParts CellFault) (suffix : Option Accuracy) (s : Stated) (d : Result Dimensions CellFault)
-      (n : Result (Option ℤ) CellFault) (t : Result (Option (List ℕ)) CellFault) (two : Result (Dimensions × Option ℤ) CellFault) (whole : Result Together CellFault)
-      → v ≡ fact_meaning c → r ≡ value_given c.report k v → suffix ≡ accuracy_in r → s ≡ stated c
-      → d ≡ unless (least given_faults) (Ok given_dimensions) → n ≡ decimals_read k v suffix s → t ≡ text_read r
-      → two ≡ both pair d n → whole ≡ both pair two t → whole ≡ unless rest (Ok all_given)
-  read_together v r suffix s d n t two whole hv hr hsuffix hs hd hn ht htwo hwhole =
+      (n : Result (Option ℤ) CellFault) (w : Option CellFault) (t : Result (Option (List ℕ)) CellFault) (two wanted : Result (Dimensions × Option ℤ) CellFault)
+      (whole : Result Together CellFault)
+      → v ≡ fact_meaning c → r ≡ value_given c.report k v → suffix ≡ suffix_given k v → s ≡ stated c
+      → d ≡ unless (least given_faults) (Ok given_dimensions) → n ≡ decimals_read k v suffix s → w ≡ least (wanted_faults c k) → t ≡ text_read r
+      → two ≡ both pair d n → wanted ≡ or_fault two w → whole ≡ both pair wanted t → whole ≡ unless rest (Ok all_given)
+  read_together v r suffix s d n w t two wanted whole hv hr hsuffix hs hd hn hw ht htwo hwanted hwhole =
       let reading : r ≡ fact_value c k = hr ∙ ap (value_given c.report k) hv in
-      let accuracy : suffix ≡ accuracy_in (fact_value c k) = hsuffix ∙ ap accuracy_in reading in
+      let accuracy : suffix ≡ suffix_given k (fact_meaning c) = hsuffix ∙ ap (suffix_given k) hv in
       let decimals : n ≡ unless (least (decimals_faults c k)) (Ok (fact_decimals c k)) =
       hn ∙ ap (λ x. decimals_read k x suffix s) hv ∙ ap (λ x. decimals_read k (fact_meaning c) x s) accuracy
-      ∙ ap (decimals_read k (fact_meaning c) (accuracy_in (fact_value c k))) hs in
-      hwhole ∙ ap (λ x. both pair x t) htwo ∙ all_three d n t hd decimals (ht ∙ ap text_read reading)
+      ∙ ap (decimals_read k (fact_meaning c) (suffix_given k (fact_meaning c))) hs in
+      hwhole ∙ ap (λ x. both pair x t) hwanted ∙ ap (λ x. both pair (or_fault x w) t) htwo ∙ all_three d n w t hd decimals hw (ht ∙ ap text_read reading)
 
   -- The third step, if the concept is of this kind.
   at_kind : k ≡ concept_kind c → unless rest (Ok (fact_of c)) ≡ rest_result c

@@ -44,6 +44,7 @@ module _ (c : Cell) (k : Kind) (n : List ℕ) where
   no_value role.Language = refl
   no_value role.Explicit = refl
   no_value role.Typed = refl
+  no_value (role.TypedBy s) = refl
 
   pub not_written : is_dropped k (role_of c.report n) ≡ false → None ≡ written (levels c) n → Ok None ≡ dimension_read c k n
   not_written e w = no_value (role_of c.report n) ∙ ap (λ o. read_by false o) w ∙ sym (ap (λ b. read_by b (written (levels c) n)) e)

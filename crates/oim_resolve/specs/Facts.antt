@@ -6,34 +6,43 @@ use Rattle.std.specs.List.{list_any, flat_map}
 use Rattle.std.specs.Option.{option_map, option_and_then, option_map_or, option_or, unwrap_or}
 use Rattle.std.specs.Str.{bytes_eq}
 use Rattle.oim_names.specs.Lookup.{value_at}
+use Rattle.oim_cells.specs.Blanks.{trimmed}
 use Rattle.oim_cells.specs.Cells.{Meaning, accuracy_of}
 use Rattle.oim_cells.specs.Cells as m
 use Rattle.oim_names.specs.QName.{qname_of, sqname_of}
 use Rattle.oim_names.specs.Unit.{unit_of}
 use Rattle.oim_names.specs.Language.{language_of}
 use Rattle.oim_period.specs.Periods.{period_of, start_of, end_of, period_text}
-use Rattle.oim_report.specs.Readers.{column_of, table_of, kind_of}
+use Rattle.oim_report.specs.Readers.{column_of, table_of}
 use Rattle.oim_cells.specs.declared.cells.Accuracy.{Accuracy}
 use Rattle.oim_cells.specs.declared.cells.Accuracy.TheVariants.{Infinite, Places}
 use Rattle.oim_names.specs.declared.unit_kind.UnitKind.{UnitKind}
 use Rattle.oim_names.specs.declared.unit_kind.UnitKind.TheVariants as unit
-use Rattle.oim_period.specs.Periods.{Reading}
+use Rattle.oim_period.specs.Periods.{Reading, instant, duration}
+use Rattle.oim_report.specs.declared.kind.Concept.{Concept}
 use Rattle.oim_report.specs.declared.kind.Kind.{Kind}
 use Rattle.oim_report.specs.declared.kind.Kind.TheVariants as kind
+use Rattle.oim_report.specs.declared.kind.PeriodType.{PeriodType}
+use Rattle.oim_report.specs.declared.kind.PeriodType.TheVariants.{Instant, Duration}
+use Rattle.oim_report.specs.declared.kind.ValueType.{ValueType}
+use Rattle.oim_report.specs.declared.kind.ValueType.TheVariants as item
 use Rattle.oim_report.specs.ReportValue.{ReportValue}
 use Rattle.oim_report.specs.declared.data.WrittenDecimals.{WrittenDecimals}
 use Rattle.oim_report.specs.declared.data.Side.{Side}
 use Rattle.oim_report.specs.declared.data.Side.TheVariants as side
 use Rattle.oim_resolve.specs.FactParts.{FactParts as Fact}
 use Rattle.oim_resolve.specs.declared.fact.CellFault.{CellFault}
-use Rattle.oim_resolve.specs.declared.fact.CellFault.TheVariants.{UnknownSpecial, UnknownGroup, NoConcept, UnknownName, BadReference, BadValue, BadPeriod, NotDuration, BadDecimals}
+use Rattle.oim_resolve.specs.declared.fact.CellFault.TheVariants.{UnknownSpecial, UnknownGroup, NoConcept, UnknownName, BadReference, BadValue, BadPeriod, NotDuration, BadDecimals, BadUnit, WrongPeriod, UnknownMember}
 use Rattle.oim_resolve.specs.declared.role.Role.{Role}
 use Rattle.oim_resolve.specs.declared.role.Role.TheVariants as role
 use Rattle.oim_resolve.specs.Cell.{Cell, column, meaning_at}
 use Rattle.oim_resolve.specs.Written.{levels, written, written_decimals, names}
 use Rattle.oim_resolve.specs.Values.{value, side_of, decimals_value, Stated, Fixed, Read}
 use Rattle.oim_resolve.specs.Faults.{fault_if, least, unless}
-use Rattle.oim_resolve.specs.FactValues.{ValueParts, value_given, faults_in, text_in, accuracy_in}
+use Rattle.oim_schema.specs.Units.{is_currency, is_shares}
+use Rattle.oim_resolve.specs.FactValues.{ValueParts, value_given, suffix_given, faults_in, text_in}
+use Rattle.oim_resolve.specs.Kinds.{concept_in, concept_type_of, is_known_member, is_text_type, kind_named, numbers_of}
+use Rattle.oim_resolve.specs.SimpleForms.{has_simple_form}
 
 abbrev pub is_absent : Meaning → Bool
 is_absent m.Absent = true
@@ -83,21 +92,6 @@ given c n = option_map_or (value c) (written (levels c) n) m.Absent
 abbrev pub side_given : Cell → List ℕ → Side
 side_given c n = option_map_or side_of (written (levels c) n) side.Whole
 
--- Numbers, texts, booleans, dates, names and other kinds are concepts.
-abbrev pub concept_type : Kind → Option Kind
-concept_type (kind.Number n) = Some (kind.Number n)
-concept_type kind.Text = Some kind.Text
-concept_type kind.Boolean = Some kind.Boolean
-concept_type kind.Date = Some kind.Date
-concept_type kind.Name = Some kind.Name
-concept_type kind.Other = Some kind.Other
-concept_type kind.Explicit = None
-concept_type kind.Typed = None
-
--- The concept type of a declared QName.
-abbrev pub concept_type_of : ReportValue → List ℕ → Option Kind
-concept_type_of r t = option_and_then concept_type (option_and_then (λ q. kind_of r q.0 q.1) (qname_of r.namespaces t))
-
 -- The faults of a concept's value.
 abbrev pub concept_faults_of : ReportValue → Meaning → List CellFault
 concept_faults_of r v =
@@ -123,37 +117,20 @@ concept_kind c = text_kind c.report (given c (codes "concept"))
 
 -- STEP 3: the other dimensions, the value and the decimals.
 
+-- Concepts whose values are numerals, and concepts of texts.
 abbrev pub is_numeric : Kind → Bool
-is_numeric (kind.Number n) = true
-is_numeric kind.Text = false
-is_numeric kind.Boolean = false
-is_numeric kind.Date = false
-is_numeric kind.Name = false
-is_numeric kind.Other = false
-is_numeric kind.Explicit = false
-is_numeric kind.Typed = false
+is_numeric k = is_some (numbers_of k)
 
 abbrev pub is_of_text : Kind → Bool
 is_of_text kind.Text = true
-is_of_text (kind.Number n) = false
-is_of_text kind.Boolean = false
-is_of_text kind.Date = false
-is_of_text kind.Name = false
-is_of_text kind.Other = false
-is_of_text kind.Explicit = false
-is_of_text kind.Typed = false
+is_of_text (kind.Concept a) = is_text_type a.value
+is_of_text _ = false
 
 -- A taxonomy dimension is typed if the types table makes it typed, and explicit otherwise.
 abbrev pub taxonomy_role : Option Kind → Role
 taxonomy_role (Some kind.Typed) = role.Typed
-taxonomy_role (Some kind.Explicit) = role.Explicit
-taxonomy_role (Some (kind.Number n)) = role.Explicit
-taxonomy_role (Some kind.Text) = role.Explicit
-taxonomy_role (Some kind.Boolean) = role.Explicit
-taxonomy_role (Some kind.Date) = role.Explicit
-taxonomy_role (Some kind.Name) = role.Explicit
-taxonomy_role (Some kind.Other) = role.Explicit
-taxonomy_role None = role.Explicit
+taxonomy_role (Some (kind.TypedBy s)) = role.TypedBy s
+taxonomy_role _ = role.Explicit
 
 -- The role of a dimension's name.
 abbrev pub role_of : ReportValue → List ℕ → Role
@@ -163,11 +140,16 @@ role_of r n =
     else if bytes_eq n (codes "period") then role.Period
     else if bytes_eq n (codes "unit") then role.Unit
     else if bytes_eq n (codes "language") then role.Language
-    else taxonomy_role (option_and_then (λ q. kind_of r q.0 q.1) (qname_of r.namespaces n))
+    else taxonomy_role (kind_named r n)
 
 abbrev pub is_typed : Role → Bool
 is_typed role.Typed = true
+is_typed (role.TypedBy s) = true
 is_typed _ = false
+
+abbrev pub is_explicit : Role → Bool
+is_explicit role.Explicit = true
+is_explicit _ = false
 
 abbrev pub is_period : Role → Bool
 is_period role.Period = true
@@ -182,8 +164,10 @@ is_dropped k role.Entity = false
 is_dropped k role.Period = false
 is_dropped k role.Explicit = false
 is_dropped k role.Typed = false
+is_dropped k (role.TypedBy s) = false
 
--- The required form of entity, unit, language and explicit dimensions.
+-- The required form of entity, unit, language, explicit dimensions and typed ones of a simple
+-- type.
 abbrev pub has_form : ReportValue → Role → List ℕ → Bool
 has_form r role.Entity t = is_some (sqname_of r.namespaces t)
 has_form r role.Unit t = is_some (unit_of r.namespaces t)
@@ -192,6 +176,7 @@ has_form r role.Explicit t = is_some (qname_of r.namespaces t)
 has_form r role.Concept t = true
 has_form r role.Period t = true
 has_form r role.Typed t = true
+has_form r (role.TypedBy s) t = has_simple_form r.namespaces s (trimmed t)
 
 -- The side of a period: nothing if the start or the end of an instant is asked for.
 abbrev pub sided : Side → Reading → Option Reading
@@ -199,14 +184,21 @@ sided side.Whole p = Some p
 sided side.Start p = start_of p
 sided side.End p = end_of p
 
+-- A text that lacks its form. The empty value of a typed dimension is the empty text.
+abbrev pub lacks_form : ReportValue → Role → Meaning → Bool
+lacks_form r o (m.Text t) = not (has_form r o t)
+lacks_form r o m.Empty = is_typed o && not (has_form r o [])
+lacks_form r o _ = false
+
 -- The faults of a dimension that is not dropped.
 abbrev pub value_faults_of : ReportValue → Role → Side → Meaning → List CellFault
 value_faults_of r o s v =
     fault_if UnknownSpecial (is_unknown v)
     ++ fault_if BadReference (is_nil_or_empty v && not (is_typed o))
-    ++ fault_if BadValue (is_text (λ t. not (has_form r o t)) v)
+    ++ fault_if BadValue (lacks_form r o v)
     ++ fault_if BadPeriod (is_period o && is_text (λ t. is_none (period_of t)) v)
     ++ fault_if NotDuration (is_period o && is_text (λ t. option_map_or (λ p. is_none (sided s p)) (period_of t) false) v)
+    ++ fault_if UnknownMember (is_explicit o && is_text (λ t. not (is_known_member r t)) v)
 
 -- What a dimension gives a fact: nothing, nil, or a text.
 abbrev pub entry_of : Role → Side → Meaning → Option (Option (List ℕ))
@@ -216,6 +208,7 @@ entry_of o s m.Nil = Some None
 entry_of o s m.Empty = Some (Some [])
 entry_of role.Period s (m.Text t) = option_map (λ p. Some (period_text p)) (option_and_then (sided s) (period_of t))
 entry_of role.Language s (m.Text t) = option_map Some (language_of t)
+entry_of (role.TypedBy y) s (m.Text t) = Some (Some (trimmed t))
 entry_of o s (m.Text t) = Some (Some t)
 
 abbrev is_pure_unit : UnitKind → Bool
@@ -277,10 +270,45 @@ abbrev pub fact_value : Cell → Kind → Result ValueParts CellFault
 fact_value c k = value_given c.report k (fact_meaning c)
 
 abbrev pub decimals_faults : Cell → Kind → List CellFault
-decimals_faults c k = decimals_faults_of k (fact_meaning c) (accuracy_in (fact_value c k)) (stated c)
+decimals_faults c k = decimals_faults_of k (fact_meaning c) (suffix_given k (fact_meaning c)) (stated c)
+
+-- The unit that a concept wants, of a nil fact too: a currency or shares (XBRL 2.1, section 4.8.2).
+-- A unit that is not well-formed has the lesser fault BadValue.
+abbrev pub lacks_unit : ReportValue → ValueType → Meaning → Bool
+lacks_unit r item.Monetary v = is_absent v || is_text (λ t. not (is_currency r.namespaces t)) v
+lacks_unit r item.Shares v = is_absent v || is_text (λ t. not (is_shares r.namespaces t)) v
+lacks_unit r _ v = false
+
+-- The period that a concept wants: an instant, or a duration or none, which means for ever (XBRL
+-- 2.1, sections 4.7.2 and 5.1.1.1).
+abbrev pub is_of_type : PeriodType → Reading → Bool
+is_of_type Instant (instant at) = true
+is_of_type Instant (duration start end) = false
+is_of_type Duration (instant at) = false
+is_of_type Duration (duration start end) = true
+
+abbrev pub is_instant_type : PeriodType → Bool
+is_instant_type Instant = true
+is_instant_type Duration = false
+
+abbrev pub lacks_period : PeriodType → Side → Meaning → Bool
+lacks_period p s m.Absent = is_instant_type p
+lacks_period p s (m.Text t) = option_map_or (λ reading. not (is_of_type p reading)) (option_and_then (sided s) (period_of t)) false
+lacks_period p s _ = false
+
+-- The faults of what a concept wants of unit and period. Only one with the type of its values wants
+-- anything.
+abbrev pub wanted_faults_of : ReportValue → Concept → Meaning → Side → Meaning → List CellFault
+wanted_faults_of r a u s v =
+    fault_if BadUnit (lacks_unit r a.value u)
+    ++ fault_if WrongPeriod (option_map_or (λ p. lacks_period p s v) a.period false)
+
+abbrev pub wanted_faults : Cell → Kind → List CellFault
+wanted_faults c k =
+    option_map_or (λ a. wanted_faults_of c.report a (given c (codes "unit")) (side_given c (codes "period")) (given c (codes "period"))) (concept_in k) []
 
 unfoldable pub rest_faults : Cell → Kind → List CellFault
-rest_faults c k = flat_map (dimension_faults c k) (names (levels c)) ++ decimals_faults c k ++ faults_in (fact_value c k)
+rest_faults c k = flat_map (dimension_faults c k) (names (levels c)) ++ decimals_faults c k ++ wanted_faults c k ++ faults_in (fact_value c k)
 
 -- THE FACT
 
@@ -297,7 +325,7 @@ decimals_given k v suffix s =
     else None
 
 abbrev pub fact_decimals : Cell → Kind → Option ℤ
-fact_decimals c k = decimals_given k (fact_meaning c) (accuracy_in (fact_value c k)) (stated c)
+fact_decimals c k = decimals_given k (fact_meaning c) (suffix_given k (fact_meaning c)) (stated c)
 
 -- A name and its entry.
 abbrev pub named_entry : List ℕ → Option (Option (List ℕ)) → List (List ℕ × Option (List ℕ))

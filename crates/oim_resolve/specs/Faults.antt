@@ -4,7 +4,7 @@ use Rattle.std.specs.Prelude.{ℕ, codes, List, [], ◌∷◌, Bool, true, false
 use Rattle.std.specs.Option.{option_map_or}
 use Rattle.oim_resolve.specs.declared.fact.CellFault.{CellFault}
 use Rattle.oim_resolve.specs.declared.fact.CellFault.TheVariants.{UnknownSpecial, UnknownGroup, NoConcept, UnknownName, BadReference, BadValue}
-use Rattle.oim_resolve.specs.declared.fact.CellFault.TheVariants.{BadPeriod, NotDuration, BadDecimals, BadNumber, Memory, BadFactValue}
+use Rattle.oim_resolve.specs.declared.fact.CellFault.TheVariants.{BadPeriod, NotDuration, BadDecimals, BadNumber, Memory, BadFactValue, BadUnit, WrongPeriod, UnknownMember}
 
 abbrev pub number_of : CellFault → ℕ
 number_of UnknownSpecial = 31
@@ -19,6 +19,9 @@ number_of BadDecimals = 39
 number_of BadNumber = 40
 number_of Memory = 42
 number_of BadFactValue = 44
+number_of BadUnit = 45
+number_of WrongPeriod = 46
+number_of UnknownMember = 47
 
 abbrev pub name_of : CellFault → List ℕ
 name_of UnknownSpecial = codes "UnknownSpecial"
@@ -33,6 +36,9 @@ name_of BadDecimals = codes "BadDecimals"
 name_of BadNumber = codes "BadNumber"
 name_of Memory = codes "Memory"
 name_of BadFactValue = codes "BadFactValue"
+name_of BadUnit = codes "BadUnit"
+name_of WrongPeriod = codes "WrongPeriod"
+name_of UnknownMember = codes "UnknownMember"
 
 -- The set that has a fault exactly if the test holds.
 abbrev pub fault_if : CellFault → Bool → List CellFault

@@ -3,6 +3,8 @@ pub mod Written
 pub mod Values
 pub mod FactParts
 pub mod Faults
+pub mod Kinds
+pub mod SimpleForms
 pub mod FactValues
 pub mod Facts
 pub mod Order

@@ -7,6 +7,7 @@ mod dimensions;
 mod groups;
 mod texts;
 mod value;
+mod wanted;
 
 ghost use Rattle.std.specs.Prelude.{◌≡◌, ◌⊎◌, IfSome};
 ghost use Rattle.oim_cells.specs.Cells.{seen_meaning};
@@ -63,8 +64,9 @@ fn fact_at(alloc: Global, place: CellAt<'_>) -> Result<Option<Fact>, CellFault>
 ///
 /// - the cell and its group cells: `UnknownSpecial`, `UnknownGroup`;
 /// - the concept: `UnknownSpecial`, `NoConcept`, `UnknownName`, `BadReference`;
-/// - the other dimensions, the decimals and the value: `UnknownSpecial`, `BadReference`,
-///   `BadValue`, `BadPeriod`, `NotDuration`, `BadDecimals`, `BadNumber`, `BadFactValue`.
+/// - the other dimensions, the decimals, the unit and the period that the concept wants, and the
+///   value: `UnknownSpecial`, `BadReference`, `BadValue`, `BadPeriod`, `NotDuration`,
+///   `BadDecimals`, `BadNumber`, `BadFactValue`, `BadUnit`, `WrongPeriod`, `UnknownMember`.
 ///
 /// Returns `Memory` if memory runs out. The first two steps take no memory, so their result does
 /// not depend on it.

@@ -4,5 +4,5 @@ mod concept;
 mod value;
 
 pub use concept::read_concept;
-pub(crate) use concept::{is_numeric, kind_of_name};
+pub(crate) use value::sided;
 pub use value::{Entry, read_value};

@@ -144,8 +144,14 @@ pub enum CellFault {
     BadNumber,
     /// Memory ran out.
     Memory,
-    /// The cell of a boolean, a date or a name is not well-formed.
+    /// The cell of a boolean, a date, a name or another type with a form is not well-formed.
     BadFactValue,
+    /// The unit is missing or not the one that the concept wants.
+    BadUnit,
+    /// The period is missing or not of the type that the concept wants.
+    WrongPeriod,
+    /// The types table names no such member.
+    UnknownMember,
 }
 
 impl CellFault {
@@ -170,6 +176,11 @@ impl CellFault {
             CellFault::BadFactValue => {
                 "the cell of a boolean, date or name is not well-formed, or its prefix is not declared"
             }
+            CellFault::BadUnit => "the unit is not the one that the concept wants, or is missing",
+            CellFault::WrongPeriod => {
+                "the period is not of the type that the concept wants, or is missing"
+            }
+            CellFault::UnknownMember => "the types table names no such member",
         }
     }
 }
@@ -184,7 +195,7 @@ impl Display for CellFault {
 impl Error for CellFault {}
 
 impl CellFault {
-    /// Returns the number of the fault: 31 to 40, 42 or 44.
+    /// Returns the number of the fault: 31 to 40, 42 or 44 to 47.
     pub fn number(&self) -> u32
         ensures { result ≡ number_of self.now }
     {
@@ -201,6 +212,9 @@ impl CellFault {
             CellFault::BadNumber => 40,
             CellFault::Memory => 42,
             CellFault::BadFactValue => 44,
+            CellFault::BadUnit => 45,
+            CellFault::WrongPeriod => 46,
+            CellFault::UnknownMember => 47,
         }
     }
 
@@ -221,6 +235,9 @@ impl CellFault {
             CellFault::BadNumber => "BadNumber",
             CellFault::Memory => "Memory",
             CellFault::BadFactValue => "BadFactValue",
+            CellFault::BadUnit => "BadUnit",
+            CellFault::WrongPeriod => "WrongPeriod",
+            CellFault::UnknownMember => "UnknownMember",
         }
     }
 }

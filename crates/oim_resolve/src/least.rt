@@ -2,7 +2,7 @@
 
 ghost use Rattle.std.specs.Prelude.{◌≡◌};
 ghost use Rattle.oim_resolve.specs.Faults.{lesser};
-ghost use Rattle.oim_resolve.specs.state.ProgramFaults.{both};
+ghost use Rattle.oim_resolve.specs.state.ProgramFaults.{both, or_fault};
 
 use crate::fact::CellFault;
 
@@ -28,5 +28,19 @@ pub(crate) fn both<A: Drop, B: Drop>(
         (Ok(first), Ok(second)) => Ok((first, second)),
         (Ok(_), Err(fault)) | (Err(fault), Ok(_)) => Err(fault),
         (Err(first), Err(second)) => Err(lesser(first, second)),
+    }
+}
+
+/// Returns the reading, or the lesser of its fault and another fault, if there is one.
+pub(crate) fn or_fault<A: Drop>(
+    reading: Result<A, CellFault>,
+    fault: Option<CellFault>,
+) -> Result<A, CellFault>
+    ensures { result ≡ or_fault reading fault }
+{
+    match (reading, fault) {
+        (reading, None) => reading,
+        (Ok(_), Some(fault)) => Err(fault),
+        (Err(first), Some(second)) => Err(lesser(first, second)),
     }
 }

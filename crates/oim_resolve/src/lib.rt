@@ -10,7 +10,7 @@
 //!   the levels of its own column write.
 //! - `levels` tells what several levels write: names, dimensions and decimals.
 //! - `read_value` reads one dimension, `read_concept` a concept, and `fact_value` the fact's cell
-//!   by the kind of its concept.
+//!   by the kind of its concept. `read_set` reads a set of members.
 //!
 //! In `specs/`, the files named `Program..` define what contracts see of references and of the
 //! value that is read from a cell. The others hold the rules. `specs/state/` describes what the
@@ -35,6 +35,9 @@
 mod cell;
 mod dimension;
 mod fact;
+mod forms;
+mod kinds;
+mod language;
 mod least;
 pub mod levels;
 mod reading;
@@ -43,5 +46,6 @@ mod role;
 pub use cell::{resolve, side_of};
 pub use dimension::{Entry, read_concept, read_value};
 pub use fact::{CellFault, Fact, Row};
-pub use reading::{FactValue, fact_value};
+pub use kinds::is_known_member;
+pub use reading::{FactValue, ValueText, fact_value, read_set};
 pub use role::Role;

@@ -1,21 +1,17 @@
 //! What the rings of one report share: the count of facts waiting in them, the feeds that are held
 //! back, and spare vectors for new blocks.
 //!
-//! Which feed is woken, and why no feed is held back for ever:
+//! A feed waits at most for its turn: the writer's table is never held back, and the writer wakes
+//! the feed of each table that it reaches. The model of `oim_waiting` proves that no such wake is
+//! lost, and that while there is space and a feed sleeps, somebody is about to call one. The
+//! functions that wait and wake note the model's steps, and their contracts name the order.
 //!
-//! - The writer's table is never held back. When the writer reaches a ring, it always wakes that
-//!   ring's feed. So a feed waits at most for its turn, and the writer reaches each table
-//!   (`waiting`).
-//! - **No wake is lost.** A feed first announces that it will sleep, then is counted as held back,
-//!   and only then checks whether it still has to wait. The other side first changes the count of
-//!   facts, or the turn, and then checks for feeds that are held back. All these steps are in one
-//!   order, so the feed sees the change or the other side sees the feed. A wake between the
-//!   announcement and the sleep ends that sleep.
 //! - **One at a time.** A block that is taken frees space for one block, so one feed is called: the
 //!   next in table order, counted from the writer's table, because its facts are needed first. A
 //!   place from which a feed was called is skipped until that feed continues, so two blocks that
-//!   are taken call two feeds. A feed that puts a block while there is space calls the next feed.
-//!   If a called feed finds the space used, it sleeps again, and may be called again.
+//!   are taken call two feeds. A feed that puts a block while there is space calls the next feed,
+//!   and so does one whose ring turns out to be full. If a called feed finds the space used, it
+//!   sleeps again, and may be called again.
 //! - Feeds of 64 tables sleep at 64 places. Two feeds at one place, of tables 64 apart, are called
 //!   one after the other, and are woken together when the writer reaches one of them. The other one
 //!   then sleeps again.
@@ -23,10 +19,16 @@
 //! The limit counts facts, not blocks, because a block of a few facts takes little memory. So
 //! workers that decode many short tables are not held back for each of them.
 //!
-//! Not proved: all of this. No contract speaks of the backlog.
+//! Not proved: which feeds are held back and called, and that each function does the step that it
+//! notes.
+
+ghost use Rattle.std.specs.Prelude.{◌≡◌, [], ◌∷◌, ◌++◌};
+ghost use Rattle.oim_waiting.specs.state.Orders.{letting_go, one_wait};
+ghost use Rattle.oim_waiting.specs.declared.steps.TurnStep.TheVariants.{Announce, Look, Sleep, Rise, Change, Wake};
 
 use crossbeam_queue::ArrayQueue;
-use crossbeam_utils::sync::EventCount;
+use crossbeam_utils::sync::{EventCount, Key};
+use oim_waiting::{Steps, TurnStep};
 use std::alloc::{AllocError, Global};
 use std::sync::atomic::{AtomicBool, AtomicUsize, Ordering};
 use std::sync::{Arc, Wait};
@@ -119,45 +121,141 @@ impl Backlog {
         self.sleepers.as_slice().get(table % GROUPS)
     }
 
+    /// Says that the writer takes from the ring of a table.
+    fn set_turn(&self, table: usize, steps: &mut Steps<TurnStep>)
+        ensures { steps.new ≡ steps.old ++ Change ∷ [] }
+    {
+        self.turn.store(table, Ordering::SeqCst);
+        steps.take(TurnStep::Change);
+    }
+
     /// Wakes the feed of a table, if it is held back.
-    fn wake(&self, table: usize) {
+    fn wake(&self, table: usize, steps: &mut Steps<TurnStep>)
+        ensures { steps.new ≡ steps.old ++ Wake ∷ [] }
+    {
         if let Some(place) = self.place(table) {
             place.changed.notify_all();
         }
+        steps.take(TurnStep::Wake);
+    }
+
+    /// Lets the feed of a table go on whose turn it is.
+    fn reach(&self, table: usize, steps: &mut Steps<TurnStep>)
+        ensures { steps.new ≡ steps.old ++ letting_go }
+    {
+        self.set_turn(table, steps);
+        self.wake(table, steps);
+    }
+
+    /// Counts facts that wait from now on.
+    fn add(&self, facts: usize, steps: &mut Steps<TurnStep>)
+        ensures { steps.new ≡ steps.old ++ Change ∷ [] }
+    {
+        self.waiting.fetch_add(facts, Ordering::SeqCst);
+        steps.take(TurnStep::Change);
+    }
+
+    /// Counts facts that wait no more.
+    fn subtract(&self, facts: usize, steps: &mut Steps<TurnStep>)
+        ensures { steps.new ≡ steps.old ++ Change ∷ [] }
+    {
+        self.waiting.fetch_sub(facts, Ordering::SeqCst);
+        steps.take(TurnStep::Change);
     }
 
     /// Calls a feed that is held back, if there is space for a block: the next in table order from
     /// the writer's table, without the places from which one was called already.
-    fn call_next(&self) {
-        if self.held.load(Ordering::SeqCst) == 0 || self.is_full() {
-            return;
+    fn call_next(&self, steps: &mut Steps<TurnStep>)
+        ensures { steps.new ≡ steps.old ++ Wake ∷ [] }
+    {
+        if self.held.load(Ordering::SeqCst) > 0 && !self.is_full() {
+            self.call_from(self.turn.load(Ordering::SeqCst));
         }
-        let turn = self.turn.load(Ordering::SeqCst);
+        steps.take(TurnStep::Wake);
+    }
+
+    /// Calls a feed of the first place that has one to call, from this table's place on.
+    fn call_from(&self, table: usize) {
         for ahead in 0..GROUPS {
-            let place = self.place(turn.wrapping_add(ahead));
+            let place = self.place(table.wrapping_add(ahead));
             if place.is_some_and(|place| place.call()) {
                 return;
             }
         }
     }
 
-    /// Sleeps at the table's place until a call, if the table's feed is held back.
-    fn sleep<R: Wait>(&self, rt: &R, table: usize) {
-        let Some(place) = self.place(table) else {
-            return;
-        };
+    /// Notes that more facts wait, and calls a feed if there is space yet.
+    fn put(&self, facts: usize, steps: &mut Steps<TurnStep>)
+        ensures { steps.new ≡ steps.old ++ letting_go }
+    {
+        self.add(facts, steps);
+        self.call_next(steps);
+    }
+
+    /// Notes that fewer facts wait, and calls a feed if there is space.
+    fn take(&self, facts: usize, steps: &mut Steps<TurnStep>)
+        ensures { steps.new ≡ steps.old ++ letting_go }
+    {
+        self.subtract(facts, steps);
+        self.call_next(steps);
+    }
+
+    /// Announces that a feed may sleep at a place: counts it as held back.
+    fn announce<'a>(&'a self, place: &'a Sleepers, steps: &mut Steps<TurnStep>) -> Key<'a>
+        ensures { steps.new ≡ steps.old ++ Announce ∷ [] }
+    {
         let change = place.changed.prepare_wait();
         // A call may have been made just after its feed continued.
         place.called.store(false, Ordering::SeqCst);
         place.held.fetch_add(1, Ordering::SeqCst);
         self.held.fetch_add(1, Ordering::SeqCst);
-        if self.holds(table) {
-            change.wait(rt);
-        }
+        steps.take(TurnStep::Announce);
+        change
+    }
+
+    /// Looks whether the feed of a table has to wait.
+    fn look(&self, table: usize, steps: &mut Steps<TurnStep>) -> bool
+        ensures { steps.new ≡ steps.old ++ Look result ∷ [] }
+    {
+        let must_wait = self.holds(table);
+        steps.take(TurnStep::Look(must_wait));
+        must_wait
+    }
+
+    /// Counts a feed as held back no more.
+    fn leave(&self, place: &Sleepers) {
         self.held.fetch_sub(1, Ordering::SeqCst);
         place.held.fetch_sub(1, Ordering::SeqCst);
         place.called.store(false, Ordering::SeqCst);
     }
+
+    /// Sleeps at a place until a call, if the table's feed is held back. Returns whether it was.
+    fn wait_at<R: Wait>(
+        &self,
+        rt: &R,
+        place: &Sleepers,
+        table: usize,
+        steps: &mut Steps<TurnStep>,
+    ) -> bool
+        ensures { steps.new ≡ steps.old ++ one_wait result }
+    {
+        let change = self.announce(place, steps);
+        let must_wait = self.look(table, steps);
+        if must_wait {
+            sleep(rt, change, steps);
+        }
+        self.leave(place);
+        must_wait
+    }
+}
+
+/// Sleeps until a wake after the announcement.
+fn sleep<R: Wait>(rt: &R, change: Key<'_>, steps: &mut Steps<TurnStep>)
+    ensures { steps.new ≡ steps.old ++ Sleep ∷ Rise ∷ [] }
+{
+    change.wait(rt);
+    steps.take(TurnStep::Sleep);
+    steps.take(TurnStep::Rise);
 }
 
 /// A handle to the report's backlog. Each end of a table's ring has one.
@@ -188,21 +286,24 @@ impl BacklogHandle {
 
     /// Notes that a block of `facts` facts is put into the ring.
     pub(crate) fn more(&self, facts: usize) {
-        self.backlog.waiting.fetch_add(facts, Ordering::SeqCst);
-        self.backlog.call_next();
+        self.backlog.put(facts, &mut Steps::none());
     }
 
     /// Notes that a block of `facts` facts was taken from the ring.
     pub(crate) fn less(&self, facts: usize) {
-        self.backlog.waiting.fetch_sub(facts, Ordering::SeqCst);
-        self.backlog.call_next();
+        self.backlog.take(facts, &mut Steps::none());
+    }
+
+    /// Notes that the feed cannot use the space for which it may have been called, and calls
+    /// another one.
+    pub(crate) fn pass_on(&self) {
+        self.backlog.call_next(&mut Steps::none());
     }
 
     /// Notes that the writer now takes from this table's ring, and wakes its feed.
     pub(crate) fn take_turn(&self) {
         if self.backlog.turn.load(Ordering::SeqCst) != self.table {
-            self.backlog.turn.store(self.table, Ordering::SeqCst);
-            self.backlog.wake(self.table);
+            self.backlog.reach(self.table, &mut Steps::none());
         }
     }
 
@@ -235,7 +336,10 @@ impl BacklogHandle {
             if !self.is_held() {
                 return;
             }
-            self.backlog.sleep(rt, self.table);
+            if let Some(place) = self.backlog.place(self.table) {
+                self.backlog
+                    .wait_at(rt, place, self.table, &mut Steps::none());
+            }
         }
         unreachable!()
     }

@@ -4,12 +4,15 @@ ghost use Rattle.std.specs.Prelude.{◌≡◌, false, [], ◌∷◌, ◌++◌, I
 ghost use Rattle.rtrb.specs.Ring.{received};
 ghost use Rattle.oim_ring.specs.state.Ends.{taker_ring};
 ghost use Rattle.oim_ring.specs.Items.{blocks_only};
+ghost use Rattle.oim_waiting.specs.state.Orders.{HasTaken};
+ghost use Rattle.oim_waiting.specs.declared.steps.RoomStep.TheVariants.{Take};
 
 use crate::backlog::BacklogHandle;
 use crate::feed::Closed;
 use crate::item::Item;
 use crate::waiting::DrainWaiting;
 use oim_json::Block;
+use oim_waiting::{RoomStep, Steps};
 use rtrb::Consumer;
 use std::marker::Model;
 use std::sync::Wait;
@@ -77,12 +80,25 @@ impl Drain {
         ensures none { IfNone result (self.new.taken ≡ self.old.taken) }
     {
         self.backlog.take_turn();
+        self.take_noting(&mut Steps::none())
+    }
+
+    /// Does the work of `take`, once the writer has reached this drain.
+    fn take_noting(&mut self, steps: &mut Steps<RoomStep>) -> Option<Item>
+        ensures ring { self.new.ring ≡ self.old.ring }
+        ensures some { IfSome result (λ item. self.new.taken ≡ self.old.taken ++ item ∷ []) }
+        ensures none { IfNone result (self.new.taken ≡ self.old.taken) }
+        ensures tried { IfNone result (steps.new ≡ steps.old ++ Take ∷ []) }
+        ensures looked { IfSome result (λ item. HasTaken steps.old steps.new) }
+    {
+        steps.take(RoomStep::Take);
         let item = self.consumer.pop().ok()?;
         if let Item::Block(block) = &item {
             self.backlog.less(block.count());
         }
         let left = self.consumer.slots();
-        self.waiting.wake(left);
+        steps.take(RoomStep::Count);
+        self.waiting.wake(left, steps);
         Some(item)
     }
 
@@ -90,7 +106,7 @@ impl Drain {
     /// although nothing was sent. The feed wakes it after every few items, when it finds no room
     /// and at the close. Call it if `take` returned `None`. The items taken stay the same.
     pub fn wait<R: Wait>(&self, rt: &R) {
-        self.waiting.wait(rt);
+        self.waiting.wait(rt, &mut Steps::none());
     }
 
     /// Gives back the vector of a block's texts for later blocks, unless enough spare vectors are

@@ -4,18 +4,20 @@
 //! and `Feed::is_reached`, which spare vector `Feed::kept_spare` returns, and what was sent if
 //! `Feed::close` fails with `Lost`.
 
-ghost use Rattle.std.specs.Prelude.{◌≡◌, ◌<◌, ◌≤◌, ◌-◌, [], ◌∷◌, ◌++◌, true, length, IsOk, OnOk, IfErr};
+ghost use Rattle.std.specs.Prelude.{◌≡◌, ◌<◌, ◌≤◌, ◌-◌, ◌/◌, [], ◌∷◌, ◌++◌, true, length, IsOk, OnOk, OnErr, IfErr};
 ghost use Rattle.rtrb.specs.Ring.{sent, producer_capacity};
 ghost use Rattle.oim_ring.specs.Closing.{Closes};
 ghost use Rattle.oim_ring.specs.state.Ends.{sender_ring};
 ghost use Rattle.oim_ring.specs.FaultNames.{name_of, number_of};
 ghost use Rattle.oim_ring.specs.Items.{blocks_only};
 ghost use Rattle.oim_ring.specs.declared.item.Item.TheVariants as items;
+ghost use Rattle.oim_waiting.specs.state.Orders.{finding_none};
 
 use crate::backlog::BacklogHandle;
 use crate::item::{Ending, Item};
 use crate::waiting::FeedWaiting;
 use oim_json::Block;
+use oim_waiting::{RoomStep, Steps};
 use rtrb::{Finished, Producer};
 use std::marker::Model;
 use std::sync::Wait;
@@ -132,11 +134,25 @@ impl Feed {
         ensures room { length self.old.sent < self.old.size → IsOk result }
         ensures open { blocks_only self.new.sent ≡ true }
     {
+        self.put_noting(block, &mut Steps::none())
+    }
+
+    /// Does the work of `put`.
+    fn put_noting(&mut self, block: Block, steps: &mut Steps<RoomStep>) -> Result<(), Block>
+        ensures ring { (self.new.ring ≡ self.old.ring) × (self.new.size ≡ self.old.size) }
+        ensures ok { OnOk result (self.new.sent ≡ self.old.sent ++ items.Block block ∷ []) }
+        ensures full { IfErr result (λ back. (back ≡ block) × (self.new ≡ self.old)) }
+        ensures room { length self.old.sent < self.old.size → IsOk result }
+        ensures open { blocks_only self.new.sent ≡ true }
+        ensures steps { OnErr result (steps.new ≡ steps.old ++ finding_none self.old.size 18446744073709551615) }
+    {
         let facts = block.count();
         match self.send(block) {
             Ok(()) => {}
             Err(back) => {
-                self.waiting.await_any();
+                steps.take(RoomStep::Put(self.room()));
+                self.backlog.pass_on();
+                self.waiting.await_any(steps);
                 return Err(back);
             }
         }
@@ -161,10 +177,10 @@ impl Feed {
         Ok(())
     }
 
-    /// Sends a block as `put` does, if fewer than `most` blocks are known to wait in the ring.
-    /// Otherwise the error gives the block back, as if the ring were full. It succeeds while the
-    /// count of items sent is below `most` and below the ring's size. It wakes the drain less often
-    /// than `put`.
+    /// Sends a block as `put` does, if fewer than `most` blocks are known to wait in the ring, or
+    /// none. Otherwise the error gives the block back, as if the ring were full. It succeeds while
+    /// the count of items sent is below `most` and below the ring's size. It wakes the drain less
+    /// often than `put`.
     pub fn put_below(&mut self, block: Block, most: usize) -> Result<(), Block>
         ensures ring { (self.new.ring ≡ self.old.ring) × (self.new.size ≡ self.old.size) }
         ensures ok { OnOk result (self.new.sent ≡ self.old.sent ++ items.Block block ∷ []) }
@@ -172,13 +188,40 @@ impl Feed {
         ensures room { length self.old.sent < self.old.size → length self.old.sent < most → IsOk result }
         ensures open { blocks_only self.new.sent ≡ true }
     {
-        let most = most.min(self.room());
+        let most = most.min(self.room()).max(1);
+        self.put_among(block, most, &mut Steps::none())
+    }
+
+    /// Does the work of `put_below`, for a `most` that is at least 1 and at most the ring's size.
+    fn put_among(
+        &mut self,
+        block: Block,
+        most: usize,
+        steps: &mut Steps<RoomStep>,
+    ) -> Result<(), Block>
+        ensures ring { (self.new.ring ≡ self.old.ring) × (self.new.size ≡ self.old.size) }
+        ensures ok { OnOk result (self.new.sent ≡ self.old.sent ++ items.Block block ∷ []) }
+        ensures full { IfErr result (λ back. (back ≡ block) × (self.new ≡ self.old)) }
+        ensures room { length self.old.sent < self.old.size → length self.old.sent < most → IsOk result }
+        ensures open { blocks_only self.new.sent ≡ true }
+        ensures steps { OnErr result (steps.new ≡ steps.old ++ finding_none most (most / 4)) }
+    {
         let waiting = self.waiting_blocks();
-        if waiting >= most {
-            self.waiting.await_few(most);
-            return Err(block);
+        let is_room = waiting < most;
+        let sent = if is_room {
+            self.send(block)
+        } else {
+            Err(block)
+        };
+        match sent {
+            Ok(()) => {}
+            Err(again) => {
+                steps.take(RoomStep::Put(most));
+                self.backlog.pass_on();
+                self.waiting.await_few(most, steps);
+                return Err(again);
+            }
         }
-        self.send(block)?;
         self.waiting.tell_of(waiting.saturating_add(1), most);
         Ok(())
     }
@@ -217,7 +260,7 @@ impl Feed {
         match producer.push(Item::Ending(ending)) {
             Ok(()) => {}
             Err(_) => {
-                waiting.await_any();
+                waiting.await_any(&mut Steps::none());
                 let feed = Feed {
                     producer,
                     kept,
@@ -228,7 +271,7 @@ impl Feed {
             }
         }
         let finished = producer.finish();
-        waiting.wake();
+        waiting.wake(&mut Steps::none());
         match finished {
             Some(finished) => Ok(Closed { finished }),
             None => Err(CloseFault::Lost),
@@ -239,7 +282,7 @@ impl Feed {
     /// until it has taken three quarters of the blocks if `put_below` gave the block back. May
     /// return earlier. Call it only then. The items sent stay the same.
     pub fn wait<R: Wait>(&self, rt: &R) {
-        self.waiting.wait(rt);
+        self.waiting.wait(rt, &mut Steps::none());
     }
 
     /// Waits while the report's limit of waiting facts is reached and the writer has not reached

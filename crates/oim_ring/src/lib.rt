@@ -17,9 +17,12 @@
 //! opens the rings of one report. Its feeds wait for their turn while too many facts wait in all
 //! rings together. The contracts of these calls only keep what was sent and taken.
 //!
+//! The functions that wait and wake note the steps of the model in `oim_waiting`, in the order in
+//! which it is proved to lose no wake.
+//!
 //! Not proved, only tested: that a ring holds no more items than its size; that `take` finds what
-//! was put; that `close` returns the token while the drain exists; that a wait ends; and that feeds
-//! are held back. What was sent if `close` fails with `Lost` is open.
+//! was put; that `close` returns the token while the drain exists; that each function does the step
+//! that it notes; and that feeds are held back. What was sent if `close` fails with `Lost` is open.
 //!
 //! A call:
 //!

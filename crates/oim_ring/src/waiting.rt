@@ -1,17 +1,17 @@
-//! How the two ends of a ring wait for each other, and why each wait ends.
+//! How the two ends of a ring wait for each other.
 //!
-//! Not proved: that these waits end. The writer waits for an item. A worker waits for room in its
-//! ring and for its turn (`backlog`). The argument needs these facts of the other crates:
+//! The model of `oim_waiting` proves that a feed which found no room and sleeps was woken, or an
+//! item waits for its drain, or the drain is about to wake it. It also proves that both ends never
+//! sleep unless one of them was woken. The functions of the two ends note the model's steps.
 //!
-//! - Elsewhere a worker waits only for a piece of its table that a helper thread is decoding, and
-//!   at the table's end for these threads. They have ended by then or find that no more pieces are
-//!   sent.
-//! - A helper thread waits only for a piece.
-//! - A call that passes on a spare vector waits only for a call of that kind that is under way.
+//! Not proved: that each function does the step that it notes, and that the threads run. The rest
+//! of the argument that each wait ends:
 //!
-//! The argument:
-//!
-//! - The writer sleeps for at most a few milliseconds and then checks again. So it needs no wake; a
+//! - Elsewhere a worker waits only for its turn (`backlog`), for a piece of its table that a helper
+//!   thread is decoding, and at the table's end for these threads. They have ended by then or find
+//!   that no more pieces are sent. A helper thread waits only for a piece. A call that passes on a
+//!   spare vector waits only for a call of that kind that is under way.
+//! - A drain sleeps for at most a few milliseconds and then checks again. So it needs no wake; a
 //!   wake only ends its sleep early.
 //! - The writer waits only for the table that it has reached, and that table's feed is never held
 //!   back. So it waits only while the table's reader gives nothing, or until a thread runs that can
@@ -22,12 +22,12 @@
 //!   started, the caller's thread closes all feeds before it writes, and each ring has room for its
 //!   ending.
 //! - After a failed write the writer takes items as before, up to the ending of each table.
-//! - **Room in its ring.** A feed sleeps on its Parker if its ring is full, or holds as many blocks
-//!   as the feed may put, at least one. It sleeps until it is given the token. The drain first
-//!   takes an item and then gives the token if few items are left, at the latest if none is. The
-//!   token stays until a sleep takes it. So a feed that sleeps has found these items after the last
-//!   token was given. The writer reaches the table, takes all of them, and the feed continues.
 
+ghost use Rattle.std.specs.Prelude.{◌≡◌, ◌/◌, [], ◌∷◌, ◌++◌};
+ghost use Rattle.oim_waiting.specs.state.Orders.{asking, looking_back};
+ghost use Rattle.oim_waiting.specs.declared.steps.RoomStep.TheVariants.{Ask, Compare, DrainRise, DrainSleep, FeedRise, FeedSleep, Give, Tell};
+
+use oim_waiting::{RoomStep, Steps};
 use std::alloc::{AllocError, Global};
 use std::sync::atomic::{AtomicU64, AtomicUsize, Ordering};
 use std::sync::{Arc, Wait};
@@ -121,7 +121,7 @@ impl FeedWaiting {
     pub(crate) fn tell(&mut self, facts: usize) {
         self.untold = self.untold.saturating_add(facts);
         if self.untold >= self.stride {
-            self.wake();
+            self.wake(&mut Steps::none());
         }
     }
 
@@ -129,54 +129,97 @@ impl FeedWaiting {
     /// three quarters, wakes the drain. A drain that is not woken finds them after its sleep.
     pub(crate) fn tell_of(&mut self, waiting: usize, most: usize) {
         if waiting >= most - most / 4 {
-            self.wake();
+            self.wake(&mut Steps::none());
         }
     }
 
     /// Notes that the feed is about to wait until a quarter of `most` items is left, and wakes the
     /// drain.
-    pub(crate) fn await_few(&mut self, most: usize) {
-        self.parkers.few.store(most / 4, Ordering::SeqCst);
-        self.wake();
+    pub(crate) fn await_few(&mut self, most: usize, steps: &mut Steps<RoomStep>)
+        ensures { steps.new ≡ steps.old ++ asking (most / 4) }
+    {
+        self.ask(most / 4, steps);
+        self.wake(steps);
     }
 
     /// Notes that the feed is about to wait until an item is taken, and wakes the drain.
-    pub(crate) fn await_any(&mut self) {
-        self.parkers.few.store(usize::MAX, Ordering::SeqCst);
-        self.wake();
+    pub(crate) fn await_any(&mut self, steps: &mut Steps<RoomStep>)
+        ensures { steps.new ≡ steps.old ++ asking 18446744073709551615 }
+    {
+        self.ask(usize::MAX, steps);
+        self.wake(steps);
+    }
+
+    /// Asks to be woken when at most `few` items are left.
+    fn ask(&self, few: usize, steps: &mut Steps<RoomStep>)
+        ensures { steps.new ≡ steps.old ++ Ask few ∷ [] }
+    {
+        self.parkers.few.store(few, Ordering::SeqCst);
+        steps.take(RoomStep::Ask(few));
     }
 
     /// Ends the drain's wait, or its next wait if it is not waiting.
-    pub(crate) fn wake(&mut self) {
+    pub(crate) fn wake(&mut self, steps: &mut Steps<RoomStep>)
+        ensures { steps.new ≡ steps.old ++ Tell ∷ [] }
+    {
         self.untold = 0;
         self.parkers.drain.unpark();
+        steps.take(RoomStep::Tell);
     }
 
     /// Waits until the drain wakes the feed. Returns at once if it did so since the last wait.
-    pub(crate) fn wait<R: Wait>(&self, rt: &R) {
+    pub(crate) fn wait<R: Wait>(&self, rt: &R, steps: &mut Steps<RoomStep>)
+        ensures { steps.new ≡ steps.old ++ FeedSleep ∷ FeedRise ∷ [] }
+    {
         self.parkers.feed.park(rt);
+        steps.take(RoomStep::FeedSleep);
+        steps.take(RoomStep::FeedRise);
     }
 }
 
 impl DrainWaiting {
     /// Notes that an item was taken and `left` are left. If these are few, ends the feed's wait, or
-    /// its next wait if it is not waiting.
-    pub(crate) fn wake(&self, left: usize) {
+    /// its next wait if it is not waiting. Returns whether they are.
+    pub(crate) fn wake(&self, left: usize, steps: &mut Steps<RoomStep>) -> bool
+        ensures { steps.new ≡ steps.old ++ looking_back result }
+    {
         if self.limit.load(Ordering::SeqCst) != SHORT_SLEEP {
             self.limit.store(SHORT_SLEEP, Ordering::SeqCst);
         }
-        if left <= self.parkers.few.load(Ordering::SeqCst) {
-            self.parkers.feed.unpark();
+        let are_few = self.compare(left, steps);
+        if are_few {
+            self.give(steps);
         }
+        are_few
+    }
+
+    /// Looks whether `left` items are few.
+    fn compare(&self, left: usize, steps: &mut Steps<RoomStep>) -> bool
+        ensures { steps.new ≡ steps.old ++ Compare ∷ [] }
+    {
+        steps.take(RoomStep::Compare);
+        left <= self.parkers.few.load(Ordering::SeqCst)
+    }
+
+    /// Ends the feed's wait, or its next wait if it is not waiting.
+    fn give(&self, steps: &mut Steps<RoomStep>)
+        ensures { steps.new ≡ steps.old ++ Give ∷ [] }
+    {
+        self.parkers.feed.unpark();
+        steps.take(RoomStep::Give);
     }
 
     /// Waits until the feed wakes the drain, or until a limit that doubles with each wait until an
     /// item is taken. Returns at once if the feed woke it since the last wait.
-    pub(crate) fn wait<R: Wait>(&self, rt: &R) {
+    pub(crate) fn wait<R: Wait>(&self, rt: &R, steps: &mut Steps<RoomStep>)
+        ensures { steps.new ≡ steps.old ++ DrainSleep ∷ DrainRise ∷ [] }
+    {
         let limit = self.limit.load(Ordering::SeqCst);
         let time = Duration::from_millis(limit);
         self.parkers.drain.park_timeout(rt, time);
         let next = limit.saturating_mul(2).min(LONG_SLEEP);
         self.limit.store(next, Ordering::SeqCst);
+        steps.take(RoomStep::DrainSleep);
+        steps.take(RoomStep::DrainRise);
     }
 }

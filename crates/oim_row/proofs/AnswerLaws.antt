@@ -1,18 +1,16 @@
--- What an answer asserts: nothing if it is silent, an absent value, and a text in a typed
--- dimension.
-use Rattle.std.proofs.Common.{◌≡◌, ℕ, true, List, [], ◌++◌, Option, Some, None, Ok, IfSome, codes, refl, ◌∙◌}
-use Rattle.oim_cells.specs.Cells.{Meaning, Absent, Text}
-use Rattle.oim_json.specs.JsonText.{decimals_text, quoted, value_text}
+-- What an answer asserts: nothing if it is silent, and a text in a typed dimension.
+use Rattle.std.proofs.Common.{◌≡◌, ℕ, true, List, ◌++◌, Option, Some, None, IfSome, codes, refl, ◌∙◌}
+use Rattle.oim_cells.specs.Cells.{Meaning, Text}
+use Rattle.oim_json.specs.JsonText.{quoted, value_text}
 use Rattle.oim_report.specs.ReportValue.{ReportValue}
 use Rattle.oim_report.specs.declared.data.Side.{Side}
 use Rattle.oim_report.specs.declared.kind.Kind.{Kind}
-use Rattle.oim_resolve.specs.Facts.{concept_read}
-use Rattle.oim_resolve.specs.declared.role.Role.TheVariants.{Concept, Entity, Period, Unit as AUnit, Language, Explicit, Typed}
-use Rattle.oim_row.specs.Answers.{IsAnswer, is_sound_for, json_for}
-use Rattle.oim_row.specs.state.Reading.{IsSilent, is_typed_purpose}
+use Rattle.oim_resolve.specs.declared.role.Role.TheVariants.{Concept, Entity, Period, Unit as AUnit, Language, Explicit, Typed, TypedBy}
+use Rattle.oim_row.specs.Answers.{IsAnswer, IsSilent, is_sound_for, json_for, kind_read}
+use Rattle.oim_row.specs.state.Reading.{is_typed_purpose}
 use Rattle.oim_row.specs.declared.answer.Answer.{Answer}
 use Rattle.oim_row.specs.declared.purpose.Purpose.{Purpose}
-use Rattle.oim_row.specs.declared.purpose.Purpose.TheVariants.{Dimension, Decimals}
+use Rattle.oim_row.specs.declared.purpose.Purpose.TheVariants.{Dimension, Decimals, WantedUnit, WantedPeriod}
 
 no_kind : (P : Kind → Type 0) (o : Option Kind) → o ≡ None → IfSome o P
 no_kind P None e = tt
@@ -23,36 +21,7 @@ pub silent : (r : ReportValue) (p : Purpose) (v : Meaning) (a : Answer) → IsSi
 silent r p v a s = record {
   sound = λ h. absurd (cc (s.sound, h));
   json = λ h. absurd (cc (s.sound, h));
-  concept = no_kind (λ k. concept_read r v ≡ Ok k) a.kind s.concept;
-}
-
-absent_sound : (r : ReportValue) (p : Purpose) → is_sound_for r p Absent ≡ true
-absent_sound r (Dimension Concept s) = refl
-absent_sound r (Dimension Entity s) = refl
-absent_sound r (Dimension Period s) = refl
-absent_sound r (Dimension AUnit s) = refl
-absent_sound r (Dimension Language s) = refl
-absent_sound r (Dimension Explicit s) = refl
-absent_sound r (Dimension Typed s) = refl
-absent_sound r Decimals = refl
-
-absent_json : (r : ReportValue) (p : Purpose) → [] ≡ json_for r p Absent
-unfolding decimals_text
-absent_json r (Dimension Concept s) = refl
-absent_json r (Dimension Entity s) = refl
-absent_json r (Dimension Period s) = refl
-absent_json r (Dimension AUnit s) = refl
-absent_json r (Dimension Language s) = refl
-absent_json r (Dimension Explicit s) = refl
-absent_json r (Dimension Typed s) = refl
-absent_json r Decimals = refl
-
--- The answer to an absent value.
-pub nothing_said : (r : ReportValue) (p : Purpose) (a : Answer) → a.json.items ≡ [] → a.kind ≡ None → IsAnswer r p Absent a
-nothing_said r p a json kind = record {
-  sound = λ h. absent_sound r p;
-  json = λ h. json ∙ absent_json r p;
-  concept = no_kind (λ k. concept_read r Absent ≡ Ok k) a.kind kind;
+  concept = no_kind (λ k. kind_read r v ≡ Some k) a.kind s.concept;
 }
 
 typed_sound : (r : ReportValue) (s : Side) (t : List ℕ) → is_sound_for r (Dimension Typed s) (Text t) ≡ true
@@ -67,7 +36,7 @@ pub typed_said : (r : ReportValue) (s : Side) (t : List ℕ) (a : Answer) → a.
 typed_said r s t a json kind = record {
   sound = λ h. typed_sound r s t;
   json = λ h. json ∙ typed_json r s t;
-  concept = no_kind (λ k. concept_read r (Text t) ≡ Ok k) a.kind kind;
+  concept = no_kind (λ k. kind_read r (Text t) ≡ Some k) a.kind kind;
 }
 
 -- What holds for each side of a typed dimension.
@@ -79,4 +48,7 @@ for_typed P (Dimension Period s) e h = absurd (cc)
 for_typed P (Dimension AUnit s) e h = absurd (cc)
 for_typed P (Dimension Language s) e h = absurd (cc)
 for_typed P (Dimension Explicit s) e h = absurd (cc)
+for_typed P (Dimension (TypedBy y) s) e h = absurd (cc)
 for_typed P Decimals e h = absurd (cc)
+for_typed P (WantedUnit y) e h = absurd (cc)
+for_typed P (WantedPeriod p s) e h = absurd (cc)

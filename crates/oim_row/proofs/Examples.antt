@@ -1,18 +1,26 @@
 -- Worked cases of the definitions.
-use Rattle.std.proofs.Common.{◌≡◌, true, false, List, ℕ, [], ◌∷◌, ◌++◌, Some, None, codes, refl, arith}
+use Rattle.std.proofs.Common.{◌≡◌, true, false, List, ℕ, [], ◌∷◌, ◌++◌, Some, None, Ok, Err, codes, refl, arith}
 use Rattle.std.proofs.lemmas.Fmt.{decimal_digit}
 use Rattle.csv.specs.Records.{field_at}
-use Rattle.oim_cells.specs.Cells.{Text}
+use Rattle.oim_cells.specs.Cells.{Absent, Text}
 use Rattle.oim_json.specs.JsonText.{escaped_byte, quoted, value_text}
 use Rattle.oim_report.specs.Readers.{no_column, no_level}
 use Rattle.oim_report.specs.declared.data.Column.{Column as AColumn}
 use Rattle.oim_report.specs.declared.data.Level.{Level}
+use Rattle.oim_report.specs.declared.kind.Concept.{Concept}
+use Rattle.oim_report.specs.ReportValue.{ReportValue}
+use Rattle.oim_report.specs.declared.data.Side.TheVariants as side
+use Rattle.oim_report.specs.declared.kind.Kind.TheVariants as kind
+use Rattle.oim_report.specs.declared.kind.PeriodType.TheVariants.{Duration, Instant}
+use Rattle.oim_report.specs.declared.kind.ValueType.TheVariants as item
+use Rattle.oim_resolve.specs.declared.fact.CellFault.TheVariants.{NoConcept}
 use Rattle.oim_rows.specs.RowFacts.{TableHeaderValue}
-use Rattle.oim_row.specs.Answers.{dimension_json}
+use Rattle.oim_row.specs.Answers.{dimension_json, is_sound_for, json_for, kind_in}
 use Rattle.oim_row.specs.Groups.{group_at, names_none}
 use Rattle.oim_row.specs.Rows.{RowValue}
 use Rattle.oim_row.specs.Sources.{Column, RowNumber, source_text}
 use Rattle.oim_row.specs.declared.group_cells.Choice.TheVariants as choice
+use Rattle.oim_row.specs.declared.purpose.Purpose.TheVariants.{WantedPeriod, WantedUnit}
 
 -- SOURCES (xBRL-CSV 1.0, column and parameter references)
 
@@ -70,3 +78,31 @@ a_group_is_named = refl
 
 no_group_is_named : names_none column (Text (codes "us")) ≡ true
 no_group_is_named = refl
+
+-- KINDS
+
+-- A concept with the type of its values is one like the others.
+kind_with_a_type : (a : Concept) → kind_in (Ok (kind.Concept a)) ≡ Some (kind.Concept a)
+kind_with_a_type a = refl
+
+no_kind : kind_in (Err NoConcept) ≡ None
+no_kind = refl
+
+-- THE UNIT AND THE PERIOD THAT A CONCEPT WANTS
+
+-- Amounts of money have a unit. They give no text of their own.
+no_currency : (r : ReportValue) → is_sound_for r (WantedUnit item.Monetary) Absent ≡ false
+no_currency r = refl
+
+no_unit_of_a_number : (r : ReportValue) → is_sound_for r (WantedUnit item.Other) Absent ≡ true
+no_unit_of_a_number r = refl
+
+no_text_of_a_wanted_unit : (r : ReportValue) → json_for r (WantedUnit item.Shares) (Text (codes "xbrli:shares")) ≡ []
+no_text_of_a_wanted_unit r = refl
+
+-- No period means for ever, which is no instant.
+no_instant : (r : ReportValue) → is_sound_for r (WantedPeriod Instant side.Whole) Absent ≡ false
+no_instant r = refl
+
+for_ever : (r : ReportValue) → is_sound_for r (WantedPeriod Duration side.Whole) Absent ≡ true
+for_ever r = refl

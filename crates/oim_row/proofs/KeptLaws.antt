@@ -8,9 +8,10 @@ use Rattle.std.proofs.lemmas.Option.{slice_get-get_or}
 use Rattle.oim_cells.specs.Cells.{meaning_of}
 use Rattle.oim_report.specs.ReportValue.{ReportValue}
 use Rattle.oim_row.specs.Answers.{IsAnswer}
-use Rattle.oim_row.specs.state.Kept.{AddsPlaces, IsCached, IsEmptyText, IsKept}
+use Rattle.oim_row.specs.state.Kept.{AddsPlaces, IsCached, IsEmptyPlace, IsKept}
 use Rattle.oim_row.specs.declared.cached_answer.CachedAnswer.{CachedAnswer}
 use Rattle.oim_row.specs.declared.purpose.Purpose.{Purpose}
+use Rattle.oim_row.proofs.AnswerLaws.{silent}
 use Rattle.oim_row.proofs.Growth.{all_append}
 use Rattle.oim_row.proofs.Refreshed.{set_all}
 
@@ -47,6 +48,10 @@ module _ (r : ReportValue) (p : Purpose) where
         at_hand = at_place (answers text) xs i k (there xs i k lt is) (subst (λ (t : List ℕ). answers t k) same (cached kept));
       }
 
+  -- Nothing is cached in an empty place.
+  nothing_cached : (k : CachedAnswer) → IsEmptyPlace k → IsCached r p k
+  nothing_cached k empty kept = absurd (cc (empty.kept, kept))
+
   -- Places were added.
   grown : (text : List ℕ) (i : ℕ) (xs more : List CachedAnswer) → i < length xs → IfSome (slice_get xs i) (answers text) → IfSome (slice_get (xs ++ more) i) (answers text)
   grown text i [] more lt h = absurd (omega arith)
@@ -57,19 +62,19 @@ module _ (r : ReportValue) (p : Purpose) where
   kept_more text i xs ys kept adds =
       subst (IsKept r p text i) (sym adds.is) (record {
         within = omega (arith, kept.within, length-append xs adds.more);
-        cached = all_append (IsCached r p) xs adds.more kept.cached (λ j d lt. (adds.empty j d lt).cached r p);
+        cached = all_append (IsCached r p) xs adds.more kept.cached (λ j d lt. nothing_cached (get_or adds.more j d) (adds.empty j d lt));
         at_hand = grown text i xs adds.more kept.within kept.at_hand;
       })
 
-  -- All places have the empty text.
+  -- All places are empty.
   pub kept_first : (ys : List CachedAnswer) → AddsPlaces [] ys → 0 < length ys → IsKept r p [] 0 ys
   kept_first [] adds some = absurd (omega arith)
   kept_first (k ∷ ks) adds some =
-      let empty : All IsEmptyText (k ∷ ks) = subst (All IsEmptyText) (sym adds.is) adds.empty in
+      let empty : All IsEmptyPlace (k ∷ ks) = subst (All IsEmptyPlace) (sym adds.is) adds.empty in
       record {
         within = some;
-        cached = λ j d lt. (empty j d lt).cached r p;
-        at_hand = (empty 0 k some).answer r p;
+        cached = λ j d lt. nothing_cached (get_or (k ∷ ks) j d) (empty j d lt);
+        at_hand = silent r p (meaning_of []) k.answer (empty 0 k some).answer;
       }
 
   -- The answer of a typed dimension, whose text is not cached.

@@ -1,22 +1,21 @@
 //! What a value gives the facts of a row, as JSON.
 
-ghost use Rattle.std.specs.Prelude.{◌≡◌, ◌++◌, ◌≤◌, IfOk, IfSome, Ok, OnOk, codes, Some, [], is_ok, length, true, take};
-ghost use Rattle.oim_cells.specs.Cells.{Absent as nothing_said, seen_meaning};
+ghost use Rattle.std.specs.Prelude.{◌≡◌, ◌++◌, ◌≤◌, IfOk, IfSome, Ok, OnOk, codes, Some, is_ok, length, true, take};
+ghost use Rattle.oim_cells.specs.Cells.{seen_meaning};
 ghost use Rattle.oim_json.specs.JsonText.{decimals_text, quoted};
-ghost use Rattle.oim_report.specs.ReportValue.{ReportValue};
-ghost use Rattle.oim_resolve.specs.Facts.{concept_read, places, stated_read, value_read};
+ghost use Rattle.oim_resolve.specs.Facts.{places, stated_read, value_read};
 ghost use Rattle.oim_resolve.specs.Values.{Read};
-ghost use Rattle.oim_row.specs.state.Reading.{AppendsWhere, IsSilent, IsTypedAnswer};
-ghost use Rattle.oim_row.specs.Answers.{IsAnswer, decimals_json, dimension_json, is_sound_for, json_for};
-ghost use Rattle.oim_row.specs.declared.purpose.Purpose.{Purpose as PurposeValue};
+ghost use Rattle.oim_row.specs.state.Reading.{AppendsWhere, IsTypedAnswer};
+ghost use Rattle.oim_row.specs.Answers.{IsAnswer, IsSilent, decimals_json, dimension_json, is_sound_for, json_for, kind_read};
 ghost use Rattle.oim_row.specs.declared.purpose.Purpose.TheVariants.{Dimension as for_dimension};
 
 use crate::purpose::Purpose;
+use crate::wanted::{is_wanted_period, is_wanted_unit};
 use itoa::Buffer;
 use oim_cells::{Accuracy, CellMeaning, decimals};
 use oim_names::{UnitKind, qname, unit};
 use oim_report::{Kind, Report, Side};
-use oim_resolve::{Entry, Role, read_concept, read_value};
+use oim_resolve::{Entry, Role, is_known_member, read_concept, read_value};
 use oim_text::{TextBuffer, put_quoted, put_quoted_front};
 use std::alloc::{AllocError, Global};
 
@@ -144,7 +143,8 @@ fn put_dimension(
             None => Ok(false),
         },
         (Role::Explicit, CellMeaning::Text(text)) => {
-            put_formed(out, qname(names, text).is_some(), text)
+            let is_member = qname(names, text).is_some() && is_known_member(report, text);
+            put_formed(out, is_member, text)
         }
         _ => put_read(alloc, out, report, role, side, value),
     }
@@ -165,13 +165,15 @@ fn put_for(
     match purpose {
         Purpose::Decimals => put_stated(out, value),
         Purpose::Dimension(role, side) => put_dimension(alloc, out, report, role, side, value),
+        Purpose::WantedUnit(wanted) => Ok(is_wanted_unit(report, wanted, value)),
+        Purpose::WantedPeriod(wanted, side) => Ok(is_wanted_period(wanted, side, value)),
     }
 }
 
 /// Returns the kind of the concept that a value names, if it is read for a concept and has no fault
 /// as one.
 fn concept_of(report: &Report, purpose: Purpose, value: CellMeaning<'_>) -> Option<Kind>
-    ensures { IfSome result (λ kind. concept_read report.now (seen_meaning value.entry) ≡ Ok kind) }
+    ensures { IfSome result (λ kind. kind_read report.now (seen_meaning value.entry) ≡ Some kind) }
 {
     let Purpose::Dimension(Role::Concept, _) = purpose else {
         return None;
@@ -183,12 +185,12 @@ fn concept_of(report: &Report, purpose: Purpose, value: CellMeaning<'_>) -> Opti
 }
 
 impl Answer {
-    /// Makes the answer to an absent value. It takes no memory.
+    /// Makes an answer that gives nothing about any value. It takes no memory.
     pub fn new(alloc: Global) -> Answer
-        ensures { (report : ReportValue) (purpose : PurposeValue) → IsAnswer report purpose nothing_said result }
+        ensures { IsSilent result }
     {
         Answer {
-            is_sound: true,
+            is_sound: false,
             json: TextBuffer::new(alloc),
             kind: None,
         }
@@ -196,8 +198,7 @@ impl Answer {
 
     /// Makes the answer unsound and empty, and keeps its memory.
     pub(crate) fn forget(&mut self)
-        ensures silent { IsSilent self.new }
-        ensures json { self.new.json.items ≡ [] }
+        ensures { IsSilent self.new }
     {
         self.is_sound = false;
         self.json.clear();

@@ -4,7 +4,7 @@ ghost use Rattle.std.specs.Prelude.{◌≡◌, ◌≤◌, false, length, take, t
 ghost use Rattle.std.specs.String.{string_bytes};
 ghost use Rattle.oim_cells.specs.Cells.{meaning_of};
 ghost use Rattle.oim_row.specs.Answers.{IsAnswer};
-ghost use Rattle.oim_row.specs.state.Kept.{IsCached, IsEmptyText};
+ghost use Rattle.oim_row.specs.state.Kept.{IsCached, IsEmptyPlace};
 ghost use Rattle.oim_row.specs.state.Reading.{IsTypedAnswer};
 
 use crate::answer::Answer;
@@ -17,7 +17,7 @@ use std::alloc::{AllocError, Global};
 /// The most bytes of a text that is cached. A longer one seldom recurs.
 const LONGEST: usize = 1 << 16;
 
-/// A text, if it is cached, and what it gives for a purpose. At first it is the empty text.
+/// A text, if it is cached, and what it gives for a purpose. At first none is cached.
 #[derive(Drop)]
 pub(crate) struct CachedAnswer {
     pub(crate) text: String,
@@ -26,13 +26,13 @@ pub(crate) struct CachedAnswer {
 }
 
 impl CachedAnswer {
-    /// Makes the empty text, which gives nothing. It takes no memory.
+    /// Makes an empty place. It takes no memory.
     pub(crate) fn new(alloc: Global) -> CachedAnswer
-        ensures { IsEmptyText result }
+        ensures { IsEmptyPlace result }
     {
         CachedAnswer {
             text: String::new(alloc),
-            is_kept: true,
+            is_kept: false,
             answer: Answer::new(alloc),
         }
     }

@@ -13,7 +13,6 @@ ghost use Rattle.oim_row.specs.References.{Grows};
 ghost use Rattle.oim_row.specs.Rows.{column_in, columns_in};
 
 use crate::group_hints::GroupHints;
-use crate::reference_target::place_in;
 use crate::table_row::TableRow;
 use crate::words::is_same;
 use oim_cells::{CellMeaning, meaning};
@@ -47,6 +46,8 @@ pub struct GroupCell<'a> {
 pub struct GroupCells<'a> {
     /// Each of them once, in the order in which they were added.
     pub list: Vec<GroupCell<'a>>,
+    /// The index in the list of each column of the template. Each is a guess that is tested.
+    places: Vec<u32>,
     hints: GroupHints,
 }
 
@@ -132,6 +133,7 @@ impl<'a> GroupCells<'a> {
     {
         GroupCells {
             list: Vec::new(alloc),
+            places: Vec::new(alloc),
             hints: GroupHints::new(alloc),
         }
     }
@@ -140,12 +142,24 @@ impl<'a> GroupCells<'a> {
     fn find(&self, column: usize) -> Option<usize>
         ensures { IfSome result (λ place. option_map (λ g. g.column) (slice_get self.now.list.items place) ≡ Some column) }
     {
-        for i in 0..self.list.len() {
-            if self.list[i].column == column {
-                return Some(i);
-            }
+        let place = *self.places.get(column)? as usize;
+        if place < self.list.len() && self.list[place].column == column {
+            return Some(place);
         }
         None
+    }
+
+    /// Records the index in the list of one of the template's `count` columns.
+    fn note(&mut self, column: usize, count: usize, place: usize) -> Result<(), AllocError>
+        ensures { self.new.list.items ≡ self.old.list.items }
+    {
+        if self.places.len() < count {
+            self.places.resize(count, u32::MAX)?;
+        }
+        if column < self.places.len() && place < u32::MAX as usize {
+            self.places[column] = place as u32;
+        }
+        Ok(())
     }
 
     /// Returns the index of a column of the template, and adds the column if it is missing.
@@ -165,9 +179,10 @@ impl<'a> GroupCells<'a> {
         }
         header.report().stands_in_order();
         let place = self.list.len();
+        self.note(column, header.report().columns(header.table()), place)?;
         self.list.push(GroupCell {
             column,
-            place: place_in(header.columns(), column),
+            place: header.source(column),
             groups: header
                 .report()
                 .column(header.table(), column)

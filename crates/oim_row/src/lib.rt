@@ -43,11 +43,12 @@ mod references;
 mod row_reference;
 mod table_row;
 mod text_places;
+mod wanted;
 mod words;
 
 pub use answer::{Answer, put_decimals};
 pub use group_cells::{Choice, GroupCell, GroupCells};
 pub use purpose::{Purpose, is_same_side};
-pub use reference_target::{ReferenceTarget, place_in, source_of, source_of_decimals};
+pub use reference_target::{ReferenceTarget, source_of, source_of_decimals};
 pub use references::References;
 pub use table_row::TableRow;

@@ -2,7 +2,7 @@
 
 ghost use Rattle.std.specs.Prelude.{◌≡◌, true};
 
-use oim_report::Side;
+use oim_report::{PeriodType, Side, SimpleType, ValueType};
 use oim_resolve::Role;
 
 /// The purpose for which a text is read.
@@ -11,6 +11,36 @@ pub enum Purpose {
     /// A dimension, or a side of it.
     Dimension(Role, Side),
     Decimals,
+    /// The unit of a fact whose concept has this type of values. It must be one that the concept
+    /// wants.
+    WantedUnit(ValueType),
+    /// A side of the period of a fact whose concept has this type of periods. It must be one that
+    /// the concept wants.
+    WantedPeriod(PeriodType, Side),
+}
+
+/// Returns whether two simple types are the same.
+fn is_same_type(first: SimpleType, second: SimpleType) -> bool
+    ensures same { result ≡ true → first ≡ second }
+    ensures all { first ≡ second → result ≡ true }
+{
+    first == second
+}
+
+/// Returns whether two types of values are the same.
+fn is_same_value(first: ValueType, second: ValueType) -> bool
+    ensures same { result ≡ true → first ≡ second }
+    ensures all { first ≡ second → result ≡ true }
+{
+    first == second
+}
+
+/// Returns whether two types of periods are the same.
+fn is_same_period(first: PeriodType, second: PeriodType) -> bool
+    ensures same { result ≡ true → first ≡ second }
+    ensures all { first ≡ second → result ≡ true }
+{
+    first == second
 }
 
 /// Returns whether two roles are the same.
@@ -26,6 +56,10 @@ fn is_same_role(first: Role, second: Role) -> bool
         Role::Language => matches!(second, Role::Language),
         Role::Explicit => matches!(second, Role::Explicit),
         Role::Typed => matches!(second, Role::Typed),
+        Role::TypedBy(form) => match second {
+            Role::TypedBy(other) => is_same_type(form, other),
+            _ => false,
+        },
     }
 }
 
@@ -47,12 +81,24 @@ impl Purpose {
         ensures same { result ≡ true → self ≡ other }
         ensures all { self ≡ other → result ≡ true }
     {
-        match (self, other) {
-            (Purpose::Dimension(role, side), Purpose::Dimension(other_role, other_side)) =>
-                is_same_role(role, other_role) && is_same_side(side, other_side),
-            (Purpose::Decimals, Purpose::Decimals) => true,
-            (Purpose::Dimension(_, _), Purpose::Decimals)
-            | (Purpose::Decimals, Purpose::Dimension(_, _)) => false,
+        match self {
+            Purpose::Dimension(role, side) => match other {
+                Purpose::Dimension(other_role, other_side) => is_same_role(role, other_role)
+                    && is_same_side(side, other_side),
+                _ => false,
+            },
+            Purpose::Decimals => matches!(other, Purpose::Decimals),
+            Purpose::WantedUnit(value) => match other {
+                Purpose::WantedUnit(other_value) => is_same_value(value, other_value),
+                _ => false,
+            },
+            Purpose::WantedPeriod(period, side) => match other {
+                Purpose::WantedPeriod(other_period, other_side) => is_same_period(
+                    period,
+                    other_period,
+                ) && is_same_side(side, other_side),
+                _ => false,
+            },
         }
     }
 }

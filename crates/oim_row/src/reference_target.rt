@@ -1,9 +1,7 @@
 //! The source of a reference whose meaning each row of a table gives.
 
 ghost use Rattle.std.specs.Prelude.{◌≡◌, MatchOption, true};
-ghost use Rattle.std.specs.List.{position_from};
 ghost use Rattle.std.specs.Option.{option_map};
-ghost use Rattle.oim_rows.specs.Header.{is_column};
 ghost use Rattle.oim_row.specs.Sources.{RowNumber, seen_source, source_decimals, source_named, source_text, source_written};
 
 use crate::table_row::TableRow;
@@ -53,22 +51,6 @@ impl<'a> ReferenceTarget<'a> {
     }
 }
 
-fn is_place(place: Option<usize>, column: usize) -> bool
-    ensures { result ≡ is_column column place }
-{
-    match place {
-        Some(c) => column == c,
-        None => false,
-    }
-}
-
-/// Returns the index of a column in a header, or `None` if the header lacks it.
-pub fn place_in(header: &[Option<usize>], column: usize) -> Option<usize>
-    ensures { result ≡ position_from (is_column column) 0 header.now }
-{
-    header.iter().position(|place| is_place(*place, column))
-}
-
 /// Returns what a reference to a name names, or `None` if the header has no column of that name.
 fn named<'a>(header: &TableHeader<'a>, name: &str) -> Option<ReferenceTarget<'a>>
     ensures { option_map seen_source result ≡ source_named header.now name.now }
@@ -76,7 +58,7 @@ fn named<'a>(header: &TableHeader<'a>, name: &str) -> Option<ReferenceTarget<'a>
     let column = header
         .report()
         .place_of_column(header.table(), name.as_bytes())?;
-    let place = place_in(header.columns(), column)?;
+    let place = header.source(column)?;
     match header.report().parameter(header.table(), name) {
         Some(text) => Some(ReferenceTarget::Column(place, text)),
         None => Some(ReferenceTarget::Column(place, "")),

@@ -83,11 +83,11 @@ fn places_for(purpose: Purpose) -> usize
 {
     match purpose {
         Purpose::Dimension(Role::Typed, _) => 1,
-        Purpose::Dimension(_, _) | Purpose::Decimals => FEWEST,
+        _ => FEWEST,
     }
 }
 
-/// Adds `count` places with the empty text. If memory runs out, the earlier places stay.
+/// Adds `count` empty places. If memory runs out, the earlier places stay.
 fn add_places(
     alloc: Global,
     answers: &mut Vec<CachedAnswer>,

@@ -1,5 +1,6 @@
 mod Places
 mod Repeats
+mod Sources
 mod FactLists
 pub mod StreamLaws
 mod ReadCells

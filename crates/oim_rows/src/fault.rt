@@ -39,7 +39,7 @@ pub enum TableKind {
     BadRowId,
     /// 30: an earlier row of the table has the same row identifier.
     RepeatedRowId,
-    /// 31 to 40, and 44: a cell has this fault. If memory runs out for a cell, the fault is
+    /// 31 to 40, and 44 to 47: a cell has this fault. If memory runs out for a cell, the fault is
     /// `Memory`.
     Cell(CellFault),
     /// 42: memory ran out.
@@ -82,6 +82,15 @@ impl TableKind {
 
     /// 44: the cell of a boolean, a date or a name is not well-formed.
     pub const BadFactValue: TableKind = TableKind::Cell(CellFault::BadFactValue);
+
+    /// 45: the unit is missing or not the one that the concept wants.
+    pub const BadUnit: TableKind = TableKind::Cell(CellFault::BadUnit);
+
+    /// 46: the period is missing or not of the type that the concept wants.
+    pub const WrongPeriod: TableKind = TableKind::Cell(CellFault::WrongPeriod);
+
+    /// 47: the types table names no such member.
+    pub const UnknownMember: TableKind = TableKind::Cell(CellFault::UnknownMember);
 }
 
 impl Error for TableKind {}
@@ -118,7 +127,7 @@ impl Display for TableKind {
 }
 
 impl TableKind {
-    /// Returns the fault's number, 20 to 44. A cell's fault has its own.
+    /// Returns the fault's number, 20 to 47. A cell's fault has its own.
     pub fn number(&self) -> u32
         ensures { result ≡ number_of self.now }
     {
@@ -181,7 +190,7 @@ pub struct TableFault {
 }
 
 impl TableFault {
-    /// Returns the number of its kind, 20 to 44.
+    /// Returns the number of its kind, 20 to 47.
     pub fn number(&self) -> u32
         ensures { result ≡ number_of (self.now).kind }
     {

@@ -4,6 +4,7 @@ ghost use Rattle.std.specs.Prelude.{◌≡◌, ◌<◌, ◌⊎◌, [], IfOk, IfE
 ghost use Rattle.std.specs.List.{All, list_any, position_from};
 ghost use Rattle.oim_report.specs.Readers.{column_named, columns_of as columns_in, template_of};
 ghost use Rattle.oim_rows.specs.Header.{named_column, file_fault, file_header_fault, header_fault, header_of, is_column, is_unknown, names_row_id, repeat_from};
+ghost use Rattle.oim_rows.specs.state.Decoding.{AreSources};
 ghost use Rattle.oim_rows.specs.state.Streams.{columns_fault, early_header_fault};
 ghost use Rattle.oim_rows.specs.Streams.{IsOutside, TakesHeader};
 
@@ -85,6 +86,26 @@ pub(crate) fn source_of(header: &[Option<usize>], column: usize) -> Option<usize
     ensures { result ≡ position_from (is_column column) 0 header.now }
 {
     header.iter().position(|place| is_place(*place, column))
+}
+
+/// Returns the index in a header of each of `count` columns, in one pass over its cells.
+pub(crate) fn sources_of(
+    alloc: Global,
+    header: &[Option<usize>],
+    count: usize,
+) -> Result<Vec<Option<usize>>, AllocError>
+    ensures { IfOk result (λ sources. AreSources header.now sources.items) }
+{
+    let mut sources = vec![in alloc; None; count]?;
+    for step in 0..header.len() {
+        let place = header.len() - 1 - step;
+        if let Some(column) = header[place] {
+            if column < sources.len() {
+                sources[column] = Some(place);
+            }
+        }
+    }
+    Ok(sources)
 }
 
 fn has_column(header: &[Option<usize>], column: usize) -> bool

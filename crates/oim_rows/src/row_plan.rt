@@ -11,7 +11,6 @@ ghost use Rattle.oim_rows.specs.Streams.{OrNoMemory};
 
 use crate::cells::text_at;
 use crate::fault::{TableFault, TableKind, fault_at_place, whole_fault};
-use crate::header::source_of;
 use crate::table_header::{TableHeader, push_row_number};
 use oim_names::{Items, Text};
 use oim_records::Fields;
@@ -41,16 +40,17 @@ impl<'a> Model for RowPlan<'a> {
     ghost invariant = { λ a. IsOfTable a.header.value a.columns.now a.sources.items };
 }
 
+/// Returns the index in the header of each of the first `columns` columns.
 fn sources_of(
     alloc: Global,
-    header: &[Option<usize>],
+    header: &TableHeader<'_>,
     columns: usize,
 ) -> Result<Vec<Option<usize>>, AllocError>
-    ensures { IfOk result (λ s. s.items ≡ map (source_of_column header.now) (range_with_len 0 columns)) }
+    ensures { IfOk result (λ s. s.items ≡ map (source_of_column header.now.columns) (range_with_len 0 columns)) }
 {
     let mut sources = Vec::new(alloc);
     for column in 0..columns {
-        sources.push(source_of(header, column))?;
+        sources.push(header.source(column))?;
     }
     Ok(sources)
 }
@@ -107,7 +107,7 @@ impl<'a> RowPlan<'a> {
         ensures { IfOk result (λ p. p ≡ header.now) }
     {
         let columns = header.report().template_columns(header.table());
-        let sources = sources_of(alloc, header.columns(), columns.len())?;
+        let sources = sources_of(alloc, header, columns.len())?;
         Ok(RowPlan {
             columns,
             sources,
@@ -178,7 +178,8 @@ impl RowPlan<'_> {
         ensures { OrNoMemory (self.now).table result (facts_from (self.now).report (self.now).table row.now 0 (self.now).columns) }
     {
         let columns = header.columns();
-        let Ok(room) = Vec::with_capacity(alloc, columns.len()) else {
+        let most = columns.len().min(self.columns.len());
+        let Ok(room) = Vec::with_capacity(alloc, most) else {
             return Err(whole_fault(header.table(), TableKind::Memory));
         };
         let mut facts = Items::from_vec(room);

@@ -3,12 +3,12 @@
 ghost use Rattle.std.specs.Prelude.{◌≡◌, ◌⊎◌, ◌<◌, IfOk, IfErr, IfSome, OnOk, length};
 ghost use Rattle.std.specs.String.{string_bytes};
 ghost use Rattle.oim_rows.specs.Header.{file_header_fault};
-ghost use Rattle.oim_rows.specs.RowFacts.{id_place_of, row_fault, row_id_place};
+ghost use Rattle.oim_rows.specs.RowFacts.{id_place_of, row_fault, row_id_place, source_of_column};
 ghost use Rattle.oim_rows.specs.Streams.{IsOutside, TakesHeader};
 
 use crate::cells::{count_of_texts, known_text_at, text_at};
-use crate::fault::{TableFault, TableKind, fault_at_place, fault_of_whole_row};
-use crate::header::{read_header, source_of};
+use crate::fault::{TableFault, TableKind, fault_at_place, fault_of_whole_row, whole_fault};
+use crate::header::{read_header, source_of, sources_of};
 use crate::ids::RowIds;
 use itoa::Buffer;
 use oim_records::{Fields, RecordReader, TextFields};
@@ -27,6 +27,8 @@ pub struct TableHeader<'a> {
     table: usize,
     limit: u32,
     columns: Vec<Option<usize>>,
+    // the index in the header of each column of the template
+    sources: Vec<Option<usize>>,
     // the index in the header of the row identifier
     id_place: Option<usize>,
 }
@@ -35,12 +37,14 @@ impl<'a> Model for TableHeader<'a> {
     ghost use Rattle.std.specs.Prelude.{◌≡◌, ◌<◌, length};
     ghost use Rattle.oim_report.specs.Readers.{template_of};
     ghost use Rattle.oim_rows.specs.RowFacts.{TableHeaderValue, row_id_place};
+    ghost use Rattle.oim_rows.specs.state.Decoding.{AreSources};
 
     ghost Value = { TableHeaderValue };
 
     ghost view = { λ a. record { report = a.report.now; table = a.table; limit = a.limit; columns = a.columns.items } };
 
     ghost invariant = { λ a. (a.table < length a.report.now.tables)
+        × AreSources a.columns.items a.sources.items
         × (a.id_place ≡ row_id_place (template_of a.report.now a.table).row_id_column a.columns.items) };
 }
 
@@ -77,12 +81,16 @@ impl<'a> TableHeader<'a> {
             Ok(columns) => columns,
             Err(fault) => return Err(fault),
         };
+        let Ok(sources) = sources_of(alloc, columns.as_slice(), report.columns(table)) else {
+            return Err(whole_fault(table, TableKind::Memory));
+        };
         let id_place = place_of_id(columns.as_slice(), report.row_id_column(table));
         Ok(TableHeader {
             report,
             table,
             limit,
             columns,
+            sources,
             id_place,
         })
     }
@@ -116,6 +124,17 @@ impl<'a> TableHeader<'a> {
         ensures { result.now ≡ (self.now).columns }
     {
         self.columns.as_slice()
+    }
+
+    /// Returns the index in the header of a column of the template, or `None` if the header lacks
+    /// it. It takes the same time however many cells the header has.
+    pub fn source(&self, column: usize) -> Option<usize>
+        ensures { result ≡ source_of_column (self.now).columns column }
+    {
+        match self.sources.get(column) {
+            Some(source) => *source,
+            None => source_of(self.columns.as_slice(), column),
+        }
     }
 
     /// Returns the first fault of row `number` apart from those of its cells.

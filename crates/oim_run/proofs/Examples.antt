@@ -31,7 +31,7 @@ use Rattle.oim_rows.specs.Header.{fault_at, file_fault}
 use Rattle.oim_rows.specs.Streams.{Stream}
 use Rattle.oim_rows.specs.declared.fault.TableFault.{TableFault}
 use Rattle.oim_rows.specs.declared.fault.TableKind.TheVariants as table
-use Rattle.oim_run.specs.CommandLine.{AreLayouts, Words, command_line, is_given}
+use Rattle.oim_run.specs.CommandLine.{AreLayouts, Words, are_explained, command_line, is_given}
 use Rattle.oim_run.specs.Buffers.{flushed}
 use Rattle.oim_files.specs.Folders.{Files}
 use Rattle.oim_run.specs.Lines.{line_of, status_of, terminal_line_of, unprinted_status, words_status}
@@ -60,7 +60,7 @@ abbrev least : List Text
 least = codes "m.json" ∷ codes "--types" ∷ codes "t.csv" ∷ []
 
 abbrev full : List Text
-full = codes "--out" ∷ codes "o.json" ∷ codes "--workers" ∷ codes "64" ∷ codes "--ring=2" ∷ codes "--layout" ∷ codes "lines" ∷ codes "--progress" ∷ codes "--whole" ∷ codes "--explain" ∷ codes "--faults" ∷ codes "f.csv" ∷ least
+full = codes "--out" ∷ codes "o.json" ∷ codes "--workers" ∷ codes "64" ∷ codes "--ring=2" ∷ codes "--layout" ∷ codes "lines" ∷ codes "--progress" ∷ codes "--whole" ∷ codes "--explain" ∷ codes "--no-explain" ∷ codes "--faults" ∷ codes "f.csv" ∷ codes "--counts" ∷ codes "c.json" ∷ least
 
 abbrev given : List Text → List Row
 given words = matches_of (command_line layouts) words
@@ -133,6 +133,40 @@ full_explain : is_given (first_of (codes "explain") (given full)) ≡ true
 unfolding clap_on_literals command_line
 full_explain = refl
 
+least_no_explain : is_given (first_of (codes "no-explain") (given least)) ≡ false
+unfolding clap_on_literals command_line
+least_no_explain = refl
+
+full_no_explain : is_given (first_of (codes "no-explain") (given full)) ≡ true
+unfolding clap_on_literals command_line
+full_no_explain = refl
+
+-- Without both a terminal gets explanations, and a pipe none; with --explain a pipe gets them too.
+a_terminal : are_explained false false true ≡ true
+a_terminal = refl
+
+a_pipe : are_explained false false false ≡ false
+a_pipe = refl
+
+asked_in_a_pipe : are_explained true false false ≡ true
+asked_in_a_pipe = refl
+
+asked_on_a_terminal : are_explained true false true ≡ true
+asked_on_a_terminal = refl
+
+-- --no-explain forbids them, also if both are given, in whatever order.
+forbidden : are_explained false true true ≡ false
+forbidden = refl
+
+forbidden_in_a_pipe : are_explained false true false ≡ false
+forbidden_in_a_pipe = refl
+
+both : are_explained true true true ≡ false
+both = refl
+
+both_in_a_pipe : are_explained true true false ≡ false
+both_in_a_pipe = refl
+
 least_faults : first_of (codes "faults") (given least) ≡ None
 unfolding clap_on_literals command_line
 least_faults = refl
@@ -140,6 +174,14 @@ least_faults = refl
 full_faults : first_of (codes "faults") (given full) ≡ Some (codes "f.csv")
 unfolding clap_on_literals command_line
 full_faults = refl
+
+least_counts : first_of (codes "counts") (given least) ≡ None
+unfolding clap_on_literals command_line
+least_counts = refl
+
+full_counts : first_of (codes "counts") (given full) ≡ Some (codes "c.json")
+unfolding clap_on_literals command_line
+full_counts = refl
 
 least_taken : fault_of (command_line layouts) least ≡ []
 unfolding clap_on_literals command_line

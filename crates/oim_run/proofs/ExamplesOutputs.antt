@@ -12,7 +12,7 @@ use Rattle.oim_rows.specs.Header.{fault_at}
 use Rattle.oim_rows.specs.declared.fault.TableKind.TheVariants as table
 use Rattle.oim_run.specs.CommandLine.{IsInput}
 use Rattle.oim_run.specs.Lines.{status_of}
-use Rattle.oim_run.specs.Outputs.{Deed, Did, Ended, EndsFor, EndsTold, IsLeftUnwritten, IsToldBy, Opened, RunsOnce, RunsTo, RunsTold, Says, SaysLast}
+use Rattle.oim_run.specs.Outputs.{Deed, Did, Ended, EndsFor, EndsTold, IsLeftOut, IsLeftUncounted, IsLeftUnwritten, IsToldBy, Opened, RunsOnce, RunsTo, RunsTold, Says, SaysLast}
 use Rattle.oim_run.specs.state.Outputs.{RunsInto}
 use Rattle.oim_run.specs.declared.run_end.RunEnd.{RunEnd}
 use Rattle.oim_run.specs.declared.run_end.RunEnd.TheVariants as ending
@@ -26,6 +26,9 @@ o_json = codes "o.json"
 
 abbrev f_csv : List ℕ
 f_csv = codes "f.csv"
+
+abbrev c_json : List ℕ
+c_json = codes "c.json"
 
 abbrev refused_path : Deed
 refused_path = Opened (Some o_json) None
@@ -41,29 +44,32 @@ deeds_that_are_not_told : Did None (refused_path ∷ []) (Some [])
 deeds_that_are_not_told = tt
 
 -- The outcome to report.
-told_of_what_is_kept : IsToldBy (Some o_json) (Some f_csv) ending.Kept (outcome.Output write.Zero) (outcome.Output write.Zero)
+told_of_what_is_kept : IsToldBy (Some o_json) (Some f_csv) (Some c_json) ending.Kept (outcome.Output write.Zero) (outcome.Output write.Zero)
 told_of_what_is_kept = refl
 
 -- A document that is not in its place is a failed write. If there was no document, the outcome
 -- stays.
-told_of_what_is_not_kept : IsToldBy (Some o_json) (Some f_csv) ending.NotKept outcome.Done (outcome.Output write.Failed)
-    × IsToldBy (Some o_json) (Some f_csv) ending.NotKept (outcome.CannotRead (codes "m.json")) (outcome.CannotRead (codes "m.json"))
+told_of_what_is_not_kept : IsToldBy (Some o_json) (Some f_csv) (Some c_json) ending.NotKept outcome.Done (outcome.Output write.Failed)
+    × IsToldBy (Some o_json) (Some f_csv) (Some c_json) ending.NotKept (outcome.CannotRead (codes "m.json")) (outcome.CannotRead (codes "m.json"))
 told_of_what_is_not_kept = (refl, refl)
 
 -- A file that the report reads cannot be written. Memory may run out for its path.
-told_of_a_file_that_is_read : IsToldBy (Some o_json) (Some f_csv) ending.IsRead outcome.Done (outcome.CannotWrite o_json)
-    × IsToldBy (Some o_json) (Some f_csv) ending.FaultsAreRead outcome.Done (outcome.CannotWrite f_csv)
-    × IsToldBy (Some o_json) (Some f_csv) ending.IsRead outcome.Done (outcome.Run fault.Memory)
-told_of_a_file_that_is_read = (inl refl, inl refl, inr refl)
+told_of_a_file_that_is_read : IsToldBy (Some o_json) (Some f_csv) (Some c_json) ending.IsRead outcome.Done (outcome.CannotWrite o_json)
+    × IsToldBy (Some o_json) (Some f_csv) (Some c_json) ending.FaultsAreRead outcome.Done (outcome.CannotWrite f_csv)
+    × IsToldBy (Some o_json) (Some f_csv) (Some c_json) ending.CountsAreRead outcome.Done (outcome.CannotWrite c_json)
+    × IsToldBy (Some o_json) (Some f_csv) (Some c_json) ending.IsRead outcome.Done (outcome.Run fault.Memory)
+told_of_a_file_that_is_read = (inl refl, inl refl, inl refl, inr refl)
 
 -- Without the option there is no such file.
-told_where_no_file_is_named : IsToldBy None None ending.IsRead outcome.Done outcome.Done × IsToldBy None None ending.FaultsAreRead outcome.Done outcome.Done
-told_where_no_file_is_named = (refl, refl)
+told_where_no_file_is_named : IsToldBy None None None ending.IsRead outcome.Done outcome.Done
+    × IsToldBy None None None ending.FaultsAreRead outcome.Done outcome.Done
+    × IsToldBy None None None ending.CountsAreRead outcome.Done outcome.Done
+told_where_no_file_is_named = (refl, refl, refl)
 
-what_is_not_kept_ends_well : IsToldBy (Some o_json) None ending.NotKept outcome.Done outcome.Done → ⊥
+what_is_not_kept_ends_well : IsToldBy (Some o_json) None None ending.NotKept outcome.Done outcome.Done → ⊥
 what_is_not_kept_ends_well told = absurd (cc told)
 
-file_that_is_read_ends_well : IsToldBy (Some o_json) None ending.IsRead outcome.Done outcome.Done → ⊥
+file_that_is_read_ends_well : IsToldBy (Some o_json) None None ending.IsRead outcome.Done outcome.Done → ⊥
 file_that_is_read_ends_well (inl e) = absurd (cc e)
 file_that_is_read_ends_well (inr e) = absurd (cc e)
 
@@ -83,7 +89,7 @@ deeds path holds how = Opened path (Some empty) ∷ Ended holds outcome.Done how
 
 -- One run to a file.
 abbrev Once : List Deed → Outcome → Type 0
-Once done o = RunsOnce writes_x (Some o_json) None (Some o_json) (Some []) (Some done) o
+Once done o = RunsOnce writes_x (Some o_json) None None (Some o_json) (Some []) (Some done) o
 
 run_that_is_kept : Once (deeds (Some o_json) x ending.Kept) outcome.Done
 run_that_is_kept = record { first = empty; last = x; ran = outcome.Done; how = ending.Kept; run = (refl, refl); done = refl; told = refl }
@@ -147,8 +153,8 @@ another_outcome_told once = absurd (cc told)
     how : ending.Kept ≡ once.how
     how = ap how_in once.done
 
-    by : IsToldBy (Some o_json) None ending.Kept once.ran (outcome.Output write.Zero)
-    by = subst (λ (v : RunEnd). IsToldBy (Some o_json) None v once.ran (outcome.Output write.Zero)) (sym how) once.told
+    by : IsToldBy (Some o_json) None None ending.Kept once.ran (outcome.Output write.Zero)
+    by = subst (λ (v : RunEnd). IsToldBy (Some o_json) None None v once.ran (outcome.Output write.Zero)) (sym how) once.told
 
     told : outcome.Output write.Zero ≡ outcome.Done
     told = by ∙ once.run.1
@@ -162,11 +168,11 @@ not_kept_and_done once = absurd (cc told)
     ran : outcome.Done ≡ once.ran
     ran = ap ran_in once.done
 
-    by : IsToldBy (Some o_json) None ending.NotKept once.ran outcome.Done
-    by = subst (λ (v : RunEnd). IsToldBy (Some o_json) None v once.ran outcome.Done) (sym how) once.told
+    by : IsToldBy (Some o_json) None None ending.NotKept once.ran outcome.Done
+    by = subst (λ (v : RunEnd). IsToldBy (Some o_json) None None v once.ran outcome.Done) (sym how) once.told
 
     told : outcome.Done ≡ outcome.Output write.Failed
-    told = subst (λ (v : Outcome). IsToldBy (Some o_json) None ending.NotKept v outcome.Done) (sym ran) by
+    told = subst (λ (v : Outcome). IsToldBy (Some o_json) None None ending.NotKept v outcome.Done) (sym ran) by
 
 -- The output of `--out`.
 abbrev asked : Option (List ℕ) → Option (List ℕ) → Request
@@ -175,7 +181,9 @@ asked out faults = record {
   whole = false;
   progress = false;
   explain = false;
+  no_explain = false;
   faults = faults;
+  counts = None;
 }
 
 differ : (a b : List ℕ) → bytes_eq a b ≡ false → bytes_eq a a ≡ true → a ≡ b → ⊥
@@ -281,7 +289,7 @@ escaped_in_a_file (inl e) = absurd (cc e)
 escaped_in_a_file (inr (inl (is, e))) = differ (codes "xbrl-json: cannot write a\\x0ab\n") (codes "xbrl-json: cannot write a\nb\n") refl refl (ap said_first e)
 escaped_in_a_file (inr (inr (is, e))) = absurd (cc is)
 
--- The file of the faults.
+-- The files of the faults and of the counts.
 abbrev refused : Outcome
 refused = outcome.Tables ((codes "t2", fault_at 1 0 0 table.NoFile) ∷ [])
 
@@ -303,25 +311,44 @@ faults_of_another_path (status, inl e) = differ o_json f_csv refl refl (ap path_
     path_of other = []
 faults_of_another_path (status, inr e) = absurd (cc e)
 
--- The status is that of the run, and nothing more is printed; or it is that of the file of the
--- faults, which is printed.
-status_of_the_run : SaysLast (Some false) (Some f_csv) refused (Some (line ∷ [])) (Some (line ∷ [])) 1
+-- The counts are missed only if the option is given and the status is 0.
+counts_not_written : IsLeftUncounted (Some c_json) outcome.Done (outcome.CannotWrite c_json)
+counts_not_written = (refl, inl refl)
+
+counts_not_named : IsLeftUncounted None outcome.Done (outcome.CannotWrite c_json) → ⊥
+counts_not_named left = left
+
+counts_of_refused_tables : IsLeftUncounted (Some c_json) refused (outcome.CannotWrite c_json) → ⊥
+counts_of_refused_tables left = absurd (cc left.0)
+
+either_of_the_two : IsLeftOut (Some f_csv) None refused (outcome.CannotWrite f_csv) × IsLeftOut None (Some c_json) outcome.Done (outcome.CannotWrite c_json)
+either_of_the_two = (inl faults_not_written, inr counts_not_written)
+
+-- The status is that of the run, and nothing more is printed; or it is that of one of these files,
+-- which is printed.
+status_of_the_run : SaysLast (Some false) (Some f_csv) (Some c_json) refused (Some (line ∷ [])) (Some (line ∷ [])) 1
 status_of_the_run = inl (refl, refl)
 
-status_of_the_faults : SaysLast (Some false) (Some f_csv) refused (Some (line ∷ [])) (Some (line ∷ codes "xbrl-json: cannot write f.csv\n" ∷ [])) 3
-status_of_the_faults = inr (outcome.CannotWrite f_csv, faults_not_written, inr (inl (refl, refl)), refl)
+status_of_the_faults : SaysLast (Some false) (Some f_csv) (Some c_json) refused (Some (line ∷ [])) (Some (line ∷ codes "xbrl-json: cannot write f.csv\n" ∷ [])) 3
+status_of_the_faults = inr (outcome.CannotWrite f_csv, inl faults_not_written, inr (inl (refl, refl)), refl)
 
-broken_document_ends_well : SaysLast (Some false) (Some f_csv) (outcome.Output write.Zero) (Some []) (Some []) 0 → ⊥
+status_of_the_counts : SaysLast (Some false) (Some f_csv) (Some c_json) outcome.Done (Some ([] ∷ [])) (Some ([] ∷ codes "xbrl-json: cannot write c.json\n" ∷ [])) 3
+status_of_the_counts = inr (outcome.CannotWrite c_json, inr counts_not_written, inr (inl (refl, refl)), refl)
+
+broken_document_ends_well : SaysLast (Some false) (Some f_csv) (Some c_json) (outcome.Output write.Zero) (Some []) (Some []) 0 → ⊥
 broken_document_ends_well (inl (same, status)) = absurd (cc status)
-broken_document_ends_well (inr (last, left, says, status)) = omega (arith, left.0)
+broken_document_ends_well (inr (last, inl left, says, status)) = omega (arith, left.0)
+broken_document_ends_well (inr (last, inr left, says, status)) = absurd (cc left.0)
 
-more_said_behind_the_run : SaysLast (Some false) None refused (Some []) (Some (line ∷ [])) 1 → ⊥
+more_said_behind_the_run : SaysLast (Some false) None (Some c_json) refused (Some []) (Some (line ∷ [])) 1 → ⊥
 more_said_behind_the_run (inl (same, status)) = absurd (cc same)
-more_said_behind_the_run (inr (last, left, says, status)) = left
+more_said_behind_the_run (inr (last, inl left, says, status)) = left
+more_said_behind_the_run (inr (last, inr left, says, status)) = absurd (cc left.0)
 
-refused_tables_without_a_file_of_faults : SaysLast (Some false) None refused (Some []) (Some []) 3 → ⊥
+refused_tables_without_a_file_of_faults : SaysLast (Some false) None (Some c_json) refused (Some []) (Some []) 3 → ⊥
 refused_tables_without_a_file_of_faults (inl (same, status)) = absurd (cc status)
-refused_tables_without_a_file_of_faults (inr (last, left, says, status)) = left
+refused_tables_without_a_file_of_faults (inr (last, inl left, says, status)) = left
+refused_tables_without_a_file_of_faults (inr (last, inr left, says, status)) = absurd (cc left.0)
 
 -- The program: the file of the document cannot be opened, that is printed once, and the status is
 -- 3.

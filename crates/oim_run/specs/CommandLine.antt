@@ -53,9 +53,11 @@ abbrev pub AreLayouts : Words → Type 0
 AreLayouts words = map (λ w. w.now) words.now ≡ codes "compact" ∷ codes "lines" ∷ []
 
 -- META --types FILE [--workers N] [--ring K] [--out FILE] [--whole] [--layout compact|lines]
--- [--progress] [--explain] [--faults FILE]
+-- [--progress] [--explain] [--no-explain] [--faults FILE] [--counts FILE]
 unfoldable pub command_line : Words → App
 command_line layouts = with_rule
+    (with_rule
+    (with_rule
     (with_rule
     (with_rule
     (with_rule
@@ -70,7 +72,9 @@ command_line layouts = with_rule
     (word_option (codes "layout") layouts (codes "compact")))
     (flag (codes "progress")))
     (flag (codes "explain")))
-    (option (codes "faults"))
+    (flag (codes "no-explain")))
+    (option (codes "faults")))
+    (option (codes "counts"))
 
 -- The option has a text, which is n in decimal digits.
 abbrev pub IsNumberOf : Option Text → ℕ → Type 0
@@ -96,14 +100,27 @@ HasSettings rows s = (first_of (codes "meta") rows ≡ Some s.meta)
     × (first_of (codes "out") rows ≡ s.out)
     × IsLayoutOf (first_of (codes "layout") rows) s.layout
 
--- The request: the settings, the flags that do not concern a run, and the file of the tables'
--- faults.
+-- The request: the settings, the flags that do not concern a run, and the files of the faults and
+-- of the counts.
 abbrev pub HasRequest : List Row → Request → Type 0
 HasRequest rows q = HasSettings rows q.settings
     × (q.whole ≡ is_given (first_of (codes "whole") rows))
     × (q.progress ≡ is_given (first_of (codes "progress") rows))
     × (q.explain ≡ is_given (first_of (codes "explain") rows))
+    × (q.no_explain ≡ is_given (first_of (codes "no-explain") rows))
     × (first_of (codes "faults") rows ≡ q.faults)
+    × (first_of (codes "counts") rows ≡ q.counts)
+
+-- Whether explanations are printed, by whether --explain and --no-explain are given and whether
+-- standard error is a terminal. Without both a terminal gets them; with both nothing gets them.
+abbrev pub are_explained : (explain no_explain terminal : Bool) → Bool
+are_explained explain true terminal = false
+are_explained true false terminal = true
+are_explained false false terminal = terminal
+
+-- The same of a request.
+abbrev pub explains : Request → (terminal : Bool) → Bool
+explains q terminal = are_explained q.explain q.no_explain terminal
 
 -- The answer to the arguments: a value that has what they give, or a refusal of one of the kinds of
 -- the command line.

@@ -41,11 +41,12 @@ IsUnwrittenAt (Some path) ran o = IsUnwritten path o
 
 -- The outcome to report of a run, by the end of its output: its own; a failed write, if there was a
 -- document; or that a file cannot be written.
-abbrev pub IsToldBy : (out faults : Option (List ℕ)) → RunEnd → (ran o : Outcome) → Type 0
-IsToldBy out faults ending.Kept ran o = o ≡ ran
-IsToldBy out faults ending.NotKept ran o = o ≡ flushed ran
-IsToldBy out faults ending.IsRead ran o = IsUnwrittenAt out ran o
-IsToldBy out faults ending.FaultsAreRead ran o = IsUnwrittenAt faults ran o
+abbrev pub IsToldBy : (out faults counts : Option (List ℕ)) → RunEnd → (ran o : Outcome) → Type 0
+IsToldBy out faults counts ending.Kept ran o = o ≡ ran
+IsToldBy out faults counts ending.NotKept ran o = o ≡ flushed ran
+IsToldBy out faults counts ending.IsRead ran o = IsUnwrittenAt out ran o
+IsToldBy out faults counts ending.FaultsAreRead ran o = IsUnwrittenAt faults ran o
+IsToldBy out faults counts ending.CountsAreRead ran o = IsUnwrittenAt counts ran o
 
 -- One run to one output.
 
@@ -63,38 +64,48 @@ RunsHeld meta types table old new o = Buffered (EndsOver (files_of (meta ∷ typ
 
 -- One output is opened, standard output or the file at the path, one run is made to it, and it is
 -- ended. Nothing else is done with any output.
-pub record RunsOnce (runs : (old new : Option (List ℕ)) → Outcome → Type 0) (out faults path : Option (List ℕ)) (before after : Option (List Deed)) (o : Outcome) : Type 0 where
+pub record RunsOnce (runs : (old new : Option (List ℕ)) → Outcome → Type 0) (out faults counts path : Option (List ℕ)) (before after : Option (List Deed)) (o : Outcome) : Type 0 where
   pub first : Option (List ℕ)
   pub last : Option (List ℕ)
   pub ran : Outcome
   pub how : RunEnd
   pub run : runs first last ran
   pub done : Did before (Opened path (Some first) ∷ Ended last ran how ∷ []) after
-  pub told : IsToldBy out faults how ran o
+  pub told : IsToldBy out faults counts how ran o
 
 -- Nothing is done for a path that is an input's. For any other, a run is made to its file, or the
 -- file cannot be opened.
 abbrev pub IntoFile : Option Files → Request → List ℕ → (before after : Option (List Deed)) → Outcome → Type 0
 IntoFile told q path before after o = (IsInput q.settings path × (after ≡ before) × IsUnwritten path o)
     ⊎ ((¬ IsInput q.settings path) × Did before (Opened (Some path) None ∷ []) after × IsUnwritten path o)
-    ⊎ ((¬ IsInput q.settings path) × RunsOnce (RunsTo told q.settings) q.settings.out q.faults (Some path) before after o)
+    ⊎ ((¬ IsInput q.settings path) × RunsOnce (RunsTo told q.settings) q.settings.out q.faults q.counts (Some path) before after o)
 
 -- The requested conversion: exactly one run is made, to the output of `--out`, and its outcome is
 -- to be reported; or no run is made, and that is to be reported.
 abbrev pub IntoOutput : Option Files → Request → Option (List ℕ) → (before after : Option (List Deed)) → Outcome → Type 0
-IntoOutput told q None before after o = RunsOnce (RunsTo told q.settings) q.settings.out q.faults None before after o
+IntoOutput told q None before after o = RunsOnce (RunsTo told q.settings) q.settings.out q.faults q.counts None before after o
 IntoOutput told q (Some path) before after o = IntoFile told q path before after o
 
 abbrev pub EndsFor : Option Files → Request → (before after : Option (List Deed)) → Outcome → Type 0
 EndsFor told q before after o = IntoOutput told q q.settings.out before after o
 
--- The file of the faults.
+-- The files of the faults and of the counts.
 
 -- The file of `--faults` is to be written after a run that ended with the exit status 0 or 1, and
 -- cannot be written.
 abbrev pub IsLeftUnwritten : Option (List ℕ) → Outcome → Outcome → Type 0
 IsLeftUnwritten None ended o = ⊥
 IsLeftUnwritten (Some path) ended o = (status_of ended ≤ 1) × IsUnwritten path o
+
+-- The file of `--counts` is to be written after a run that ended with the exit status 0, and cannot
+-- be written.
+abbrev pub IsLeftUncounted : Option (List ℕ) → Outcome → Outcome → Type 0
+IsLeftUncounted None ended o = ⊥
+IsLeftUncounted (Some path) ended o = (status_of ended ≡ 0) × IsUnwritten path o
+
+-- One of these two files is to be written, and cannot be.
+abbrev pub IsLeftOut : (faults counts : Option (List ℕ)) → Outcome → Outcome → Type 0
+IsLeftOut faults counts ended o = IsLeftUnwritten faults ended o ⊎ IsLeftUncounted counts ended o
 
 -- Printing for people.
 
@@ -114,12 +125,12 @@ Says terminal o before after = IfSome before (λ earlier. (after ≡ Some earlie
     ⊎ (IsTerminal terminal true × (after ≡ Some (earlier ++ terminal_line_of o ∷ []))))
 
 -- The text printed after the lines of a run, and the exit status: none, and the status is that of
--- the run's outcome; or that the file of the faults cannot be written, and the status is that of
--- this.
-abbrev pub SaysLast : Option Bool → Option (List ℕ) → Outcome → (before after : Option Said) → (status : ℕ) → Type 0
-SaysLast terminal faults ended before after status =
+-- the run's outcome; or that the file of the faults or of the counts cannot be written, and the
+-- status is that of this.
+abbrev pub SaysLast : Option Bool → (faults counts : Option (List ℕ)) → Outcome → (before after : Option Said) → (status : ℕ) → Type 0
+SaysLast terminal faults counts ended before after status =
     ((after ≡ before) × (status ≡ status_of ended))
-    ⊎ ((last : Outcome) × IsLeftUnwritten faults ended last × Says terminal last before after × (status ≡ status_of last))
+    ⊎ ((last : Outcome) × IsLeftOut faults counts ended last × Says terminal last before after × (status ≡ status_of last))
 
 -- A program with this request ends with this status: the requested conversion is made, once or not
 -- at all, and its outcome is printed at most once.
@@ -128,7 +139,7 @@ pub record EndsTold (told : Option Files) (q : Request) (before after : Option (
   pub once : EndsFor told q before after ended
   pub between : Option Said
   pub says : Says terminal ended silent between
-  pub last : SaysLast terminal q.faults ended between said status
+  pub last : SaysLast terminal q.faults q.counts ended between said status
 
 -- A run is made to a writer that held `old` and holds `new`, its outcome is printed at most once,
 -- and this is the exit status.

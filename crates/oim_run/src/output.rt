@@ -79,9 +79,10 @@ fn convert_into<
 /// as [`run_to`] does, to the writer that the outputs open for it. Returns the outcome to report.
 ///
 /// That is the run's own outcome if its output ended well. Otherwise it is a failed write, or
-/// `CannotWrite` if the report reads that file or the file of the faults. It is also `CannotWrite`
-/// if the file cannot be opened, or if `settings.out` is the path of the metadata or of the types
-/// table as written; then nothing is done. `Memory` may replace `CannotWrite`.
+/// `CannotWrite` if the report reads that file, or the file of the faults or of the counts. It is
+/// also `CannotWrite` if the file cannot be opened, or if `settings.out` is the path of the
+/// metadata or of the types table as written; then nothing is done. `Memory` may replace
+/// `CannotWrite`.
 pub fn convert_as<
     R: Read + Drop + Send,
     F: Folder<R>,

@@ -5,6 +5,7 @@ ghost use Rattle.clap.specs.Kinds.{FailsBy};
 ghost use Rattle.clap.specs.Words.{fault_of, found_of, matches_of, rows_of};
 ghost use Rattle.oim_convert.specs.Limits.{IsWorkerCount};
 ghost use Rattle.oim_ring.specs.Limits.{IsRingSize};
+ghost use Rattle.oim_run.specs.CommandLine as spec;
 ghost use Rattle.oim_run.specs.CommandLine.{Answers, AreLayouts, HasRequest, HasSettings, Words, command_line};
 
 use crate::settings::{Settings, command, is_given, path_of, settings_in};
@@ -24,10 +25,25 @@ pub struct Request {
     pub whole: bool,
     /// Whether standard error shows the run's progress (`--progress`).
     pub progress: bool,
-    /// Whether standard error explains each fault for people (`--explain`).
+    /// Whether each fault is to be explained for people (`--explain`).
     pub explain: bool,
+    /// Whether no fault is to be explained (`--no-explain`).
+    pub no_explain: bool,
     /// The path of the file for the faults (`--faults`), or `None`.
     pub faults: Option<Text>,
+    /// The path of the file for the counts (`--counts`), or `None`.
+    pub counts: Option<Text>,
+}
+
+impl Request {
+    /// Returns whether each fault is explained on standard error, given whether that is a terminal.
+    /// A terminal gets explanations unless `--no-explain` is given, anything else only if
+    /// `--explain` is given without that.
+    pub fn explains(&self, is_terminal: bool) -> bool
+        ensures { result ≡ spec.explains self.now is_terminal }
+    {
+        !self.no_explain && (self.explain || is_terminal)
+    }
 }
 
 /// Returns the request in the matches. A parse of `command` always has one.
@@ -42,7 +58,9 @@ fn request_in(alloc: Global, matches: &ArgMatches<'_>) -> Result<Option<Request>
             whole: is_given(matches, "whole"),
             progress: is_given(matches, "progress"),
             explain: is_given(matches, "explain"),
+            no_explain: is_given(matches, "no-explain"),
             faults: path_of(alloc, matches, "faults")?,
+            counts: path_of(alloc, matches, "counts")?,
         })),
         None => Ok(None),
     }
@@ -71,9 +89,10 @@ fn request_by<'a>(
 }
 
 /// Reads the command line's arguments, without the program's name: `META --types FILE [--workers N]
-/// [--ring K] [--out FILE] [--whole] [--layout compact|lines] [--progress] [--explain] [--faults
-/// FILE]`. The defaults are 4 workers, rings of 1,024 blocks and the compact layout. There are 1 to
-/// 64 workers, and a ring's size is 1 to 65,536 blocks.
+/// [--ring K] [--out FILE] [--whole] [--layout compact|lines] [--progress] [--explain]
+/// [--no-explain] [--faults FILE] [--counts FILE]`. The defaults are 4 workers, rings of 1,024
+/// blocks and the compact layout. There are 1 to 64 workers, and a ring's size is 1 to 65,536
+/// blocks.
 ///
 /// Fails exactly if the definition of the command line refuses the arguments, with one of its
 /// kinds, if they ask for help or the version, or if memory runs out. The error has the text to

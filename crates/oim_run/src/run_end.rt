@@ -22,6 +22,8 @@ pub enum RunEnd {
     IsRead,
     /// The file for the faults is one that the report reads.
     FaultsAreRead,
+    /// The file for the counts is one that the report reads.
+    CountsAreRead,
 }
 
 /// Returns the outcome of a run that cannot write the file at this path: `CannotWrite`, or Memory
@@ -48,12 +50,13 @@ fn unwritten_at(alloc: Global, path: &Option<Text>, ran: Outcome) -> Outcome
 
 /// Returns the outcome to report after a run with this outcome and this end of its output.
 pub(crate) fn told_by(alloc: Global, request: &Request, how: RunEnd, ran: Outcome) -> Outcome
-    ensures { IsToldBy request.now.settings.out request.now.faults how ran result }
+    ensures { IsToldBy request.now.settings.out request.now.faults request.now.counts how ran result }
 {
     match how {
         RunEnd::Kept => ran,
         RunEnd::NotKept => after_flush(ran, false),
         RunEnd::IsRead => unwritten_at(alloc, &request.settings.out, ran),
         RunEnd::FaultsAreRead => unwritten_at(alloc, &request.faults, ran),
+        RunEnd::CountsAreRead => unwritten_at(alloc, &request.counts, ran),
     }
 }

@@ -15,7 +15,7 @@ use oim_names::Text;
 use std::alloc::{AllocError, Global};
 
 /// The program's version, and the kit that proves it, as `rt version` prints it.
-pub const VERSION: &str = "0.19.0 (proved with rattle-kit-13f logic dac8208d650f15bf)";
+pub const VERSION: &str = "0.20.0 (proved with rattle-kit-13f logic dac8208d650f15bf)";
 
 /// The help of each argument.
 const META_HELP: &str = "The metadata file of the report";
@@ -36,9 +36,14 @@ const LAYOUT_HELP: &str = "The document on one line, or each fact on its own\n";
 
 const PROGRESS_HELP: &str = "Show on standard error how much is read and written";
 
-const EXPLAIN_HELP: &str = "Print below each fault its place, text and cause";
+const EXPLAIN_HELP: &str =
+    "Print below each fault its place, text and cause\n[default: on a terminal]";
+
+const NO_EXPLAIN_HELP: &str = "Print the faults alone, also on a terminal";
 
 const FAULTS_HELP: &str = "The file for the faults, as CSV";
+
+const COUNTS_HELP: &str = "The file for the facts and rows of each table, as JSON";
 
 /// The end of the help.
 const MORE_HELP: &str = r#"Examples:
@@ -55,6 +60,9 @@ integer, decimal, double, text, boolean, date, qname or other, and that of a
 dimension is explicit or typed. With the header "namespace,name,type", a
 concept's type cannot be boolean, date or qname:
   http://example.com/eg,Cash,integer
+The header "namespace,name,type3,period,values" has more types, such as monetary
+and member, and the period of a concept; the manual lists them:
+  http://example.com/eg,Cash,monetary,instant,
 
 Exit status:
   0  the document is written
@@ -207,7 +215,10 @@ pub(crate) fn command<'a>(alloc: Global, layouts: &'a [&'a str]) -> Result<Comma
     let command = with(command, progress);
     let explain = flag(alloc, "explain", EXPLAIN_HELP);
     let command = with(command, explain);
-    with(command, option(alloc, "faults", "FILE", FAULTS_HELP))
+    let no_explain = flag(alloc, "no-explain", NO_EXPLAIN_HELP);
+    let command = with(command, no_explain);
+    let command = with(command, option(alloc, "faults", "FILE", FAULTS_HELP));
+    with(command, option(alloc, "counts", "FILE", COUNTS_HELP))
 }
 
 /// Returns the value of the argument `id`.

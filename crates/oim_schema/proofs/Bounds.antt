@@ -1,13 +1,13 @@
 -- The tests of bounded integers agree with their definition.
-use Rattle.std.proofs.Common.{◌≡◌, ◌≢◌, ◌↔◌, ℕ, ℤ, pos, ◌&&◌, ◌==◌, ◌≤◌, Bool, true, false, not, ◌||◌, Decides, List, [], ◌∷◌, Option, Some, None, refl, sym, ap, subst, arith, length, nat_lt}
-use Rattle.std.specs.Prelude.{◌≤ℤ◌, int_le, neg_ℤ}
-use Rattle.std.specs.Str.Parse.{IsNumeral, without_leading_sign, signed_digits_value, digits_value}
+use Rattle.std.proofs.Common.{◌≡◌, ◌≢◌, ℕ, ℤ, pos, ◌&&◌, Bool, true, false, not, ◌||◌, Decides, List, [], ◌∷◌, Option, Some, None, refl, sym, ap, subst, arith, length, nat_lt}
+use Rattle.std.specs.Prelude.{◌≤ℤ◌, int_le}
+use Rattle.std.specs.Str.Parse.{IsNumeral, signed_digits_value, digits_value}
 use Rattle.std.proofs.lemmas.Bool.{ne_eqb}
 use Rattle.std.proofs.lemmas.Bool.Decides.{Decides-and, Decides-like, Decides-ltb}
 use Rattle.std.proofs.lemmas.Str.Parse.{IsNumeralModel, numerals_by_value, tells_all_ascii_digits}
 use Rattle.std.specs.Str.{all_ascii_digits}
 use Rattle.std.proofs.lemmas.Int.{ints}
-use Rattle.oim_cells.specs.Numeral.{is_integer_text, IsInteger, is_digits}
+use Rattle.oim_cells.specs.Numeral.{is_integer_text, is_digits}
 use Rattle.oim_cells.proofs.Grammars.{integer_Decides}
 use Rattle.oim_cells.proofs.Digits.{no_sign}
 use Rattle.oim_schema.specs.declared.integers.IntegerType.{IntegerType}

@@ -1,8 +1,8 @@
 -- The numbers of digits: read and written again they are the same.
-use Rattle.std.proofs.Common.{◌≡◌, ℕ, ◌+◌, ◌*◌, ◌-◌, ◌/◌, ◌%◌, ◌≤◌, ◌&&◌, if◌then◌else◌, Bool, true, false, List, [], ◌∷◌, sym, subst, arith, rules}
+use Rattle.std.proofs.Common.{◌≡◌, ℕ, ◌+◌, ◌*◌, ◌-◌, ◌/◌, ◌%◌, ◌≤◌, ◌&&◌, if◌then◌else◌, Bool, true, false, [], ◌∷◌, arith, rules}
 use Rattle.std.specs.Int.{IsInRange, is_in_range}
 use Rattle.std.proofs.lemmas.Bool.Decides.{nat_tests}
-use Rattle.oim_period.specs.Calendar.{IsYear, is_year, IsDate, is_date, days_in_month}
+use Rattle.oim_period.specs.Calendar.{IsYear, is_year, IsDate, is_date}
 use Rattle.oim_period.specs.Digits.{digit, two, four, date_text}
 use Rattle.oim_period.proofs.Found.{range_decides, year_decides, date_decides}
 use Rattle.oim_period.proofs.Order.{month_length-most}

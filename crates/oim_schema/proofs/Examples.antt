@@ -1,5 +1,5 @@
 -- The definitions on worked cases. Their results are from XML Schema Part 2, second edition.
-use Rattle.std.proofs.Common.{◌≡◌, ℕ, List, [], ◌∷◌, true, false, refl, codes, map}
+use Rattle.std.proofs.Common.{◌≡◌, [], ◌∷◌, true, false, refl, codes, map}
 use Rattle.std.specs.List.{list_all, list_any}
 use Rattle.std.specs.Str.{chars, is_utf8}
 use lib.Utf8.{encode}
@@ -12,8 +12,8 @@ use Rattle.oim_schema.specs.declared.dates.DateForm.TheVariants.{DateTime, Time,
 use Rattle.oim_period.specs.Calendar.{is_date}
 use Rattle.oim_schema.specs.DatesTimes.{is_date_form}
 use Rattle.oim_schema.specs.Durations.{is_duration}
-use Rattle.oim_schema.specs.HexBinary.{is_hex_binary, is_hex_digit}
-use Rattle.oim_schema.specs.Members.{is_member_set}
+use Rattle.oim_schema.specs.HexBinary.{is_hex_binary}
+use Rattle.oim_schema.specs.Members.{is_member_set, joined}
 use Rattle.oim_schema.specs.Units.{is_currency, is_shares}
 use Rattle.oim_schema.specs.Integers.{is_bounded_integer}
 
@@ -233,3 +233,10 @@ member_sets = refl
 no_member_sets : list_any (is_member_set prefixes) (codes "eg:a eg:a" ∷ codes "eg:a eg:b eg:a" ∷ codes " eg:a  eg:a " ∷ codes "eg:a,eg:b" ∷ codes "eg:a b" ∷ codes "zz:a" ∷ codes "eg:a zz:b" ∷ codes "eg:" ∷ []) ≡ false
 unfolding prefixes is_member_set qname_of is_ncname is_name_char is_name_start chars is_utf8 encode
 no_member_sets = refl
+
+-- How they are written: in their order, joined by one space, without other blanks.
+written_sets :
+    map joined ([] ∷ codes "  " ∷ codes "eg:a" ∷ codes " eg:b\t\teg:a\r\neg:c\n" ∷ codes "eg:b eg:a" ∷ [])
+    ≡ [] ∷ [] ∷ codes "eg:a" ∷ codes "eg:b eg:a eg:c" ∷ codes "eg:b eg:a" ∷ []
+unfolding joined
+written_sets = refl

@@ -1,17 +1,17 @@
 -- The test of the forms of dates and times agrees with their definition.
-use Rattle.std.proofs.Common.{◌≡◌, ℕ, ◌/◌, ◌%◌, ◌==◌, ◌&&◌, Bool, true, Decides, List, [], ◌∷◌, ◌++◌, codes, refl, sym, ap, subst, ◌∙◌, arith}
+use Rattle.std.proofs.Common.{◌≡◌, ℕ, ◌/◌, ◌%◌, ◌==◌, ◌&&◌, true, Decides, List, ◌∷◌, ◌++◌, codes, refl, sym, ap, subst, ◌∙◌, arith}
 use Rattle.std.specs.Int.{is_in_range}
 use Rattle.std.proofs.lemmas.Bool.{eqb-true}
-use Rattle.oim_period.specs.Calendar.{IsYear, is_year, IsDate, is_date}
+use Rattle.oim_period.specs.Calendar.{is_year, IsDate, is_date}
 use Rattle.oim_period.specs.Dates.{IsDateText, written}
 use Rattle.oim_period.specs.Digits.{digit, two, four, date_text}
 use Rattle.oim_period.proofs.Found.{both, both_yes, range_decides, year_decides, date_decides}
 use Rattle.oim_period.proofs.Order.{month_length-most}
 use Rattle.oim_schema.specs.declared.dates.DateForm.{DateForm}
 use Rattle.oim_schema.specs.declared.dates.DateForm.TheVariants.{DateTime, Time, Date, GYear, GYearMonth, GMonth, GMonthDay, GDay}
-use Rattle.oim_schema.specs.DatesTimes.{IsZone, IsDateForm, date_time, time, date, year, year_month, month, month_day, day, number, year_number, is_zone, is_time_zone, is_date_form}
+use Rattle.oim_schema.specs.DatesTimes.{IsDateForm, date_time, time, date, year, year_month, month, month_day, day, number, year_number, is_zone, is_time_zone, is_date_form}
 use Rattle.oim_schema.specs.DatesTimes.{is_date_time_zone, is_date_zone, is_year_zone, is_year_month_zone, is_month_zone, is_month_day_zone, is_day_zone}
-use Rattle.oim_schema.proofs.DateNumbers.{number_back, two_front, year_back, year_front, date_front, date_back, year_again, range_again}
+use Rattle.oim_schema.proofs.DateNumbers.{number_back, two_front, year_front, date_front, date_back, year_again, range_again}
 use Rattle.oim_schema.proofs.Times.{zone_from, zone_to, TimeZone, time_from, time_to}
 
 date_time_of : (a b c d m n t u : ℕ) (rest : List ℕ) → IsDate (year_number a b c d) (number m n) (number t u) → TimeZone rest

@@ -6,4 +6,6 @@ pub mod DurationLaws
 pub mod HexLaws
 pub mod UnitLaws
 pub mod MemberLaws
+pub mod HeldLaws
+pub mod JoinedLaws
 mod Examples

@@ -1,5 +1,5 @@
 -- The test of sets of members agrees with their definition.
-use Rattle.std.proofs.Common.{◌≡◌, ◌≢◌, inl, inr, ◌&&◌, ◌||◌, ℕ, Bool, true, false, not, Decides, List, [], ◌∷◌, ◌++◌, Option, Some, None, codes, refl, sym, ap, subst, ◌∙◌, bytes_eq, append_assoc}
+use Rattle.std.proofs.Common.{◌≡◌, ◌≢◌, inl, inr, ◌||◌, ℕ, Bool, true, false, not, Decides, List, [], ◌∷◌, ◌++◌, Option, Some, None, codes, refl, sym, ap, ◌∙◌, bytes_eq}
 use Rattle.std.specs.List.{AllByRecursion}
 use Rattle.std.specs.Str.{IsUtf8, is_utf8, chars}
 use lib.Utf8.{encode}
@@ -7,7 +7,7 @@ use Rattle.std.proofs.lemmas.Bool.{cases_Bool}
 use Rattle.std.proofs.lemmas.Slice.Eq.{bytes_eq-Decides}
 use Rattle.std.proofs.lemmas.Str.{IsUtf8-append, IsUtf8-from_is_utf8}
 use Rattle.oim_names.specs.Bindings.{Bindings}
-use Rattle.oim_names.specs.Names.{is_ncname, begins_and_goes_on, is_name_start, is_name_char}
+use Rattle.oim_names.specs.Names.{is_ncname}
 use Rattle.oim_names.specs.QName.{Name, IsQName, qname, qname_of}
 use Rattle.oim_names.proofs.Colons.{qname_sound, qname_value, qname_uncut}
 use Rattle.oim_period.proofs.Found.{both, both_yes}
@@ -28,7 +28,7 @@ qname_is_text (qname b p l u n m e) = IsUtf8-append (p ++ codes ":") l (IsUtf8-a
 value : {b : Bindings} {t : List ℕ} {x : Name} → IsQName b t x → qname_of b t ≡ Some x
 value {b = b} {t = t} {x = x} q = qname_value b t x (qname_is_text q) q
 
-no_name : (b : Bindings) → qname_of b [] ≡ None
+pub no_name : (b : Bindings) → qname_of b [] ≡ None
 no_name b = sym (qname_uncut b [] refl)
 
 same_yes : (name other : Name) → other ≡ name → is_same_name name (Some other) ≡ true

@@ -1,5 +1,5 @@
 -- The tests of units agree with their definitions.
-use Rattle.std.proofs.Common.{◌≡◌, ◌&&◌, ℕ, true, Decides, List, [], ◌∷◌, Option, Some, None, refl, ap, subst, ◌∙◌, bytes_eq, codes}
+use Rattle.std.proofs.Common.{◌≡◌, ◌&&◌, ℕ, true, Decides, List, [], ◌∷◌, Option, Some, None, refl, ap, subst, ◌∙◌, bytes_eq}
 use Rattle.std.specs.Int.{is_in_range}
 use Rattle.std.specs.Str.{IsUtf8}
 use Rattle.std.proofs.lemmas.Slice.Eq.{bytes_eq-Decides}

@@ -1,7 +1,7 @@
 -- Sets of members (Extensible Enumerations 2.0): QNames between blanks, of which no two have the
 -- same URI and local part.
-use Rattle.std.specs.Prelude.{◌≢◌, ℕ, Bool, true, false, not, ◌&&◌, ◌||◌, List, [], ◌∷◌, Option, Some, None, is_some}
-use Rattle.std.specs.List.{AllByRecursion, list_any, slice_split}
+use Rattle.std.specs.Prelude.{◌≢◌, ℕ, Bool, true, false, not, ◌&&◌, List, [], ◌∷◌, Option, Some, None}
+use Rattle.std.specs.List.{AllByRecursion, join_with_byte, list_any, slice_split}
 use Rattle.std.specs.Str.{bytes_eq}
 use Rattle.oim_cells.specs.Blanks.{is_blank}
 use Rattle.oim_names.specs.Bindings.{Bindings}
@@ -43,3 +43,13 @@ are_members names (part ∷ parts) = is_part names part parts && are_members nam
 
 unfoldable pub is_member_set : Bindings → List ℕ → Bool
 is_member_set names text = are_members names (parts_of text)
+
+-- The parts that are not empty.
+abbrev pub filled : List (List ℕ) → List (List ℕ)
+filled [] = []
+filled ([] ∷ parts) = filled parts
+filled ((c ∷ cs) ∷ parts) = (c ∷ cs) ∷ filled parts
+
+-- How a set is written: its parts in their order, joined by one space.
+unfoldable pub joined : List ℕ → List ℕ
+joined text = join_with_byte 32 (filled (parts_of text))

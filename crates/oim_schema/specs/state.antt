@@ -1,1 +1,2 @@
+pub mod HeldMembers
 pub mod Magnitudes

@@ -13,8 +13,10 @@
 //!   the form of its code or `shares`.
 //!
 //! - [`is_member_set`] accepts exactly the sets of QNames between blanks, without two of one name.
+//! - [`joined_members`] returns the parts between blanks, joined by one space. [`next_part`] takes
+//!   one part after another.
 //!
-//! Only `is_member_set` passes over blanks. The calls take no memory and never fail.
+//! Only these three know blanks. Only the first two take memory, and fail if it runs out.
 //!
 //! Example:
 //!
@@ -32,8 +34,10 @@
 mod dates;
 mod digits;
 mod durations;
+mod held_members;
 mod hex_binary;
 mod integers;
+mod joined;
 mod members;
 mod units;
 
@@ -41,5 +45,6 @@ pub use dates::{DateForm, is_date_form};
 pub use durations::is_duration;
 pub use hex_binary::is_hex_binary;
 pub use integers::{IntegerType, is_bounded_integer};
-pub use members::is_member_set;
+pub use joined::joined_members;
+pub use members::{is_member_set, next_part};
 pub use units::{is_currency, is_shares};

@@ -1,12 +1,17 @@
 //! Sets of members.
 
-ghost use Rattle.std.specs.Prelude.{◌≡◌, ◌↔◌, ◌≤◌, ◌<◌, ◌∷◌, [], IsTrue, MatchOption, length, not};
+ghost use Rattle.std.specs.Prelude.{◌≡◌, ◌↔◌, ◌≤◌, ◌<◌, ◌∷◌, [], IfOk, IsTrue, MatchOption, length, not};
 ghost use Rattle.std.specs.List.{position_or_len};
 ghost use Rattle.oim_cells.specs.Blanks.{is_blank};
 ghost use Rattle.oim_names.specs.QName.{qname_of};
 ghost use Rattle.oim_schema.specs.Members.{parts_of, is_same_name, names_one, is_part as part_test, are_members as members_test, IsMemberSet, is_member_set as set_test};
 
+use crate::held_members::are_held_members;
 use oim_names::{Namespaces, qname};
+use std::alloc::{AllocError, Global};
+
+/// Up to this many bytes a set is tested without memory.
+const SHORT: usize = 128;
 
 /// Returns whether a byte is not a space, tab, carriage return or line feed.
 fn is_no_blank(byte: u8) -> bool
@@ -24,7 +29,7 @@ fn blank_place(text: &[u8]) -> usize
 }
 
 /// Returns the texts before and after the first blank, or `None` if there is none.
-fn next_part(text: &str) -> Option<(&str, &str)>
+pub fn next_part(text: &str) -> Option<(&str, &str)>
     ensures { MatchOption result (parts_of text.now ≡ text.now ∷ [])
         (λ r. (parts_of text.now ≡ r.0.now ∷ parts_of r.1.now) × (length r.1.now < length text.now)) }
 {
@@ -92,14 +97,33 @@ fn are_members(names: &Namespaces, text: &str) -> bool
     is_last(names, others)
 }
 
+/// Returns whether a text is a set of members, by a walk for each member of a short text.
+fn is_set(alloc: Global, names: &Namespaces, text: &str) -> Result<bool, AllocError>
+    ensures { IfOk result (λ r. r ≡ members_test names.now (parts_of text.now)) }
+{
+    if text.len() <= SHORT {
+        Ok(are_members(names, text))
+    } else {
+        are_held_members(alloc, names, text)
+    }
+}
+
 /// Returns whether a text is a set of members (Extensible Enumerations 2.0).
 ///
 /// It is QNames with declared prefixes, with spaces, tabs, carriage returns or line feeds between
 /// them and at its ends. No two have the same URI and local part. A text without QNames is the
-/// empty set. The call takes no memory, so its time grows with the square of the count of members.
-pub fn is_member_set(names: &Namespaces, text: &str) -> bool
-    ensures means { IsTrue result ↔ IsMemberSet names.now text.now }
-    ensures value { result ≡ set_test names.now text.now }
+/// empty set.
+///
+/// Up to 128 bytes the call takes no memory. A longer text's members are held in order, so its time
+/// grows hardly faster than its length.
+///
+/// # Errors
+///
+/// Memory ran out.
+pub fn is_member_set(alloc: Global, names: &Namespaces, text: &str) -> Result<bool, AllocError>
+    ensures means { IfOk result (λ r. IsTrue r ↔ IsMemberSet names.now text.now) }
+    ensures value { IfOk result (λ r. r ≡ set_test names.now text.now) }
 {
-    are_members(names, text)
+    let answer = is_set(alloc, names, text)?;
+    Ok(answer)
 }

@@ -5,8 +5,8 @@ use oim_cells::{CellMeaning, NumberKind};
 use oim_meta::{ColumnKind, Kind, Level, Report, Side, Written};
 use oim_names::{Items, Text};
 use oim_resolve::{
-    CellFault, Entry, Fact, FactValue, Role, Row, fact_value, levels, read_concept, read_value,
-    resolve, side_of,
+    CellFault, Entry, Fact, FactValue, Role, Row, ValueText, fact_value, is_known_member, levels,
+    read_concept, read_set, read_value, resolve, side_of,
 };
 use std::alloc::{AllocError, Global};
 
@@ -64,10 +64,26 @@ fn calls_of_facts(rt: HostRuntime) {
     assert!(rt; holds(rt.alloc(), Over::Facts));
 }
 
-/// Returns whether a fact cell of this kind has a value.
+/// Returns whether a fact cell of this kind has a value that is its text.
 fn is_value(report: &Report, kind: Kind, text: &str) -> bool {
     let value: Result<FactValue<'_>, CellFault> = fact_value(report, kind, CellMeaning::Text(text));
-    matches!(value, Ok(value) if value.text.is_some())
+    match value {
+        Ok(
+            FactValue {
+                text: Some(ValueText::Plain(found)),
+                ..
+            },
+        ) => found == text,
+        _ => false,
+    }
+}
+
+/// Returns whether a set of members is one, and is written with one space between them.
+fn is_set(alloc: Global, report: &Report, text: &str, written: &str) -> bool {
+    match read_set(alloc, report, text) {
+        Ok(Ok(found)) => found.as_str() == written && is_known_member(report, text),
+        _ => false,
+    }
 }
 
 /// Returns whether a cell names a concept of numbers.
@@ -106,6 +122,7 @@ fn has_names(alloc: Global, level: &Level) -> bool {
 /// Returns whether the calls for cells and levels answer as they must.
 pub(crate) fn hold_of_cells(alloc: Global, report: &Report) -> bool {
     is_value(report, Kind::Number(NumberKind::Integer), "7")
+        && is_set(alloc, report, " eg:b  eg:a", "eg:b eg:a")
         && is_number(report, "eg:Cash")
         && reads_a_unit(alloc, report, "unit", "iso4217:EUR")
         && has_names(alloc, report.report_level())

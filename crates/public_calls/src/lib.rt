@@ -47,4 +47,6 @@ mod tables;
 #[cfg(test)]
 mod texts;
 #[cfg(test)]
+mod waiting;
+#[cfg(test)]
 mod words;

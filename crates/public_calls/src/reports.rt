@@ -3,10 +3,10 @@
 use crate::held::{Over, holds};
 use oim_names::Text;
 use oim_report::{
-    Column, ColumnKind, Info, Kind, Level, Limits, Named, Parameters, Report, Side, Table,
-    Template, TypedName, Types, Written, WrittenDecimals,
+    Column, ColumnKind, Concept, Info, Kind, Level, Limits, Named, Parameters, PeriodType, Report,
+    Side, SimpleType, Table, Template, TypedName, Types, ValueType, Written, WrittenDecimals,
 };
-use std::alloc::Global;
+use std::alloc::{AllocError, Global};
 
 /// The first table of a report, and its first column.
 fn has_a_table(report: &Report) -> bool {
@@ -67,10 +67,20 @@ fn has_parameters(alloc: Global) -> bool {
     }
 }
 
+/// Returns the types of a concept and of a typed dimension.
+fn own_types(alloc: Global) -> Result<Types, AllocError> {
+    let concept = Concept {
+        value: ValueType::Monetary,
+        period: Some(PeriodType::Instant),
+    };
+    let types = Types::none(alloc).with(alloc, "u", "A", Kind::Concept(concept))?;
+    types.with(alloc, "u", "B", Kind::TypedBy(SimpleType::Boolean))
+}
+
 /// Checks a caller's own types.
 fn has_types(alloc: Global) -> bool {
-    match Types::none(alloc).with(alloc, "u", "A", Kind::Text) {
-        Ok(types) => types.kind_of("u", "A").is_some(),
+    match own_types(alloc) {
+        Ok(types) => types.kind_of("u", "A").is_some() && !types.has_members(),
         Err(_) => false,
     }
 }

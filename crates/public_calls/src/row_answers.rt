@@ -7,7 +7,7 @@ use oim_records::RecordReader;
 use oim_resolve::Role;
 use oim_row::{
     Answer, Choice, GroupCell, GroupCells, Purpose, ReferenceTarget, References, TableRow,
-    is_same_side, place_in, put_decimals, source_of, source_of_decimals,
+    is_same_side, put_decimals, source_of, source_of_decimals,
 };
 use oim_rows::TableHeader;
 use oim_text::TextBuffer;
@@ -54,7 +54,7 @@ fn refers(header: &TableHeader<'_>) -> bool {
     let source: Option<ReferenceTarget<'_>> = source_of(header, &Written::RowNumber(Side::Start));
     matches!(source, Some(ReferenceTarget::RowNumber))
         && source_of_decimals(header, &WrittenDecimals::Absent).is_none()
-        && place_in(header.columns(), 1) == Some(1)
+        && header.source(1) == Some(1)
         && is_same_side(Side::Start, Side::Start)
 }
 

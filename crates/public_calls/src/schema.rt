@@ -3,9 +3,9 @@
 use oim_names::{NameFault, Namespaces};
 use oim_schema::{
     DateForm, IntegerType, is_bounded_integer, is_currency, is_date_form, is_duration,
-    is_hex_binary, is_member_set, is_shares,
+    is_hex_binary, is_member_set, is_shares, joined_members, next_part,
 };
-use std::alloc::Global;
+use std::alloc::{AllocError, Global};
 
 /// The least and the greatest byte, and their neighbors.
 fn bounds_a_byte() -> bool {
@@ -42,13 +42,42 @@ fn tells_units(names: &Namespaces) -> bool {
 }
 
 /// Checks the sets of members.
-fn tells_sets(names: &Namespaces) -> bool {
-    is_member_set(names, " xbrli:a xbrli:b ") && !is_member_set(names, "xbrli:a xbrli:a")
+fn tells_sets(alloc: Global, names: &Namespaces) -> Result<bool, AllocError> {
+    Ok(
+        is_member_set(alloc, names, " xbrli:a xbrli:b ")?
+            && !is_member_set(alloc, names, "xbrli:a xbrli:a")?,
+    )
+}
+
+/// Checks a set past the length up to which sets take no memory, and the same with one member more.
+fn tells_long_sets(alloc: Global, names: &Namespaces) -> Result<bool, AllocError> {
+    let mut set = String::new(alloc);
+    for letter in 'a'..='z' {
+        for _ in 0..16 {
+            set.push(' ')?;
+        }
+        set.push_str("xbrli:")?;
+        set.push(letter)?;
+    }
+    let is_set = is_member_set(alloc, names, set.as_str())?;
+    set.push_str(" xbrli:b")?;
+    Ok(is_set && !is_member_set(alloc, names, set.as_str())?)
+}
+
+/// Checks how a set is written, and its parts.
+fn joins(alloc: Global) -> Result<bool, AllocError> {
+    let joined = joined_members(alloc, "\txbrli:b  xbrli:a ")?;
+    Ok(next_part(joined.as_str()) == Some(("xbrli:b", "xbrli:a")))
 }
 
 fn calls_with_names(alloc: Global) -> bool {
     match unit_names(alloc) {
-        Ok(names) => tells_units(&names) && tells_sets(&names),
+        Ok(names) => {
+            tells_units(&names)
+                && tells_sets(alloc, &names) == Ok(true)
+                && tells_long_sets(alloc, &names) == Ok(true)
+                && joins(alloc) == Ok(true)
+        }
         Err(_) => false,
     }
 }

@@ -49,9 +49,9 @@ fn runs_alone(alloc: Global) -> bool {
     status(&outcome) == 0 && document.as_slice().ends_with(b"}}\n") && !VERSION.is_empty()
 }
 
-/// Returns whether a request is for a whole document.
+/// Returns whether a request is for a whole document, and explains faults on a terminal only.
 fn is_whole(request: &Request) -> bool {
-    request.whole && !request.progress
+    request.whole && !request.progress && request.explains(true) && !request.explains(false)
 }
 
 /// Returns whether the options ask for a whole document, apart from the settings.

@@ -4,7 +4,9 @@
 
 ghost use Rattle.std.specs.Io.{ReadsAtMost};
 
+use crate::counts::Counts;
 use crate::progress::Progress;
+use crate::row_counter::RowCounter;
 use crate::written::WrittenFiles;
 use oim_run::Folder;
 use std::fs::File;
@@ -52,6 +54,32 @@ impl<'a> DiskFileState<'a> {
     }
 }
 
+/// What is counted in the bytes of a file, for `--counts`.
+#[derive(Drop)]
+enum Counted<'a> {
+    /// Nothing.
+    Nothing,
+    /// The identifiers of the report's tables: the file is the metadata.
+    Names(&'a Counts),
+    /// The rows of a table.
+    Rows(RowCounter),
+}
+
+impl<'a> Counted<'a> {
+    /// Takes the first bytes of a buffer, as many as were read.
+    fn take(&mut self, buf: &[u8], count: usize) {
+        let bytes = match self {
+            Counted::Nothing => return,
+            _ => buf.get(..count).unwrap_or(b""),
+        };
+        match self {
+            Counted::Nothing => {}
+            Counted::Names(counts) => counts.take_metadata(bytes),
+            Counted::Rows(counter) => counter.take(bytes),
+        }
+    }
+}
+
 /// A file of the system, which is opened at its first read unless it is already open.
 ///
 /// If it has a progress, its bytes are counted, and dropping it counts its table as done.
@@ -59,6 +87,8 @@ pub struct DiskFile<'a> {
     source: DiskFileState<'a>,
     /// The progress that counts its bytes, if any.
     progress: Option<&'a Progress<'a>>,
+    /// What `--counts` counts in its bytes.
+    counted: Counted<'a>,
 }
 
 impl<'a> DiskFile<'a> {
@@ -67,6 +97,7 @@ impl<'a> DiskFile<'a> {
         DiskFile {
             source: DiskFileState::Open(file),
             progress: None,
+            counted: Counted::Nothing,
         }
     }
 }
@@ -76,6 +107,7 @@ impl<'a> Drop for DiskFile<'a> {
         let Self {
             source: _,
             progress,
+            counted: _,
         } = self;
         if let Some(progress) = progress {
             progress.table_done();
@@ -89,6 +121,7 @@ impl<'a> Read for DiskFile<'a> {
         if let Some(progress) = self.progress {
             progress.count_read(count);
         }
+        self.counted.take(buf, count);
         Ok(count)
     }
 }
@@ -106,6 +139,10 @@ pub struct Disk<'a> {
     pub written: &'a WrittenFiles<'a>,
     /// The progress that counts each file found as a table, if any.
     pub progress: Option<&'a Progress<'a>>,
+    /// The path of the metadata.
+    pub meta: &'a str,
+    /// The counts of the tables, if they are asked for.
+    pub counts: Option<&'a Counts>,
 }
 
 /// Returns whether the system reports that a file does not exist: it was not found, or a part of
@@ -125,6 +162,31 @@ fn size_of(metadata: &io::Result<fs::Metadata>) -> Option<u64> {
     }
 }
 
+impl<'a> Disk<'a> {
+    /// Returns what is counted in a file that is opened now.
+    fn counted_open(&self) -> Counted<'a> {
+        match self.counts {
+            Some(counts) if counts.opens_metadata() => Counted::Names(counts),
+            _ => Counted::Nothing,
+        }
+    }
+
+    /// Returns what is counted in a table's file at a path.
+    fn counted_table(&self, path: &str, is_missing: bool) -> Counted<'a> {
+        let Some(counts) = self.counts else {
+            return Counted::Nothing;
+        };
+        if is_missing {
+            counts.table_missing(self.meta, path);
+            return Counted::Nothing;
+        }
+        match counts.table_found(self.meta, path) {
+            Some(counter) => Counted::Rows(counter),
+            None => Counted::Nothing,
+        }
+    }
+}
+
 impl<'a> Folder<DiskFile<'a>> for Disk<'a> {
     fn open(&mut self, path: &str) -> Option<DiskFile<'a>> {
         let Ok(file) = fs::open(self.rt, path) else {
@@ -133,7 +195,11 @@ impl<'a> Folder<DiskFile<'a>> for Disk<'a> {
         if self.written.look_at_path(path, &file.metadata()) {
             return None;
         }
-        Some(DiskFile::of(file))
+        Some(DiskFile {
+            source: DiskFileState::Open(file),
+            progress: None,
+            counted: self.counted_open(),
+        })
     }
 
     fn find(&mut self, path: String) -> Option<DiskFile<'a>> {
@@ -143,12 +209,14 @@ impl<'a> Folder<DiskFile<'a>> for Disk<'a> {
         if let Some(progress) = self.progress {
             progress.table_found(is_missing, size_of(&metadata));
         }
+        let counted = self.counted_table(path.as_str(), is_missing);
         if is_missing {
             return None;
         }
         Some(DiskFile {
             source: DiskFileState::Named(self.rt, path),
             progress: self.progress,
+            counted,
         })
     }
 }

@@ -3,26 +3,28 @@
 //!
 //! Not proved: all of this file.
 
+use crate::colours::Colours;
 use crate::files_again::FilesAgain;
 use crate::reason::{why_unread, why_unwritten};
-use oim_meta::Finding;
+use crate::write_failure::WriteFailure;
+use oim_meta::{Finding, MetaFault};
 use oim_names::Text;
 use oim_rows::TableFault;
 use oim_run::{
     EarlyFault, ExplainedFault, Explanation, FaultPlace, Outcome, ReportAgain, Settings, Source,
-    explained_fault, explanation_text, report_again, report_explanation, table_line,
+    explained_fault, explanation_text, report_again, report_explanation, shown, table_line,
 };
 use std::alloc::{AllocError, Global};
+use std::fs;
 
 /// The number of refused tables that are explained.
 const MOST_TABLES: usize = 100;
 
-/// Prints lines, unless memory ran out for them.
-fn print(rt: &HostRuntime, lines: Result<String, AllocError>) {
-    if let Ok(lines) = lines {
-        let _ = rt.eprint(lines.as_str());
-    }
-}
+/// What is printed below a metadata that is a folder.
+const OF_FOLDER: &str = "    if this folder is a filing, convert it with xbrl-filing\n";
+
+/// What is printed if memory runs out for an explanation.
+const NO_MEMORY: &str = "    memory ran out for an explanation\n";
 
 /// What the explanation of a run's faults found out, which the file of faults has too.
 #[derive(Drop)]
@@ -62,109 +64,182 @@ impl KnownTables {
     }
 }
 
-/// Prints the explanation below the line of a fault of the metadata, the types table or the
-/// parameters file, and returns it.
-fn explain_early(
-    rt: &HostRuntime,
+/// What explains the faults of a run.
+#[derive(Drop)]
+pub struct Explainer<'a> {
+    rt: &'a HostRuntime,
     alloc: Global,
-    settings: &Settings,
-    files: &mut FilesAgain<'_>,
-    source: Source,
-    finding: &Finding,
-) -> Known {
-    let (meta, types) = (settings.meta.as_str(), settings.types.as_str());
-    match report_explanation(alloc, meta, types, files, source, finding) {
-        Ok(explanation) => {
-            print(rt, explanation_text(alloc, &explanation));
-            Known::Report(explanation)
+    settings: &'a Settings,
+    colours: Colours,
+    failure: &'a WriteFailure,
+}
+
+impl<'a> Explainer<'a> {
+    /// Makes it. `failure` is why a write of the document failed, if one did.
+    pub fn new(
+        rt: &'a HostRuntime,
+        alloc: Global,
+        settings: &'a Settings,
+        failure: &'a WriteFailure,
+    ) -> Explainer<'a> {
+        Explainer {
+            rt,
+            alloc,
+            settings,
+            colours: Colours::of(rt),
+            failure,
         }
-        Err(_) => Known::Nothing,
     }
-}
 
-/// Prints the explanation below the line of an outcome without refused tables, and returns what it
-/// found out. Leaves out what cannot be printed, or what memory runs out for.
-pub fn explain_fault(
-    rt: &HostRuntime,
-    alloc: Global,
-    settings: &Settings,
-    files: &mut FilesAgain<'_>,
-    outcome: &Outcome,
-) -> Known {
-    let reason = match outcome {
-        Outcome::Report(source, finding) => {
-            return explain_early(rt, alloc, settings, files, *source, finding);
-        }
-        Outcome::CannotRead(path) => why_unread(rt, path.as_str()),
-        Outcome::CannotWrite(path) => why_unwritten(rt, settings, path.as_str()),
-        _ => return Known::Nothing,
-    };
-    let _ = eprint!(rt; "    {reason}\n");
-    Known::Nothing
-}
-
-/// Prints the explanation of a table's fault, given the report as read again. Returns the place of
-/// the fault, unless memory runs out.
-fn explain_again(
-    rt: &HostRuntime,
-    alloc: Global,
-    meta: &str,
-    files: &mut FilesAgain<'_>,
-    report: &Result<ReportAgain, EarlyFault>,
-    fault: &TableFault,
-) -> Option<FaultPlace> {
-    let Ok(report) = report else {
-        let _ = rt.eprint("    the report cannot be read again, or has changed\n");
-        return None;
-    };
-    match explained_fault(alloc, meta, files, report, fault) {
-        Ok(explained) => {
-            print(rt, explanation_text(alloc, &explained.explanation));
-            let ExplainedFault {
-                explanation: _,
-                place,
-            } = explained;
-            Some(place)
-        }
-        Err(_) => None,
-    }
-}
-
-/// Prints the line of each refused table, with the explanation of each of the first `MOST_TABLES`.
-/// Returns what it found out.
-fn explain_each(
-    rt: &HostRuntime,
-    alloc: Global,
-    settings: &Settings,
-    files: &mut FilesAgain<'_>,
-    tables: &[(Text, TableFault)],
-) -> KnownTables {
-    let mut known = KnownTables::read(alloc, settings, files);
-    let meta = settings.meta.as_str();
-    for (index, (id, fault)) in tables.iter().enumerate() {
-        print(rt, table_line(alloc, id.as_str(), fault));
-        if index < MOST_TABLES {
-            if let Some(place) = explain_again(rt, alloc, meta, files, &known.report, fault) {
-                known.keep(index, place);
+    /// Prints an explanation, or that memory ran out for it.
+    fn print(&self, lines: Result<String, AllocError>) {
+        match lines {
+            Ok(lines) => self.colours.print_explanation(self.rt, lines.as_str()),
+            Err(_) => {
+                let _ = self.rt.eprint(NO_MEMORY);
             }
         }
     }
-    known
-}
 
-/// Prints the lines of all refused tables, and how many of them are not explained. Returns what it
-/// found out.
-pub fn explain_tables(
-    rt: &HostRuntime,
-    alloc: Global,
-    settings: &Settings,
-    files: &mut FilesAgain<'_>,
-    tables: &[(Text, TableFault)],
-) -> Known {
-    let known = explain_each(rt, alloc, settings, files, tables);
-    if tables.len() > MOST_TABLES {
-        let more = tables.len() - MOST_TABLES;
-        let _ = eprint!(rt; "    (and {more} more)\n");
+    /// Prints the explanation below the line of a fault of the metadata, the types table or the
+    /// parameters file, and returns it.
+    fn explain_early(
+        &self,
+        files: &mut FilesAgain<'_>,
+        source: Source,
+        finding: &Finding,
+    ) -> Known {
+        let (meta, types) = (self.settings.meta.as_str(), self.settings.types.as_str());
+        match report_explanation(self.alloc, meta, types, files, source, finding) {
+            Ok(explanation) => {
+                self.print(explanation_text(self.alloc, &explanation));
+                if matches!(source, Source::Report) && finding.fault == MetaFault::Read {
+                    self.explain_folder(meta);
+                }
+                Known::Report(explanation)
+            }
+            Err(_) => {
+                let _ = self.rt.eprint(NO_MEMORY);
+                Known::Nothing
+            }
+        }
     }
-    Known::Tables(known)
+
+    /// Prints what to do with a metadata that is a folder.
+    fn explain_folder(&self, meta: &str) {
+        if let Ok(metadata) = fs::metadata(self.rt, meta) {
+            if metadata.is_dir() {
+                let _ = self.rt.eprint(OF_FOLDER);
+            }
+        }
+    }
+
+    /// Prints which output could not be written, and why.
+    fn explain_write(&self) {
+        let why = self.failure.why();
+        let Some(path) = &self.settings.out else {
+            let _ = eprint!(self.rt; "    standard output: {why}\n");
+            return;
+        };
+        let line = match shown(self.alloc, path.as_str()) {
+            Ok(path) => {
+                let path = path.as_str();
+                format!(in self.alloc; "    {path}: {why}\n")
+            }
+            Err(error) => Err(error),
+        };
+        self.print(line);
+    }
+
+    /// Prints the explanation below the line of an outcome without refused tables, and returns what
+    /// it found out.
+    pub fn explain_fault(&self, files: &mut FilesAgain<'_>, outcome: &Outcome) -> Known {
+        let reason = match outcome {
+            Outcome::Done | Outcome::Tables(_) => return Known::Nothing,
+            Outcome::Report(source, finding) => {
+                return self.explain_early(files, *source, finding);
+            }
+            Outcome::Output(_) => {
+                self.explain_write();
+                return Known::Nothing;
+            }
+            Outcome::CannotRead(path) => why_unread(self.rt, path.as_str()),
+            Outcome::CannotWrite(path) => why_unwritten(self.rt, self.settings, path.as_str()),
+            Outcome::Run(fault) => fault.explanation(),
+        };
+        let _ = eprint!(self.rt; "    {reason}\n");
+        Known::Nothing
+    }
+
+    /// Prints the explanation of a table's fault, given the report as read again. Returns the place
+    /// of the fault, unless memory runs out.
+    fn explain_again(
+        &self,
+        files: &mut FilesAgain<'_>,
+        report: &Result<ReportAgain, EarlyFault>,
+        fault: &TableFault,
+    ) -> Option<FaultPlace> {
+        let Ok(report) = report else {
+            let _ = self
+                .rt
+                .eprint("    the report cannot be read again, or has changed\n");
+            return None;
+        };
+        let meta = self.settings.meta.as_str();
+        match explained_fault(self.alloc, meta, files, report, fault) {
+            Ok(explained) => {
+                self.print(explanation_text(self.alloc, &explained.explanation));
+                let ExplainedFault {
+                    explanation: _,
+                    place,
+                } = explained;
+                Some(place)
+            }
+            Err(_) => {
+                let _ = self.rt.eprint(NO_MEMORY);
+                None
+            }
+        }
+    }
+
+    /// Prints the line of a refused table, unless memory runs out for it.
+    fn print_line(&self, id: &str, fault: &TableFault) {
+        if let Ok(line) = table_line(self.alloc, id, fault) {
+            self.colours.print_faults(self.rt, line.as_str());
+        }
+    }
+
+    /// Prints the line of each refused table, with the explanation of each of the first
+    /// `MOST_TABLES`. Returns what it found out.
+    fn explain_each(
+        &self,
+        files: &mut FilesAgain<'_>,
+        tables: &[(Text, TableFault)],
+    ) -> KnownTables {
+        let mut known = KnownTables::read(self.alloc, self.settings, files);
+        for (index, (id, fault)) in tables.iter().enumerate() {
+            self.print_line(id.as_str(), fault);
+            if index < MOST_TABLES {
+                if let Some(place) = self.explain_again(files, &known.report, fault) {
+                    known.keep(index, place);
+                }
+            }
+        }
+        known
+    }
+
+    /// Prints the lines of all refused tables, and how many of them are not explained. Returns what
+    /// it found out.
+    pub fn explain_tables(
+        &self,
+        files: &mut FilesAgain<'_>,
+        tables: &[(Text, TableFault)],
+    ) -> Known {
+        let known = self.explain_each(files, tables);
+        if tables.len() > MOST_TABLES {
+            let more = tables.len() - MOST_TABLES;
+            let _ = eprint!(self.rt; "    (and {more} more)\n");
+        }
+        Known::Tables(known)
+    }
 }

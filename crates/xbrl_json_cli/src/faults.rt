@@ -7,8 +7,8 @@ ghost use Rattle.oim_run.specs.Outputs.{IsLeftUnwritten};
 
 use crate::explain::{Known, KnownTables};
 use crate::files_again::FilesAgain;
-use crate::new_file::{NewFile, replaced};
 use crate::target::Target;
+use crate::whole_file::{Content, can_be_made, write_whole};
 use oim_meta::Finding;
 use oim_names::Text;
 use oim_rows::TableFault;
@@ -18,12 +18,11 @@ use oim_run::{
     status,
 };
 use std::alloc::{AllocError, Global};
-use std::fs::OpenOptions;
+use std::io;
 use std::io::{BufWriter, Write};
-use std::{fs, io};
 
 /// Returns the path of the document's file.
-fn document_path(settings: &Settings) -> &str {
+pub fn document_path(settings: &Settings) -> &str {
     match &settings.out {
         Some(path) => path.as_str(),
         None => "/dev/stdout",
@@ -31,7 +30,7 @@ fn document_path(settings: &Settings) -> &str {
 }
 
 /// Whether the file at a path is the metadata, the types table or the document.
-fn is_taken(rt: &HostRuntime, settings: &Settings, path: &str) -> bool {
+pub fn is_taken(rt: &HostRuntime, settings: &Settings, path: &str) -> bool {
     let target = Target::of(rt, path);
     settings.reads(path)
         || target.is_at(rt, settings.meta.as_str())
@@ -39,46 +38,10 @@ fn is_taken(rt: &HostRuntime, settings: &Settings, path: &str) -> bool {
         || target.is_at(rt, document_path(settings))
 }
 
-/// Makes a new file next to the one at a path, if that is a regular file or does not exist.
-///
-/// Returns `Some(None)` for any other file, which is written directly, and `None` if no new file
-/// can be made.
-fn file_beside(rt: &HostRuntime, alloc: Global, path: &str) -> Option<Option<NewFile>> {
-    let Some(old) = replaced(rt, path) else {
-        return Some(None);
-    };
-    match NewFile::make(rt, alloc, path, &old) {
-        Some(new) => Some(Some(new)),
-        None => None,
-    }
-}
-
-/// Whether a file that is written directly can hold the faults: any but a folder. It is not opened
-/// to find out.
-fn is_no_folder(rt: &HostRuntime, path: &str) -> bool {
-    match fs::metadata(rt, path) {
-        Ok(metadata) => !metadata.is_dir(),
-        Err(_) => true,
-    }
-}
-
-/// Whether the file of the faults can be written, as far as can be known before the run.
-///
-/// Either a new file can be made next to it, or it is neither a regular file nor a folder. It must
-/// not be the metadata, the types table or the document. A pipe is not opened to find out, because
-/// closing it again would end its reader's input.
+/// Whether the file of the faults can be written, as far as can be known before the run. It must
+/// not be the metadata, the types table or the document.
 fn can_be_written(rt: &HostRuntime, alloc: Global, settings: &Settings, path: &str) -> bool {
-    if is_taken(rt, settings, path) {
-        return false;
-    }
-    match file_beside(rt, alloc, path) {
-        Some(Some(new)) => {
-            new.remove(rt);
-            true
-        }
-        Some(None) => is_no_folder(rt, path),
-        None => false,
-    }
+    !is_taken(rt, settings, path) && can_be_made(rt, alloc, path)
 }
 
 /// Returns the outcome of a run that cannot write the file of the faults, if that is known before
@@ -177,68 +140,40 @@ fn report_row(
     row_of_report(alloc, finding, &told)
 }
 
-/// Writes the header and the records of a run's faults.
-fn write_to<W: Write>(
+/// The records of a run's faults.
+#[derive(Drop)]
+struct FaultRecords<'a, 'b> {
     alloc: Global,
-    settings: &Settings,
-    outcome: &Outcome,
-    files: &mut FilesAgain<'_>,
-    known: &Known,
-    to: &mut W,
-) -> io::Result<()> {
-    let mut buffered = BufWriter::new(alloc, to)?;
-    buffered.write_all(fault_header().as_bytes())?;
-    match outcome {
-        Outcome::Tables(tables) => {
-            write_rows(
-                alloc,
-                settings,
-                files,
-                known,
-                tables.as_slice(),
-                &mut buffered,
-            )?;
-        }
-        Outcome::Report(source, finding) => {
-            let row = report_row(alloc, settings, files, known, *source, finding)?;
-            buffered.write_all(row.as_slice())?;
-        }
-        _ => {}
-    }
-    buffered.flush()
+    settings: &'a Settings,
+    outcome: &'a Outcome,
+    files: &'a mut FilesAgain<'b>,
+    known: &'a Known,
 }
 
-/// Writes a new file, gives it its name, and returns whether both succeeded.
-fn write_new(
-    rt: &HostRuntime,
-    alloc: Global,
-    settings: &Settings,
-    outcome: &Outcome,
-    files: &mut FilesAgain<'_>,
-    known: &Known,
-    new: NewFile,
-) -> bool {
-    let mut new = new;
-    if write_to(alloc, settings, outcome, files, known, &mut new.file).is_ok() {
-        return new.take_name(rt);
+impl<'a, 'b> FaultRecords<'a, 'b> {
+    /// Writes the records.
+    fn write_records<W: Write>(&mut self, to: &mut W) -> io::Result<()> {
+        let (alloc, settings, known) = (self.alloc, self.settings, self.known);
+        match self.outcome {
+            Outcome::Tables(tables) => {
+                write_rows(alloc, settings, self.files, known, tables.as_slice(), to)
+            }
+            Outcome::Report(source, finding) => {
+                let row = report_row(alloc, settings, self.files, known, *source, finding)?;
+                to.write_all(row.as_slice())
+            }
+            _ => Ok(()),
+        }
     }
-    new.remove(rt);
-    false
 }
 
-/// Writes the file at a path directly, and returns whether that succeeded.
-fn write_straight(
-    rt: &HostRuntime,
-    alloc: Global,
-    settings: &Settings,
-    outcome: &Outcome,
-    files: &mut FilesAgain<'_>,
-    known: &Known,
-    path: &str,
-) -> bool {
-    match OpenOptions::new().write(true).create(true).open(rt, path) {
-        Ok(mut file) => write_to(alloc, settings, outcome, files, known, &mut file).is_ok(),
-        Err(_) => false,
+impl<'a, 'b> Content for FaultRecords<'a, 'b> {
+    /// Writes the header and the records.
+    fn write_to<W: Write + Drop>(&mut self, to: W) -> io::Result<()> {
+        let mut buffered = BufWriter::new(self.alloc, to)?;
+        buffered.write_all(fault_header().as_bytes())?;
+        self.write_records(&mut buffered)?;
+        buffered.flush()
     }
 }
 
@@ -255,11 +190,14 @@ fn write_file(
     if Target::of(rt, path).is_at(rt, document_path(settings)) {
         return false;
     }
-    match file_beside(rt, alloc, path) {
-        Some(Some(new)) => write_new(rt, alloc, settings, outcome, files, known, new),
-        Some(None) => write_straight(rt, alloc, settings, outcome, files, known, path),
-        None => false,
-    }
+    let records = &mut FaultRecords {
+        alloc,
+        settings,
+        outcome,
+        files,
+        known,
+    };
+    write_whole(rt, alloc, records, path)
 }
 
 /// Writes the file of the faults, if the command line names one and the exit status is 0 or 1.

@@ -1,9 +1,9 @@
 //! `xbrl-json`: converts a report in xBRL-CSV 1.0 to xBRL-JSON 1.0.
 //!
 //! `xbrl-json META --types FILE [--workers N] [--ring K] [--out FILE] [--whole] [--layout LAYOUT]
-//! [--progress] [--explain] [--faults FILE]` converts the report whose metadata file is META, to
-//! standard output or to the file of `--out`. Without arguments it converts its built-in report to
-//! standard output.
+//! [--progress] [--explain] [--no-explain] [--faults FILE] [--counts FILE]` converts the report
+//! whose metadata file is META, to standard output or to the file of `--out`. Without arguments it
+//! converts its built-in report to standard output.
 //!
 //! The crate `oim_run` proves what a run writes and which faults it answers. This crate is the
 //! edge: it opens the system's files, shows the progress, and prints. Proved here:
@@ -12,7 +12,11 @@
 //!   that the command line names. No run is made if that output is written as the path of the
 //!   metadata or of the types table, or cannot be opened. The outcome, or that the output did not
 //!   end well, is told at most once. The exit status is that of the outcome, or of the file of the
-//!   faults if that cannot be written afterwards.
+//!   faults or of the counts if that cannot be written afterwards.
+//! - `fitted`: the run has the workers that the command line asks for, or fewer, and everything
+//!   else as it asks.
+//! - What each byte of a document, of a table and of a JSON text tells `--counts`
+//!   (`specs/{DocumentMarks,RecordCounts,JsonPlaces}.antt`).
 //! - `explained`: the exit status for a refused command line follows from the kind of its fault.
 //!   For the help and the version it is 0 or 3.
 //!
@@ -21,31 +25,48 @@
 //! - what the system's files contain, and what `SystemOutputs` does. Tests show that no file of the
 //!   report is written by any path, and that a file gets its name only once it is whole;
 //! - that `converted` passes these to one call, and what the system gives as arguments;
-//! - that the outcome is printed: memory may run out for its lines, and with `--explain` the lines
-//!   of refused tables are printed past the teller;
+//! - that the outcome is printed: memory may run out for its lines. If the faults are explained
+//!   (`explains` of `oim_run/specs/CommandLine.antt`: with `--explain`, and on a terminal without
+//!   `--no-explain`), the lines of refused tables are printed past the teller. On a terminal so are
+//!   the codes of colours;
 //! - that the status is 3 exactly if the help or the version cannot be printed (tested);
-//! - the line of `--progress`.
+//! - the line of `--progress`, and what the file of `--counts` has.
 #![tactic(auto)]
 
+mod colours;
+mod counts;
+mod counts_file;
 mod disk;
+mod document_counts;
+mod document_marks;
 mod explain;
 mod faults;
 mod files_again;
+mod json_place;
 mod new_file;
 mod output;
 mod over;
 mod paths;
+mod processors;
 mod progress;
 mod reason;
+mod record_count;
+mod row_counter;
 mod said;
+mod table_names;
 mod target;
+mod whole_file;
+mod write_failure;
 mod written;
 
+use counts::Counts;
+use counts_file::uncounted_before;
 use disk::Disk;
 use faults::refused_before;
 use oim_convert::ConvertFault;
 use oim_run::{Outcome, Request, held_told, request_of, tell};
 use output::SystemOutputs;
+use processors::fitted;
 use progress::Progress;
 use said::{StandardError, convert_and_tell, explained, told_before};
 use std::alloc::{AllocError, Global};
@@ -54,36 +75,51 @@ use std::io::{ErrorKind, IsTerminal};
 use std::process::ExitCode;
 use std::sync::Wait;
 use std::thread::Threads;
+use write_failure::WriteFailure;
 use written::WrittenFiles;
 
-/// Converts from the system's files to its outputs, with a progress if the command line asks for
-/// one. Returns the exit status.
+/// Returns the counts of a run, if the command line asks for them.
+fn counts_of(alloc: Global, request: &Request) -> Option<Counts> {
+    match request.counts {
+        Some(_) => Some(Counts::new(alloc)),
+        None => None,
+    }
+}
+
+/// Converts from the system's files to its outputs, with a progress and with counts if the command
+/// line asks for them. Returns the exit status.
 fn converted<T: Threads + Wait + Sync>(
     rt: &HostRuntime,
     threads: &T,
     alloc: Global,
     request: &Request,
 ) -> u8 {
-    let written = &WrittenFiles::new(rt, request);
+    let failure = &WriteFailure::new(alloc);
+    let written = &WrittenFiles::new(rt, request, failure.shared());
     let progress = if request.progress {
         Progress::start(rt, rt.stderr().is_terminal())
     } else {
         None
     };
     let progress = progress.as_ref();
+    let counts = counts_of(alloc, request);
+    let counts = counts.as_ref();
     let disk = &mut Disk {
         rt,
         written,
         progress,
+        meta: request.settings.meta.as_str(),
+        counts,
     };
     let outputs = &mut SystemOutputs {
         rt,
         request,
         written,
         progress,
+        counts,
     };
-    let errors = &mut StandardError { rt };
-    convert_and_tell(rt, threads, alloc, request, disk, outputs, errors)
+    let errors = &mut StandardError::new(rt);
+    convert_and_tell(rt, threads, request, disk, outputs, counts, failure, errors)
 }
 
 /// Checks what the arguments ask for and runs it. Returns the exit status.
@@ -97,7 +133,11 @@ fn asked<T: Threads + Wait + Sync>(
         let _ = rt.eprint("error: --whole wants --out FILE\n");
         return 2;
     }
-    match refused_before(rt, alloc, request) {
+    let refused = match refused_before(rt, alloc, request) {
+        Some(outcome) => Some(outcome),
+        None => uncounted_before(rt, alloc, request),
+    };
+    match refused {
         Some(outcome) => told_before(rt, alloc, request, &outcome),
         None => converted(rt, threads, alloc, request),
     }
@@ -111,11 +151,11 @@ fn started<T: Threads + Wait + Sync>(
     words: &[&str],
 ) -> u8 {
     if words.is_empty() {
-        let (status, _) = held_told(threads, alloc, io::writer(rt), &mut StandardError { rt });
+        let (status, _) = held_told(threads, alloc, io::writer(rt), &mut StandardError::new(rt));
         return status;
     }
     match request_of(alloc, words) {
-        Ok(request) => asked(rt, threads, alloc, &request),
+        Ok(request) => asked(rt, threads, alloc, &fitted(threads, request)),
         Err(error) => explained(rt, alloc, &error),
     }
 }
@@ -123,7 +163,7 @@ fn started<T: Threads + Wait + Sync>(
 /// Prints that memory ran out. Returns the exit status.
 fn no_memory(rt: &HostRuntime) -> u8 {
     let outcome = Outcome::Run(ConvertFault::Memory);
-    tell(&mut StandardError { rt }, rt.alloc(), &outcome)
+    tell(&mut StandardError::new(rt), rt.alloc(), &outcome)
 }
 
 /// Returns the arguments as slices.

@@ -111,16 +111,15 @@ impl NewFile {
         fs::rename(rt, self.path.as_str(), self.target.as_str())
     }
 
-    /// Writes it to the disk, gives it the document's name, and returns whether that succeeded. If
-    /// not, removes it.
-    pub fn take_name(self, rt: &HostRuntime) -> bool {
-        let is_named = self.rename(rt).is_ok();
-        if is_named {
+    /// Writes it to the disk, and gives it the document's name. If that fails, removes it.
+    pub fn take_name(self, rt: &HostRuntime) -> io::Result<()> {
+        let named = self.rename(rt);
+        if named.is_ok() {
             sync_folder(rt, self.target.as_str());
         } else {
             self.remove(rt);
         }
-        is_named
+        named
     }
 
     /// Removes it. If the system refuses that, it stays.

@@ -1,5 +1,8 @@
 //! The system's outputs: standard output, and the file of `--out`.
 
+ghost use Rattle.std.specs.Io.{WritesAtMost};
+
+use crate::counts::Counts;
 use crate::new_file::{NewFile, replaced};
 use crate::over::Over;
 use crate::paths::reached;
@@ -31,6 +34,8 @@ pub struct Output<'a> {
     written: &'a WrittenFiles<'a>,
     /// The progress that counts its bytes, if any.
     progress: Option<&'a Progress<'a>>,
+    /// The counts of its facts, if they are asked for.
+    counts: Option<&'a Counts>,
 }
 
 impl<'a> Output<'a> {
@@ -42,28 +47,55 @@ impl<'a> Output<'a> {
             _ => Ok(()),
         }
     }
-}
 
-impl<'a> Write for Output<'a> {
-    fn write(&mut self, buf: &[u8]) -> io::Result<usize> {
+    /// Writes bytes, as many as the system takes.
+    fn write_some(&mut self, buf: &[u8]) -> io::Result<usize>
+        ensures { WritesAtMost result buf.now }
+    {
         self.prepare()?;
-        let count = match &mut self.to {
-            To::Standard(to) => to.write(buf)?,
-            To::Over(over) => over.file.write(buf)?,
-            To::Beside(new) => new.file.write(buf)?,
-        };
-        if let Some(progress) = self.progress {
-            progress.count_written(count);
+        match &mut self.to {
+            To::Standard(to) => to.write(buf),
+            To::Over(over) => over.file.write(buf),
+            To::Beside(new) => new.file.write(buf),
         }
-        Ok(count)
     }
 
-    fn flush(&mut self) -> io::Result<()> {
+    /// Writes out what the system holds back.
+    fn flush_all(&mut self) -> io::Result<()> {
         self.prepare()?;
         match &mut self.to {
             To::Standard(to) => to.flush(),
             To::Over(over) => over.file.flush(),
             To::Beside(new) => new.file.flush(),
+        }
+    }
+}
+
+impl<'a> Write for Output<'a> {
+    fn write(&mut self, buf: &[u8]) -> io::Result<usize> {
+        let count = match self.write_some(buf) {
+            Ok(count) => count,
+            Err(error) => {
+                self.written.failure.note(&error);
+                return Err(error);
+            }
+        };
+        if let Some(progress) = self.progress {
+            progress.count_written(count);
+        }
+        if let Some(counts) = self.counts {
+            counts.take_document(buf.get(..count).unwrap_or(b""));
+        }
+        Ok(count)
+    }
+
+    fn flush(&mut self) -> io::Result<()> {
+        match self.flush_all() {
+            Ok(()) => Ok(()),
+            Err(error) => {
+                self.written.failure.note(&error);
+                Err(error)
+            }
         }
     }
 }
@@ -96,6 +128,8 @@ pub struct SystemOutputs<'a> {
     pub written: &'a WrittenFiles<'a>,
     /// The progress that counts the bytes written, if any.
     pub progress: Option<&'a Progress<'a>>,
+    /// The counts of the facts written, if they are asked for.
+    pub counts: Option<&'a Counts>,
 }
 
 impl<'a> SystemOutputs<'a> {
@@ -105,6 +139,7 @@ impl<'a> SystemOutputs<'a> {
             to,
             written: self.written,
             progress: self.progress,
+            counts: self.counts,
         }
     }
 
@@ -179,10 +214,12 @@ impl<'a> SystemOutputs<'a> {
             new.remove(self.rt);
             return how;
         }
-        if new.take_name(self.rt) {
-            RunEnd::Kept
-        } else {
-            RunEnd::NotKept
+        match new.take_name(self.rt) {
+            Ok(()) => RunEnd::Kept,
+            Err(error) => {
+                self.written.failure.note(&error);
+                RunEnd::NotKept
+            }
         }
     }
 }
@@ -207,6 +244,7 @@ impl<'a> Outputs<Output<'a>> for SystemOutputs<'a> {
             to,
             written: _,
             progress: _,
+            counts: _,
         } = writer;
         match to {
             To::Standard(_) => self.written.ending(),

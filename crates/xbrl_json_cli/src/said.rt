@@ -1,13 +1,17 @@
 //! The lines that the program prints when a run ends, and its exit status.
 
-ghost use Rattle.std.specs.Prelude.{◌≡◌, ◌⊎◌};
+ghost use Rattle.std.specs.Prelude.{◌≡◌, ◌⊎◌, IfSome};
 ghost use Rattle.clap.specs.Values.{kind_of};
 ghost use Rattle.oim_run.specs.Lines.{status_of, unprinted_status, words_status};
-ghost use Rattle.oim_run.specs.Outputs.{EndsFor, EndsTold, Says, SaysLast};
+ghost use Rattle.oim_run.specs.Outputs.{EndsFor, EndsTold, IsLeftOut, Says, SaysLast};
 
-use crate::explain::{Known, explain_fault, explain_tables};
+use crate::colours::Colours;
+use crate::counts::Counts;
+use crate::counts_file::write_counts;
+use crate::explain::{Explainer, Known};
 use crate::faults::write_faults;
 use crate::files_again::FilesAgain;
+use crate::write_failure::WriteFailure;
 use oim_run::{Folder, Outcome, Outputs, Request, Teller, convert_as, shown, status, tell};
 use std::alloc::{AllocError, Global};
 use std::fs;
@@ -21,11 +25,21 @@ const NOTHING: &str = "/dev/null";
 /// The line to print if the help or the version cannot be written to standard output.
 const UNPRINTED: &str = "xbrl-json: output: Write (56)\n";
 
-/// Standard error.
+/// Standard error. What is said there is coloured if it is a terminal with colours.
 #[derive(Drop)]
 pub struct StandardError<'a> {
-    /// The system.
-    pub rt: &'a HostRuntime,
+    rt: &'a HostRuntime,
+    colours: Colours,
+}
+
+impl<'a> StandardError<'a> {
+    /// Makes it.
+    pub fn new(rt: &'a HostRuntime) -> StandardError<'a> {
+        StandardError {
+            rt,
+            colours: Colours::of(rt),
+        }
+    }
 }
 
 impl<'a> Teller for StandardError<'a> {
@@ -34,25 +48,17 @@ impl<'a> Teller for StandardError<'a> {
     }
 
     fn say(&mut self, text: &str) {
-        let _ = self.rt.eprint(text);
+        self.colours.print_faults(self.rt, text);
     }
 }
 
-/// Prints the explanation below the line of an outcome, if the command line asks for it.
-fn explain_if_asked(rt: &HostRuntime, alloc: Global, request: &Request, outcome: &Outcome) {
-    if request.explain {
-        let files = &mut FilesAgain::new(rt, alloc);
-        let _ = explain_fault(rt, alloc, &request.settings, files, outcome);
-    }
-}
-
-/// Tells the lines of an outcome, with the places of its faults if the command line asks for them.
-/// With places, the lines of tables are printed one by one, past the teller. Returns what was found
-/// out for them.
+/// Tells the lines of an outcome, with the places of its faults if they are asked for. Then the
+/// lines of tables are printed one by one, past the teller. Returns what was found out for them.
 fn told_as_asked<L: Teller>(
     rt: &HostRuntime,
     alloc: Global,
     request: &Request,
+    failure: &WriteFailure,
     outcome: &Outcome,
     files: &mut FilesAgain<'_>,
     to: &mut L,
@@ -60,44 +66,84 @@ fn told_as_asked<L: Teller>(
     ensures says { Says (L.terminal to.old) outcome.now (L.said to.old) (L.said to.new) }
     ensures same { L.terminal to.new ≡ L.terminal to.old }
 {
-    if !request.explain {
+    if !request.explains(to.is_terminal()) {
         tell(to, alloc, outcome);
         return Known::Nothing;
     }
+    let explainer = Explainer::new(rt, alloc, &request.settings, failure);
     if let Outcome::Tables(tables) = outcome {
-        return explain_tables(rt, alloc, &request.settings, files, tables.as_slice());
+        return explainer.explain_tables(files, tables.as_slice());
     }
     tell(to, alloc, outcome);
-    explain_fault(rt, alloc, &request.settings, files, outcome)
+    explainer.explain_fault(files, outcome)
 }
 
-/// Writes the file of the faults of a run with this outcome, by what is known of them, and returns
-/// the outcome's exit status.
-/// If the file cannot be written, tells so and returns the exit status of that.
-fn faults_told<L: Teller>(
+/// Writes the files of the faults and of the counts of a run with this outcome. `known` is what is
+/// known of its faults. Returns the outcome that one of them cannot be written, if so.
+fn left_out(
     rt: &HostRuntime,
     alloc: Global,
     request: &Request,
     outcome: &Outcome,
     files: &mut FilesAgain<'_>,
     known: &Known,
+    counts: Option<&Counts>,
+) -> Option<Outcome>
+    ensures { IfSome result (λ last. IsLeftOut request.now.faults request.now.counts outcome.now last) }
+{
+    match write_faults(rt, alloc, request, outcome, files, known) {
+        Some(unwritten) => Some(unwritten),
+        None => write_counts(rt, alloc, request, outcome, counts),
+    }
+}
+
+/// Tells the lines of an outcome, with the places of its faults if they are asked for. Returns its
+/// exit status. The files are read again only for this.
+fn told_alone<L: Teller>(
+    rt: &HostRuntime,
+    alloc: Global,
+    request: &Request,
+    outcome: &Outcome,
     to: &mut L,
 ) -> u8
-    ensures { SaysLast (L.terminal to.old) request.now.faults outcome.now (L.said to.old) (L.said to.new) result }
+    ensures status { result ≡ status_of outcome.now }
+    ensures says { Says (L.terminal to.old) outcome.now (L.said to.old) (L.said to.new) }
 {
-    let Some(unwritten) = write_faults(rt, alloc, request, outcome, files, known) else {
+    let files = &mut FilesAgain::new(rt, alloc);
+    told_as_asked(
+        rt,
+        alloc,
+        request,
+        &WriteFailure::none(),
+        outcome,
+        files,
+        to,
+    );
+    status(outcome)
+}
+
+/// Returns the exit status of a run with this outcome. If a file is left out after it, tells so and
+/// returns the exit status of that.
+fn last_told<L: Teller>(
+    rt: &HostRuntime,
+    alloc: Global,
+    request: &Request,
+    outcome: &Outcome,
+    left: Option<Outcome>,
+    to: &mut L,
+) -> u8
+    requires { IfSome left (λ last. IsLeftOut request.now.faults request.now.counts outcome.now last) }
+    ensures { SaysLast (L.terminal to.old) request.now.faults request.now.counts outcome.now (L.said to.old) (L.said to.new) result }
+{
+    let Some(unwritten) = left else {
         return status(outcome);
     };
-    let status = tell(to, alloc, &unwritten);
-    explain_if_asked(rt, alloc, request, &unwritten);
-    status
+    told_alone(rt, alloc, request, &unwritten, to)
 }
 
 /// Tells the outcome of a run that was not begun, and returns its exit status.
 pub fn told_before(rt: &HostRuntime, alloc: Global, request: &Request, outcome: &Outcome) -> u8 {
-    let status = tell(&mut StandardError { rt }, alloc, outcome);
-    explain_if_asked(rt, alloc, request, outcome);
-    status
+    told_alone(rt, alloc, request, outcome, &mut StandardError::new(rt))
 }
 
 /// Converts as `convert_as` does, with the numbers of standard input, output and error occupied.
@@ -127,8 +173,9 @@ fn convert_apart<
     convert_as(threads, alloc, request, folder, outputs)
 }
 
-/// Converts as the command line asks, tells the outcome, and writes the file of the faults. Returns
-/// the exit status of what was told last. `threads` starts the workers.
+/// Converts as the command line asks, tells the outcome, and writes the files of the faults and of
+/// the counts. Returns the exit status of what was told last. `threads` starts the workers, and
+/// `counts` and `failure` are what folder and outputs note.
 pub fn convert_and_tell<
     R: Read + Drop + Send,
     F: Folder<R>,
@@ -139,18 +186,21 @@ pub fn convert_and_tell<
 >(
     rt: &HostRuntime,
     threads: &T,
-    alloc: Global,
     request: &Request,
     folder: &mut F,
     outputs: &mut O,
+    counts: Option<&Counts>,
+    failure: &WriteFailure,
     to: &mut L,
 ) -> u8
     ensures { EndsTold (F.files folder.old) request.now (O.done outputs.old) (O.done outputs.new) (L.terminal to.old) (L.said to.old) (L.said to.new) result }
 {
+    let alloc = rt.alloc();
     let outcome = convert_apart(rt, threads, alloc, request, folder, outputs);
     let files = &mut FilesAgain::new(rt, alloc);
-    let known = told_as_asked(rt, alloc, request, &outcome, files, to);
-    faults_told(rt, alloc, request, &outcome, files, &known, to)
+    let known = told_as_asked(rt, alloc, request, failure, &outcome, files, to);
+    let left = left_out(rt, alloc, request, &outcome, files, &known, counts);
+    last_told(rt, alloc, request, &outcome, left, to)
 }
 
 /// Appends a line with its control characters escaped.

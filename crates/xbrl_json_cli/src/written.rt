@@ -1,6 +1,7 @@
 //! The files that a run writes, and whether the report reads one of them.
 
 use crate::target::{FileId, Target};
+use crate::write_failure::WriteFailure;
 use oim_names::Text;
 use oim_run::{Request, RunEnd};
 use std::cell::Cell;
@@ -23,10 +24,16 @@ pub struct WrittenFiles<'a> {
     place: Target,
     /// The file of the faults, if the command line names one.
     faults: Target,
+    /// The file of the counts, if the command line names one.
+    counts: Target,
     /// Whether the report reads one of the document's files.
     is_read: AtomicBool,
     /// Whether the report reads the file of the faults.
     faults_are_read: AtomicBool,
+    /// Whether the report reads the file of the counts.
+    counts_are_read: AtomicBool,
+    /// Why a write of the document failed, if one did.
+    pub failure: WriteFailure,
 }
 
 /// Whether this metadata is that of the file, if there is one.
@@ -46,19 +53,23 @@ fn target_of(rt: &HostRuntime, path: &Option<Text>) -> Target {
 }
 
 impl<'a> WrittenFiles<'a> {
-    /// Starts with the file of the faults, and without files of the document, because none is open
-    /// yet.
-    pub fn new(rt: &'a HostRuntime, request: &Request) -> WrittenFiles<'a> {
+    /// Starts with the files of the faults and of the counts, and without files of the document,
+    /// because none is open yet. `failure` gets why a write of the document fails.
+    pub fn new(rt: &'a HostRuntime, request: &Request, failure: WriteFailure) -> WrittenFiles<'a> {
         let place = target_of(rt, &request.settings.out);
         let faults = target_of(rt, &request.faults);
+        let counts = target_of(rt, &request.counts);
         WrittenFiles {
             rt,
             document: Cell::new(None),
             beside: Cell::new(None),
             place,
             faults,
+            counts,
             is_read: AtomicBool::new(false),
             faults_are_read: AtomicBool::new(false),
+            counts_are_read: AtomicBool::new(false),
+            failure,
         }
     }
 
@@ -81,18 +92,28 @@ impl<'a> WrittenFiles<'a> {
         is_one
     }
 
-    /// Checks a file by its path as well, and returns whether it is one of the document's or that
-    /// of the faults.
+    /// Returns whether a path leads to a target, and if so, keeps that in `is_read`.
+    fn leads_to(
+        &self,
+        target: &Target,
+        is_read: &AtomicBool,
+        path: &str,
+        metadata: &io::Result<Metadata>,
+    ) -> bool {
+        let is_one = target.is(self.rt, path, metadata);
+        if is_one {
+            is_read.store(true, Ordering::SeqCst);
+        }
+        is_one
+    }
+
+    /// Checks a file by its path as well, and returns whether it is one of the document's, or that
+    /// of the faults or of the counts.
     pub fn look_at_path(&self, path: &str, metadata: &io::Result<Metadata>) -> bool {
-        let are_faults = self.faults.is(self.rt, path, metadata);
-        if are_faults {
-            self.faults_are_read.store(true, Ordering::SeqCst);
-        }
-        let is_place = self.place.is(self.rt, path, metadata);
-        if is_place {
-            self.is_read.store(true, Ordering::SeqCst);
-        }
-        self.look_at(metadata) || are_faults || is_place
+        let are_faults = self.leads_to(&self.faults, &self.faults_are_read, path, metadata);
+        let are_counts = self.leads_to(&self.counts, &self.counts_are_read, path, metadata);
+        let is_place = self.leads_to(&self.place, &self.is_read, path, metadata);
+        self.look_at(metadata) || are_faults || are_counts || is_place
     }
 
     /// Returns how an output ends, from the files that the report was seen to read.
@@ -101,6 +122,8 @@ impl<'a> WrittenFiles<'a> {
             RunEnd::IsRead
         } else if self.faults_are_read.load(Ordering::SeqCst) {
             RunEnd::FaultsAreRead
+        } else if self.counts_are_read.load(Ordering::SeqCst) {
+            RunEnd::CountsAreRead
         } else {
             RunEnd::Kept
         }

@@ -46,6 +46,10 @@ get_buffer.argtypes = [ctypes.py_object, ctypes.POINTER(View), ctypes.c_int]
 release_buffer = ctypes.pythonapi.PyBuffer_Release
 release_buffer.argtypes = [ctypes.POINTER(View)]
 release_buffer.restype = None
+# `ctypes.string_at` has a length of 32 bits, so it cuts texts from 2 GiB on.
+make_bytes = ctypes.pythonapi.PyBytes_FromStringAndSize
+make_bytes.argtypes = [ctypes.c_void_p, ctypes.c_ssize_t]
+make_bytes.restype = ctypes.py_object
 free = ctypes.CDLL(None).free
 free.argtypes = [ctypes.c_void_p]
 free.restype = None
@@ -108,4 +112,4 @@ def free_answer(answer: Answer) -> None:
 
 def bytes_of(text: Text) -> bytes:
     """Returns a copy of the bytes of a text."""
-    return ctypes.string_at(text.at, text.len)
+    return bytes(make_bytes(text.at, text.len))

@@ -70,7 +70,11 @@ def convert_folder(folder: Union[str, "os.PathLike[str]"], meta: str = "meta.jso
     otherwise as `convert`.
     """
     meta, types = (os.path.join(os.fspath(folder), it) for it in (meta, types))
-    files = report_files(meta, types)
+    return convert_and_close(report_files(meta, types), meta, types, layout)
+
+
+def convert_and_close(files: Mapping[str, Buffer], meta: str, types: str, layout: Layout) -> bytes:
+    """Converts as `convert`, and closes the files that are mapped."""
     try:
         return convert(files, meta, types, layout)
     finally:

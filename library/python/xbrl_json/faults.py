@@ -1,10 +1,13 @@
 """The faults of a report, and the errors that hold them."""
 from __future__ import annotations
 
-import csv
-import io
+import re
 from dataclasses import dataclass
-from typing import List, Optional
+from typing import Iterator, List, Optional
+
+# A field, quoted or not, and what ends it. The module csv refuses a field of more than 128 KiB,
+# and in Python 3.9 and 3.10 one with a NUL.
+FIELD = re.compile('(?:"([^"]*(?:""[^"]*)*)"|([^",\n]*))([,\n])')
 
 
 @dataclass(frozen=True)
@@ -54,9 +57,19 @@ class Refused(ConversionError):
     """The report has a fault, or the system refused memory for one of its tables (Memory)."""
 
 
+def records_of(text: str) -> Iterator[List[str]]:
+    """Yields the records of a file of faults. LF ends each."""
+    record: List[str] = []
+    for quoted, plain, end in FIELD.findall(text):
+        record.append(quoted.replace('""', '"') if quoted else plain)
+        if end == "\n":
+            yield record
+            record = []
+
+
 def faults_in(records: str) -> List[Fault]:
     """Returns the faults of a file of faults, which has a header, or of an empty text."""
-    rows = csv.reader(io.StringIO(records, newline=""))
+    rows = records_of(records)
     next(rows, None)
     return [Fault(table, int(row), int(column), int(number), name, int(line) if line else None,
                   header, cell, place)

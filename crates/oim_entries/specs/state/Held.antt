@@ -1,10 +1,11 @@
--- The fields of an entry and the type names of a types table, as the program holds them.
+-- The fields of an entry and the forms of a types table, as the program holds them.
 use Rattle.std.specs.Prelude.{◌≡◌, ⊤, ℕ, List, Result, Ok, Err}
 use Rattle.std.specs.Borrow.{Bor}
 use Rattle.oim_records.specs.Grids.{Field}
 use Rattle.oim_entries.specs.declared.type_words.TypeWords.{TypeWords}
-use Rattle.oim_entries.specs.declared.type_words.TypeWords.TheVariants.{Plain, Wider}
-use Rattle.oim_entries.specs.TypeWords.{Words, plain_words, wider_words}
+use Rattle.oim_entries.specs.declared.type_words.TypeWords.TheVariants.{Plain, Wider, Longest}
+use Rattle.oim_entries.specs.declared.fields.TypeRecord.{TypeRecord}
+use Rattle.oim_entries.specs.TypeWords.{Table, TypeTexts, by_three, by_type, plain_words, wider_words}
 use Rattle.oim_entries.specs.BadEntries.{BadRecord}
 use Rattle.oim_entries.specs.CsvFiles.{fault_of_read}
 use Rattle.oim_entries.specs.EntryFaults.{meta_fault}
@@ -21,10 +22,15 @@ seen_two p = (p.0.now, p.1.now)
 abbrev pub seen_three : Bor (List ℕ) × Bor (List ℕ) × Bor (List ℕ) → Field × Field × Field
 seen_three p = (p.0.now, p.1.now, p.2.now)
 
--- The sets of type names, by the program's names for them.
-abbrev pub words_in : TypeWords → Words
-words_in Plain = plain_words
-words_in Wider = wider_words
+-- The texts of a record of a types table.
+abbrev pub seen_texts : TypeRecord → TypeTexts
+seen_texts t = (t.uri.now, t.local.now, t.word.now, t.period.now, t.values.now)
+
+-- The forms of a types table, by the program's names for them.
+abbrev pub table_in : TypeWords → Table
+table_in Plain = by_type plain_words
+table_in Wider = by_type wider_words
+table_in Longest = by_three
 
 -- The published fault of a file whose bad records have this one.
 abbrev pub refused_fault : MetaFault → Refused → MetaFault

@@ -1,14 +1,14 @@
 -- What is prepared of a dimension that a level writes, and of decimals.
-use Rattle.std.specs.Prelude.{⊤, ◌≡◌, ℕ, true, List, [], Some, None, Ok, IfSome, is_ok}
+use Rattle.std.specs.Prelude.{⊤, ◌≡◌, ℕ, true, List, [], Some, None, IfSome, is_ok}
 use Rattle.std.specs.List.{slice_get}
 use Rattle.std.specs.Option.{option_and_then}
 use Rattle.oim_json.specs.JsonText.{decimals_text}
 use Rattle.oim_report.specs.declared.data.Written.{Written}
 use Rattle.oim_report.specs.declared.data.WrittenDecimals.{WrittenDecimals}
-use Rattle.oim_resolve.specs.Facts.{concept_read, places, role_of, stated_accuracy, stated_read}
+use Rattle.oim_resolve.specs.Facts.{places, role_of, stated_accuracy, stated_read}
 use Rattle.oim_resolve.specs.Values.{Stated, side_of}
 use Rattle.oim_rows.specs.RowFacts.{TableHeaderValue}
-use Rattle.oim_row.specs.Answers.{is_sound_for, json_for}
+use Rattle.oim_row.specs.Answers.{is_sound_for, json_for, kind_read}
 use Rattle.oim_fast.specs.state.Pieces.{behind, constant_meaning, constant_stated, name_text}
 use Rattle.oim_row.specs.References.{Key}
 use Rattle.oim_row.specs.Sources.{SourceValue, source_decimals, source_written}
@@ -59,7 +59,7 @@ pub record IsPart (f : TableHeaderValue) (keys : List Key) (p : FramePart) : Typ
   pub role : p.role ≡ role_of f.report p.name.now
   pub value : IsPartValue f keys p.name.now p.written.now p.text.items p.value
   pub same : IfSome p.kind (λ k. source_written f p.written.now ≡ None)
-  pub concept : IfSome p.kind (λ k. concept_read f.report (constant_meaning f p.written.now) ≡ Ok k)
+  pub concept : IfSome p.kind (λ k. kind_read f.report (constant_meaning f p.written.now) ≡ Some k)
 
 -- The text of decimals that have the same meaning in each row, or nothing that is known.
 abbrev pub IsStated : Stated → List ℕ → FrameDecimals → Type 0

@@ -3,11 +3,13 @@ use Rattle.std.specs.Prelude.{◌≡◌, ◌+◌, ◌≤◌, ◌++◌, ℕ, Bool
 use Rattle.oim_report.specs.declared.kind.Kind.{Kind}
 use Rattle.oim_resolve.specs.Facts.{is_dropped}
 use Rattle.oim_fast.specs.state.Pieces.{behind}
+use Rattle.oim_fast.specs.state.ValueForms.{form_of}
 use Rattle.oim_fast.specs.declared.frame.frame_decimals.FrameDecimals.{FrameDecimals}
 use Rattle.oim_fast.specs.declared.frame.frame_text.TextRun.{TextRun}
 use Rattle.oim_fast.specs.declared.frame.part.FramePart.{FramePart}
 use Rattle.oim_fast.specs.declared.frame.part.PartValue.{PartValue}
 use Rattle.oim_fast.specs.declared.frame.part.PartValue.TheVariants as part
+use Rattle.oim_fast.specs.declared.frame.value_form.ValueForm.{ValueForm}
 
 -- The text before a reference, the name of its dimension, and the reference's place.
 pub record Segment : Type 0 where
@@ -57,6 +59,11 @@ pub record IsLaidOut (text : List ℕ) (lead opening body : ℕ) (runs : List Te
   pub starts : opening + 14 ≡ body
   pub start : slice_range text opening body ≡ dimensions_start
   pub dimensions : AreRuns (length text) body runs
+
+-- How a frame's text is laid out, and how the cells of its kind are read.
+pub record IsFilled (k : Kind) (by : ValueForm) (text : List ℕ) (lead opening body : ℕ) (runs : List TextRun) : Type 0 where
+  pub form : by ≡ form_of k
+  pub laid : IsLaidOut text lead opening body runs
 
 -- A frame with one more dimension, unless its facts do not have it.
 abbrev pub with_segment : FrameValue → List ℕ → ℕ → FrameValue

@@ -1,30 +1,41 @@
 -- The prepared text of a column of facts under the chosen groups.
-use Rattle.std.specs.Prelude.{⊤, ◌≡◌, ℕ, Bool, true, false, List, [], ◌∷◌, ◌++◌, map, reverse, Option, Some, None, Ok, codes}
-use Rattle.std.specs.List.{All}
-use Rattle.std.specs.Option.{option_to_list}
-use Rattle.oim_cells.specs.Cells.{meaning_of}
+use Rattle.std.specs.Prelude.{⊤, ◌≡◌, ℕ, Bool, true, false, List, [], ◌∷◌, ◌++◌, map, MatchOption, reverse, Option, Some, None, codes}
+use Rattle.std.specs.List.{All, slice_get}
+use Rattle.std.specs.Option.{option_and_then, option_map_or, option_to_list}
+use Rattle.oim_cells.specs.Cells.{Meaning, meaning_of}
+use Rattle.oim_cells.specs.Cells as m
 use Rattle.oim_report.specs.Readers.{template_of}
 use Rattle.oim_report.specs.declared.data.Level.{Level}
+use Rattle.oim_report.specs.declared.data.Side.{Side}
+use Rattle.oim_report.specs.declared.data.Side.TheVariants as side
 use Rattle.oim_report.specs.declared.data.Written.{Written}
 use Rattle.oim_report.specs.declared.data.WrittenDecimals.{WrittenDecimals}
 use Rattle.oim_report.specs.declared.kind.Kind.{Kind}
-use Rattle.oim_resolve.specs.Facts.{concept_read, is_numeric}
+use Rattle.oim_report.specs.declared.kind.Kind.TheVariants as kind
+use Rattle.oim_report.specs.declared.kind.PeriodType.{PeriodType}
+use Rattle.oim_report.specs.declared.kind.ValueType.{ValueType}
+use Rattle.oim_report.specs.declared.kind.ValueType.TheVariants as item
+use Rattle.oim_resolve.specs.Facts.{is_numeric}
+use Rattle.oim_resolve.specs.Values.{side_of}
 use Rattle.oim_resolve.specs.Written.{written, written_decimals}
 use Rattle.oim_rows.specs.RowFacts.{TableHeaderValue, field_or_empty, source_of_column}
 use Rattle.oim_fast.specs.state.Facts.{column_lead}
-use Rattle.oim_fast.specs.state.FrameTexts.{FrameValue, is_ready, with_part}
+use Rattle.oim_fast.specs.state.FrameTexts.{FrameValue, is_ready, with_part, with_segment}
 use Rattle.oim_row.specs.Groups.{Says, group_at}
 use Rattle.oim_fast.specs.state.FrameParts.{AreDecimals, IsPart, IsReferred}
 use Rattle.oim_fast.specs.state.Pieces.{constant_meaning}
 use Rattle.oim_resolve.specs.state.ProgramLevels.{written_entries}
+use Rattle.oim_row.specs.Answers.{is_sound_for, kind_read}
 use Rattle.oim_row.specs.References.{Key}
 use Rattle.oim_row.specs.Rows.{RowValue, column_in}
-use Rattle.oim_row.specs.Sources.{source_written}
+use Rattle.oim_row.specs.Sources.{SourceValue, source_written}
 use Rattle.oim_fast.specs.declared.frame.frame_decimals.FrameDecimals.{FrameDecimals}
 use Rattle.oim_fast.specs.declared.frame.frame_decimals.FrameDecimals.TheVariants as decimals
 use Rattle.oim_fast.specs.declared.frame.part.FramePart.{FramePart}
 use Rattle.oim_row.specs.declared.group_cells.Choice.{Choice}
 use Rattle.oim_row.specs.declared.group_cells.Choice.TheVariants as choice
+use Rattle.oim_row.specs.declared.purpose.Purpose.{Purpose}
+use Rattle.oim_row.specs.declared.purpose.Purpose.TheVariants.{WantedPeriod, WantedUnit}
 
 -- LEVELS
 
@@ -80,13 +91,62 @@ pub record AreKindDecimals (f : TableHeaderValue) (keys : List Key) (ls : List L
   pub numbers : is_numeric k ≡ true → AreFrameDecimals f keys (written_decimals ls) text d
   pub others : is_numeric k ≡ false → text ≡ []
 
--- The text, after `start`, of facts with these levels and a concept of the frame's kind.
+-- THE UNIT AND THE PERIOD THAT A KIND WANTS
+
+abbrev pub unit_type : ValueType → Option ValueType
+unit_type item.Monetary = Some item.Monetary
+unit_type item.Shares = Some item.Shares
+unit_type _ = None
+
+-- The type of a kind's values if it wants a unit, and of its periods if it has one.
+abbrev pub unit_wanted : Kind → Option ValueType
+unit_wanted (kind.Concept a) = unit_type a.value
+unit_wanted _ = None
+
+abbrev pub period_wanted : Kind → Option PeriodType
+period_wanted (kind.Concept a) = a.period
+period_wanted _ = None
+
+-- What a value that the levels write means if it means the same in each row, and its side.
+abbrev pub constant_given : TableHeaderValue → Option Written → Meaning
+constant_given f o = option_map_or (constant_meaning f) o m.Absent
+
+abbrev pub side_written : Option Written → Side
+side_written o = option_map_or side_of o side.Whole
+
+-- A test of what the levels write for a purpose: the reference at a place, which is asked in each
+-- row; or none, because it means the same in each row and has no fault.
+abbrev pub IsTest : TableHeaderValue → List Key → Option Written → Purpose → Option ℕ → Type 0
+IsTest f keys o p None = (option_and_then (source_written f) o ≡ None) × (is_sound_for f.report p (constant_given f o) ≡ true)
+IsTest f keys o p (Some i) = (source : SourceValue) × (option_and_then (source_written f) o ≡ Some source) × (slice_get keys i ≡ Some (record { purpose = p; source = source }))
+
+-- The tests of the unit and of the period. A kind that wants none has none.
+abbrev pub IsUnitTest : TableHeaderValue → List Key → List Level → Kind → Option ℕ → Type 0
+IsUnitTest f keys ls k test = MatchOption (unit_wanted k) (test ≡ None) (λ y. IsTest f keys (written ls (codes "unit")) (WantedUnit y) test)
+
+abbrev pub IsPeriodTest : TableHeaderValue → List Key → List Level → Kind → Option ℕ → Type 0
+IsPeriodTest f keys ls k test =
+    MatchOption (period_wanted k) (test ≡ None) (λ p. IsTest f keys (written ls (codes "period")) (WantedPeriod p (side_written (written ls (codes "period")))) test)
+
+-- A frame with a test, which adds no text.
+abbrev pub with_test : FrameValue → Option ℕ → FrameValue
+with_test t None = t
+with_test t (Some i) = with_segment t [] i
+
+-- THE WHOLE TEXT
+
+-- The text, after `start`, of facts with these levels and a concept of the frame's kind. Behind the
+-- dimensions are the tests of unit and period.
 pub record IsTextOf (f : TableHeaderValue) (keys : List Key) (ls : List Level) (start : List ℕ) (t : FrameValue) : Type 0 where
   pub parts : List FramePart
+  pub unit : Option ℕ
+  pub period : Option ℕ
   pub entries : map entry_of parts ≡ written_entries ls
   pub are : All (IsPart f keys) parts
   pub ready : are_ready (no_dimensions t.kind t.lead t.settled t.decimals) parts
-  pub text : t ≡ with_parts (no_dimensions t.kind t.lead t.settled t.decimals) parts
+  pub text : t ≡ with_test (with_test (with_parts (no_dimensions t.kind t.lead t.settled t.decimals) parts) unit) period
+  pub has_unit : IsUnitTest f keys ls t.kind unit
+  pub has_period : IsPeriodTest f keys ls t.kind period
   pub lead : t.lead ≡ start
   pub decimals : AreKindDecimals f keys ls t.kind t.settled t.decimals
 
@@ -103,7 +163,7 @@ pub record HasConstantKind (f : TableHeaderValue) (ls : List Level) (k : Kind) :
   pub concept : Written
   pub written : written ls (codes "concept") ≡ Some concept
   pub same : source_written f concept ≡ None
-  pub kind : concept_read f.report (constant_meaning f concept) ≡ Ok k
+  pub kind : kind_read f.report (constant_meaning f concept) ≡ Some k
 
 -- The concept that the levels write is what the reference at a place names.
 pub record HasReferredKind (f : TableHeaderValue) (keys : List Key) (ls : List Level) (i : ℕ) : Type 0 where

@@ -1,16 +1,15 @@
 -- The kept frames of a table.
-use Rattle.std.specs.Prelude.{⊤, ◌≡◌, ◌⊎◌, ℕ, true, List, Option, Some, None, Ok, IfSome, IsSomeAnd, codes}
+use Rattle.std.specs.Prelude.{⊤, ◌≡◌, ◌⊎◌, ℕ, true, List, Option, Some, None, IfSome, IsSomeAnd, codes}
 use Rattle.std.specs.List.{All, slice_get}
 use Rattle.std.specs.Option.{option_and_then}
-use Rattle.oim_cells.specs.declared.cells.NumberKind.TheVariants as number
 use Rattle.oim_report.specs.declared.kind.Kind.{Kind}
-use Rattle.oim_report.specs.declared.kind.Kind.TheVariants as kind
-use Rattle.oim_resolve.specs.Facts.{concept_read, given}
+use Rattle.oim_resolve.specs.Facts.{given}
 use Rattle.oim_rows.specs.RowFacts.{TableHeaderValue}
 use Rattle.oim_fast.specs.state.Columns.{column_choices}
 use Rattle.oim_fast.specs.state.FrameTexts.{FrameValue}
 use Rattle.oim_fast.specs.state.Frames.{Chooses, HasConstantKind, HasReferredKind, IsFrameText, is_known_choice, levels_chosen}
 use Rattle.oim_fast.specs.state.ChosenGroups.{choices_in}
+use Rattle.oim_row.specs.Answers.{kind_read}
 use Rattle.oim_row.specs.References.{Key}
 use Rattle.oim_row.specs.Rows.{RowValue, column_in}
 use Rattle.oim_row.specs.state.Rows.{cell_in}
@@ -21,30 +20,16 @@ use Rattle.oim_fast.specs.declared.frame.frame.Frame.{Frame}
 use Rattle.oim_row.specs.declared.group_cells.Choice.{Choice}
 use Rattle.oim_row.specs.declared.group_cells.GroupCell.{GroupCell}
 
--- A number for a kind, and another for no kind.
-abbrev pub kind_code : Option Kind → ℕ
-kind_code None = 0
-kind_code (Some (kind.Number number.Integer)) = 1
-kind_code (Some (kind.Number number.Decimal)) = 2
-kind_code (Some (kind.Number number.Double)) = 3
-kind_code (Some kind.Text) = 4
-kind_code (Some kind.Boolean) = 5
-kind_code (Some kind.Date) = 6
-kind_code (Some kind.Name) = 7
-kind_code (Some kind.Explicit) = 8
-kind_code (Some kind.Typed) = 9
-kind_code (Some kind.Other) = 10
-
 -- The body of a frame for a kind or for none: its text, or the reference that names its concept, or
 -- nothing that is known.
-abbrev pub IsBody : TableHeaderValue → List Key → ℕ → List Choice → ℕ → FrameBody → Type 0
-IsBody f keys c os k (body.Text t) = IsFrameText f keys c os t × ((k ≡ kind_code (Some t.kind)) ⊎ HasConstantKind f (levels_chosen f c os) t.kind)
+abbrev pub IsBody : TableHeaderValue → List Key → ℕ → List Choice → Option Kind → FrameBody → Type 0
+IsBody f keys c os k (body.Text t) = IsFrameText f keys c os t × ((k ≡ Some t.kind) ⊎ HasConstantKind f (levels_chosen f c os) t.kind)
 IsBody f keys c os k (body.ByConcept i) = HasReferredKind f keys (levels_chosen f c os) i
 IsBody f keys c os k body.Unknown = ⊤
 
 -- The body of a frame for a column and a kind, or none, under the choices of the current row.
 abbrev pub IsBodyFor : TableHeaderValue → List Key → List GroupCell → FactColumn → Option Kind → FrameBody → Type 0
-IsBodyFor f keys cells c k b = IsBody f keys c.column (column_choices cells c) (kind_code k) b
+IsBodyFor f keys cells c k b = IsBody f keys c.column (column_choices cells c) k b
 
 -- A kept frame is right for each row of the table that makes its choices.
 abbrev pub IsFrame : TableHeaderValue → List Key → Frame → Type 0
@@ -53,7 +38,7 @@ IsFrame f keys v = IsBody f keys v.column v.choices.items v.kind v.body
 -- The frame is for this column and this kind, or none, under the choices of the current row.
 pub record IsFor (cells : List GroupCell) (c : FactColumn) (k : Option Kind) (v : Frame) : Type 0 where
   pub column : v.column ≡ c.column
-  pub kind : v.kind ≡ kind_code k
+  pub kind : v.kind ≡ k
   pub choices : v.choices.items ≡ choices_in cells c.groups.items
 
 -- The frame is for these, and all choices are known.
@@ -65,7 +50,7 @@ pub record IsKnownFor (cells : List GroupCell) (c : FactColumn) (k : Option Kind
 pub record IsOfConcept (x : RowValue) (cells : List GroupCell) (c : FactColumn) (v : Frame) : Type 0 where
   pub kind : Kind
   pub is : IsFor cells c (Some kind) v
-  pub concept : concept_read x.header.report (given (cell_in x c.column) (codes "concept")) ≡ Ok kind
+  pub concept : kind_read x.header.report (given (cell_in x c.column) (codes "concept")) ≡ Some kind
 
 -- The frame at a place has property P.
 abbrev pub HasFrame : List Frame → (Frame → Type 0) → ℕ → Type 0
@@ -86,7 +71,7 @@ pub record IsTextFor (x : RowValue) (keys : List Key) (c : ℕ) (t : FrameValue)
   pub choices : List Choice
   pub chosen : Chooses x (column_in x.header c).from choices
   pub text : IsFrameText x.header keys c choices t
-  pub concept : concept_read x.header.report (given (cell_in x c) (codes "concept")) ≡ Ok t.kind
+  pub concept : kind_read x.header.report (given (cell_in x c) (codes "concept")) ≡ Some t.kind
 
 -- The same for the frame at a place, if it has a text.
 abbrev pub HasTextFor : RowValue → List Key → ℕ → List Frame → ℕ → Type 0

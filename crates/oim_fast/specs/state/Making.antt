@@ -8,9 +8,8 @@ use Rattle.oim_report.specs.declared.kind.Kind.{Kind}
 use Rattle.oim_resolve.specs.ProgramCell.{held}
 use Rattle.oim_rows.specs.RowFacts.{TableHeaderValue}
 use Rattle.oim_fast.specs.state.FrameTexts.{FrameValue}
-use Rattle.oim_fast.specs.state.Frames.{AreKindDecimals, HasConstantKind, HasReferredKind, are_ready, entry_of, no_dimensions, with_parts}
+use Rattle.oim_fast.specs.state.Frames.{AreKindDecimals, HasConstantKind, HasReferredKind, IsPeriodTest, IsTest, IsUnitTest, are_ready, entry_of, no_dimensions, with_parts, with_test}
 use Rattle.oim_row.specs.Groups.{IsGroupCell, IsSaid}
-use Rattle.oim_fast.specs.state.KeptFrames.{kind_code}
 use Rattle.oim_fast.specs.state.FrameParts.{IsPart}
 use Rattle.oim_row.specs.References.{IsFresh, IsOfReport, Key, key_of}
 use Rattle.oim_row.specs.Rows.{RowValue}
@@ -21,6 +20,7 @@ use Rattle.oim_fast.specs.declared.frame.frame_maker.Concept.TheVariants as conc
 use Rattle.oim_fast.specs.declared.frame.frame_maker.FrameMaker.{FrameMaker}
 use Rattle.oim_fast.specs.declared.frame.part.FramePart.{FramePart}
 use Rattle.oim_fast.specs.declared.frame.part.PartValue.TheVariants as part
+use Rattle.oim_row.specs.declared.purpose.Purpose.{Purpose}
 
 -- The levels from the most general to the most specific; they are held in the reverse order.
 abbrev pub from_general : List (Bor Level) → List Level
@@ -44,9 +44,9 @@ pub record IsMaker (x : RowValue) (m : FrameMaker) : Type 0 where
   pub said : All (IsSaid x) m.cells.list.items
   pub parts : All (IsPart x.header (map key_of m.references)) m.parts.list.items
 
--- What the levels write for the concept, or the kind of this number if it was given.
-abbrev pub IsConcept : TableHeaderValue → List Key → List Level → ℕ → Concept → Type 0
-IsConcept f keys ls k (concept.Constant c) = (k ≡ kind_code (Some c)) ⊎ HasConstantKind f ls c
+-- What the levels write for the concept, or the kind if it was given.
+abbrev pub IsConcept : TableHeaderValue → List Key → List Level → Option Kind → Concept → Type 0
+IsConcept f keys ls k (concept.Constant c) = (k ≡ Some c) ⊎ HasConstantKind f ls c
 IsConcept f keys ls k (concept.Reference i) = HasReferredKind f keys ls i
 IsConcept f keys ls k concept.Unknown = ⊤
 
@@ -77,3 +77,20 @@ pub record AddsEntries (f : TableHeaderValue) (keys : List Key) (es : List (List
 -- The same if they were added.
 abbrev pub AddsWhere : TableHeaderValue → List Key → List (List ℕ × Written) → FrameValue → FrameValue → Bool → Type 0
 AddsWhere f keys es old new added = added ≡ true → AddsEntries f keys es old new
+
+-- A frame with a test of what the levels write.
+pub record AddsTest (f : TableHeaderValue) (keys : List Key) (o : Option Written) (p : Purpose) (old new : FrameValue) : Type 0 where
+  pub test : Option ℕ
+  pub is : IsTest f keys o p test
+  pub text : new ≡ with_test old test
+
+-- The same for the unit and for the period that a kind wants.
+pub record AddsUnit (f : TableHeaderValue) (keys : List Key) (ls : List Level) (k : Kind) (old new : FrameValue) : Type 0 where
+  pub test : Option ℕ
+  pub is : IsUnitTest f keys ls k test
+  pub text : new ≡ with_test old test
+
+pub record AddsPeriod (f : TableHeaderValue) (keys : List Key) (ls : List Level) (k : Kind) (old new : FrameValue) : Type 0 where
+  pub test : Option ℕ
+  pub is : IsPeriodTest f keys ls k test
+  pub text : new ≡ with_test old test

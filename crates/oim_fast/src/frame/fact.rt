@@ -16,7 +16,6 @@ use crate::frame::value::Value;
 use crate::frame::write::{copy_range, write_runs};
 use itoa::Buffer;
 use oim_cells::Accuracy;
-use oim_report::Kind;
 use oim_row::References;
 use oim_text::{
     TextBuffer, copy, copy_escaped, copy_short, copy_text, make_room, put_escaped_front,
@@ -117,9 +116,9 @@ fn write_decimals(
 fn has_settled(frame: &FrameText, value: &Value<'_>) -> bool
     ensures { result ≡ has_settled frame.now value.now }
 {
-    let Kind::Number(_) = frame.kind else {
+    if !frame.is_number() {
         return true;
-    };
+    }
     !value.is_nil && value.accuracy.is_none() && matches!(&frame.decimals, FrameDecimals::Settled)
 }
 
@@ -162,13 +161,13 @@ fn close_dimensions(memory: &mut [u8], body: usize, end: usize) -> usize
 
 /// Writes what is between the quotes of a value. A number needs no escape.
 #[inline(always)]
-fn write_text(kind: Kind, value: &Value<'_>, memory: &mut [u8], from: usize) -> usize
+fn write_text(is_number: bool, value: &Value<'_>, memory: &mut [u8], from: usize) -> usize
     requires value { value.now.len ≤ length value.now.bytes.now }
-    requires plain { is_numeric kind ≡ true → list_all is_unescaped (take value.now.len value.now.bytes.now) ≡ true }
+    requires plain { is_number ≡ true → list_all is_unescaped (take value.now.len value.now.bytes.now) ≡ true }
     requires memory { from + 6 * value.now.len + 32 ≤ length memory.old }
     ensures { Placed memory.old memory.new from (flat_map escaped_byte (take value.now.len value.now.bytes.now)) result }
 {
-    if let Kind::Number(_) = kind {
+    if is_number {
         copy(memory, from, value.bytes, value.len)
     } else {
         copy_escaped(memory, from, value.bytes, value.len)
@@ -177,9 +176,9 @@ fn write_text(kind: Kind, value: &Value<'_>, memory: &mut [u8], from: usize) -> 
 
 /// Writes the value and the end of the fact.
 #[inline(always)]
-fn write_value(kind: Kind, value: &Value<'_>, memory: &mut [u8], from: usize) -> usize
+fn write_value(is_number: bool, value: &Value<'_>, memory: &mut [u8], from: usize) -> usize
     requires value { value.now.len ≤ length value.now.bytes.now }
-    requires plain { is_numeric kind ≡ true → IfSome (value_of value.now) (λ t. list_all is_unescaped t ≡ true) }
+    requires plain { is_number ≡ true → IfSome (value_of value.now) (λ t. list_all is_unescaped t ≡ true) }
     requires memory { from + 6 * value.now.len + 64 ≤ length memory.old }
     ensures bytes { Placed memory.old memory.new from (value_text (value_of value.now) ++ codes "}") result }
     ensures behind { result + 32 ≤ length memory.new }
@@ -188,7 +187,7 @@ fn write_value(kind: Kind, value: &Value<'_>, memory: &mut [u8], from: usize) ->
         return copy_short(memory, from, b"null}");
     }
     let at = copy_short(memory, from, b"\"");
-    let at = write_text(kind, value, memory, at);
+    let at = write_text(is_number, value, memory, at);
     let at = write_byte(memory, at, b'"');
     write_byte(memory, at, b'}')
 }
@@ -196,10 +195,9 @@ fn write_value(kind: Kind, value: &Value<'_>, memory: &mut [u8], from: usize) ->
 /// The longest value that is written after a single test of the room.
 const LONGEST: usize = 1024;
 
-/// The most references, and the most bytes before the value, of a fact whose room is computed.
-const MOST_RUNS: usize = 1 << 16;
-
-const MOST_BYTES: usize = 1 << 40;
+/// About the most bytes that are made ready for a fact before its value, and for what its
+/// references give. A fact that may need more goes the plain way.
+const MOST_BYTES: usize = 1 << 26;
 
 /// Returns the most bytes that a fact takes after a start of `start` bytes, if a reference gives at
 /// most `most` bytes and the value has `value`. Returns None if they are too many.
@@ -211,11 +209,12 @@ fn room_for(frame: &FrameText, most: u32, start: usize, value: usize) -> Option<
 {
     let count = frame.runs.len();
     let size = frame.text.len();
-    // `MOST_BYTES` is a power of two, so this tests both numbers at once.
-    if count >= MOST_RUNS || start | size >= MOST_BYTES {
+    let given = count.saturating_mul(most as usize);
+    // `MOST_BYTES` is a power of two, so this tests all three numbers at once.
+    if start | size | given >= MOST_BYTES {
         return None;
     }
-    Some(start + size + count * (most as usize) + 6 * value + 128)
+    Some(start + size + given + 6 * value + 128)
 }
 
 /// Writes the fact of a frame from the dot after the row's identifier on. Returns where it ends, or
@@ -248,7 +247,7 @@ fn write_object(
         rest,
     )?;
     let at = close_dimensions(memory, body, end);
-    Some(write_value(frame.kind, value, memory, at))
+    Some(write_value(frame.is_number(), value, memory, at))
 }
 
 /// Writes a fact whose text begins with `start`. Returns where it ends, or None if the fast way

@@ -5,7 +5,6 @@ ghost use Rattle.std.specs.List.{All, slice_get};
 ghost use Rattle.std.specs.Option.{option_map};
 ghost use Rattle.oim_json.specs.JsonText.{escaped_byte};
 ghost use Rattle.oim_fast.specs.state.Columns.{AreFactColumns, IsColumnAt};
-ghost use Rattle.oim_fast.specs.state.KeptFrames.{kind_code};
 ghost use Rattle.oim_fast.specs.state.Frames.{is_known_choice};
 ghost use Rattle.oim_row.specs.Groups.{IsGroupCell};
 ghost use Rattle.oim_fast.specs.state.ChosenGroups.{choices_in};
@@ -15,7 +14,7 @@ ghost use Rattle.oim_row.specs.Rows.{columns_in};
 use crate::frame::hash_index::hash_with;
 use oim_cells::NumberKind;
 use oim_report::{Column, Kind, Level};
-use oim_row::{Choice, GroupCells, place_in};
+use oim_row::{Choice, GroupCells};
 use oim_rows::TableHeader;
 use oim_text::{TextBuffer, put_escaped};
 use std::alloc::{AllocError, Global};
@@ -96,7 +95,7 @@ fn fact_column<'a>(
     if !column.kind.holds_facts() {
         return Ok(None);
     }
-    let Some(place) = place_in(header.columns(), at) else {
+    let Some(place) = header.source(at) else {
         return Ok(None);
     };
     let groups = groups_of(alloc, header, column, cells)?;
@@ -131,11 +130,9 @@ pub(crate) fn fact_columns<'a>(
     Ok(facts)
 }
 
-/// Returns a number for a kind or for no kind. No two are equal.
+/// Returns a number for a kind or for no kind. Kinds with the type of their values share one.
 #[inline(always)]
-pub(crate) fn kind_number(kind: Option<Kind>) -> u64
-    ensures { result ≡ kind_code kind }
-{
+fn kind_number(kind: Option<Kind>) -> u64 {
     match kind {
         None => 0,
         Some(Kind::Number(NumberKind::Integer)) => 1,
@@ -145,9 +142,8 @@ pub(crate) fn kind_number(kind: Option<Kind>) -> u64
         Some(Kind::Boolean) => 5,
         Some(Kind::Date) => 6,
         Some(Kind::Name) => 7,
-        Some(Kind::Explicit) => 8,
-        Some(Kind::Typed) => 9,
-        Some(Kind::Other) => 10,
+        Some(Kind::Other) => 8,
+        Some(_) => 9,
     }
 }
 

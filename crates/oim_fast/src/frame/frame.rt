@@ -3,6 +3,7 @@
 ghost use Rattle.std.specs.Prelude.{◌≡◌, IfSome};
 
 use crate::frame::frame_text::FrameText;
+use oim_report::Kind;
 use oim_row::Choice;
 
 /// What a frame holds.
@@ -19,8 +20,7 @@ pub(crate) enum FrameBody {
 #[derive(Drop)]
 pub(crate) struct Frame {
     pub(crate) column: usize,
-    /// The number of the kind, or of no kind.
-    pub(crate) kind: u64,
+    pub(crate) kind: Option<Kind>,
     pub(crate) choices: Vec<Choice>,
     pub(crate) body: FrameBody,
 }

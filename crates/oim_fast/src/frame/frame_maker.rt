@@ -1,29 +1,40 @@
 //! The maker of a table's frames.
 
-ghost use Rattle.std.specs.Prelude.{◌≡◌, ◌<◌, ◌++◌, [], IfOk, IfSome, OnOk, length, map};
+ghost use Rattle.std.specs.Prelude.{◌≡◌, ◌<◌, ◌++◌, [], IfOk, IfSome, OnOk, length, map, true};
 ghost use Rattle.std.specs.List.{All};
+ghost use Rattle.std.specs.Option.{option_and_then, option_map};
+ghost use Rattle.oim_cells.specs.Cells.{seen_meaning};
 ghost use Rattle.oim_report.specs.InOrder.{LevelRises};
 ghost use Rattle.oim_resolve.specs.ProgramCell.{held};
 ghost use Rattle.oim_rows.specs.RowFacts.{TableHeaderValue};
 ghost use Rattle.oim_fast.specs.state.Columns.{IsFactColumn, column_choices};
-ghost use Rattle.oim_fast.specs.state.Frames.{AreKindDecimals, IsTextOfKind, levels_chosen};
+ghost use Rattle.oim_fast.specs.state.Frames.{AreKindDecimals, IsTextOfKind, constant_given, levels_chosen, period_wanted, side_written, unit_wanted};
 ghost use Rattle.oim_row.specs.Groups.{IsGroupCell};
 ghost use Rattle.oim_fast.specs.state.ChosenGroups.{levels_at};
-ghost use Rattle.oim_fast.specs.state.KeptFrames.{IsBodyFor, IsFor, IsFrame, kind_code};
-ghost use Rattle.oim_fast.specs.state.Making.{AddsWhere, IsBodyOf, IsConcept, IsMaker, IsOpening, IsReadyMaker, SaysConcept, from_general, keys_in};
+ghost use Rattle.oim_fast.specs.state.KeptFrames.{IsBodyFor, IsFor, IsFrame};
+ghost use Rattle.oim_fast.specs.state.Making.{AddsPeriod, AddsTest, AddsUnit, AddsWhere, IsBodyOf, IsConcept, IsMaker, IsOpening, IsReadyMaker, SaysConcept, from_general, keys_in};
 ghost use Rattle.oim_fast.specs.state.Pieces.{entries_named};
 ghost use Rattle.oim_resolve.specs.state.ProgramLevels.{written_entries};
+ghost use Rattle.oim_row.specs.Answers.{is_sound_for};
 ghost use Rattle.oim_row.specs.References.{Grows, IsFresh, key_of};
+ghost use Rattle.oim_row.specs.Sources.{seen_source, source_written};
 
-use crate::frame::fact_column::{FactColumn, kind_number};
+use crate::frame::constant::constant_of;
+use crate::frame::fact_column::FactColumn;
 use crate::frame::frame::{Frame, FrameBody};
 use crate::frame::frame_decimals::{FrameDecimals, decimals_ready};
 use crate::frame::frame_text::FrameText;
 use crate::frame::part::{FramePart, PartValue};
 use crate::frame::parts::FrameParts;
-use oim_report::{Kind, Level};
+use crate::frame::value_form::has_decimals;
+use oim_cells::CellMeaning;
+use oim_report::{Kind, Level, PeriodType, Report, Side, ValueType, Written};
 use oim_resolve::levels::{names, written, written_decimals};
-use oim_row::{Choice, GroupCells, References, TableRow};
+use oim_resolve::side_of;
+use oim_row::{
+    Answer, Choice, GroupCells, Purpose, ReferenceTarget, References, TableRow, source_of,
+};
+use oim_rows::TableHeader;
 use oim_text::TextBuffer;
 use std::alloc::{AllocError, Global};
 
@@ -145,13 +156,84 @@ fn decimals_of<'a>(
     ensures fresh { All (IsFresh row.now) references.new }
     ensures grows { Grows references.old references.new }
 {
-    let Kind::Number(_) = kind else {
+    if !has_decimals(kind) {
         return Ok(FrameDecimals::Settled);
-    };
+    }
     match written_decimals(levels) {
         Some(written) => decimals_ready(alloc, row, references, written, settled),
         None => Ok(FrameDecimals::Settled),
     }
+}
+
+/// Returns what a value that the levels write refers to, or None if it means the same in each row.
+fn source_in<'a>(
+    header: &TableHeader<'a>,
+    written: Option<&'a Written>,
+) -> Option<ReferenceTarget<'a>>
+    ensures { option_map seen_source result ≡ option_and_then (source_written header.now) (option_map (λ w. w.now) written.entry) }
+{
+    match written {
+        Some(written) => source_of(header, written),
+        None => None,
+    }
+}
+
+/// Returns what a value that the levels write means if it means the same in each row. Absent if
+/// they write none.
+fn constant_in<'a>(header: &TableHeader<'a>, written: Option<&'a Written>) -> CellMeaning<'a>
+    ensures { seen_meaning result ≡ constant_given header.now (option_map (λ w. w.now) written.entry) }
+{
+    match written {
+        Some(written) => constant_of(header, written),
+        None => CellMeaning::Absent,
+    }
+}
+
+/// Returns the side of the period that the levels write.
+fn side_in(written: Option<&Written>) -> Side
+    ensures { result ≡ side_written (option_map (λ w. w.now) written.entry) }
+{
+    match written {
+        Some(written) => side_of(written),
+        None => Side::Whole,
+    }
+}
+
+/// Returns the type of a kind's values if it wants a unit.
+fn unit_wanted(kind: Kind) -> Option<ValueType>
+    ensures { result ≡ unit_wanted kind }
+{
+    match kind {
+        Kind::Concept(concept) => match concept.value {
+            ValueType::Monetary | ValueType::Shares => Some(concept.value),
+            _ => None,
+        },
+        _ => None,
+    }
+}
+
+/// Returns the type of a kind's periods if it has one.
+fn period_wanted(kind: Kind) -> Option<PeriodType>
+    ensures { result ≡ period_wanted kind }
+{
+    match kind {
+        Kind::Concept(concept) => concept.period,
+        _ => None,
+    }
+}
+
+/// Returns whether a meaning has no fault for a purpose.
+fn is_sound(
+    alloc: Global,
+    report: &Report,
+    purpose: Purpose,
+    value: CellMeaning<'_>,
+) -> Result<bool, AllocError>
+    ensures { IfOk result (λ sound. sound ≡ true → is_sound_for report.now purpose (seen_meaning value.entry) ≡ true) }
+{
+    let mut answer = Answer::new(alloc);
+    answer.read(alloc, report, purpose, value)?;
+    Ok(answer.is_sound)
 }
 
 impl<'a> FrameMaker<'a> {
@@ -196,7 +278,7 @@ impl<'a> FrameMaker<'a> {
     ) -> Result<Concept, AllocError>
         requires maker { IsMaker row.now self.old }
         requires rise { All (λ l. LevelRises l.now) levels.now }
-        ensures concept { IfOk result (IsConcept row.now.header (keys_in self.new) (from_general levels.now) (kind_code kind)) }
+        ensures concept { IfOk result (IsConcept row.now.header (keys_in self.new) (from_general levels.now) kind) }
         ensures maker { IsMaker row.now self.new }
         ensures grows { Grows self.old.references self.new.references }
         ensures cells { self.new.cells ≡ self.old.cells }
@@ -289,8 +371,87 @@ impl<'a> FrameMaker<'a> {
         Ok(true)
     }
 
+    /// Adds a test for each row that what the levels write for a name has no fault for a purpose.
+    /// Tests now what is the same in each row. Returns false if it has a fault.
+    fn add_test(
+        &mut self,
+        alloc: Global,
+        row: &TableRow<'a, '_>,
+        written: Option<&'a Written>,
+        purpose: Purpose,
+        text: &mut FrameText,
+    ) -> Result<bool, AllocError>
+        requires { IsMaker row.now self.old }
+        ensures added { IfOk result (λ added. added ≡ true → AddsTest row.now.header (keys_in self.new) (option_map (λ w. w.now) written.entry) purpose text.old text.new) }
+        ensures maker { IsMaker row.now self.new }
+        ensures grows { Grows self.old.references self.new.references }
+        ensures cells { self.new.cells ≡ self.old.cells }
+    {
+        if let Some(source) = source_in(row.header(), written) {
+            let place = self.references.place_for(alloc, row, purpose, source)?;
+            text.add_reference(b"", place)?;
+            return Ok(true);
+        }
+        is_sound(
+            alloc,
+            row.report(),
+            purpose,
+            constant_in(row.header(), written),
+        )
+    }
+
+    /// Adds the tests of the unit that facts of a kind want. Returns false if it has a fault in
+    /// each row.
+    fn add_unit(
+        &mut self,
+        alloc: Global,
+        row: &TableRow<'a, '_>,
+        levels: &[&'a Level],
+        kind: Kind,
+        text: &mut FrameText,
+    ) -> Result<bool, AllocError>
+        requires maker { IsMaker row.now self.old }
+        requires rise { All (λ l. LevelRises l.now) levels.now }
+        ensures added { IfOk result (λ added. added ≡ true → AddsUnit row.now.header (keys_in self.new) (from_general levels.now) kind text.old text.new) }
+        ensures maker { IsMaker row.now self.new }
+        ensures grows { Grows self.old.references self.new.references }
+        ensures cells { self.new.cells ≡ self.old.cells }
+    {
+        let Some(value) = unit_wanted(kind) else {
+            return Ok(true);
+        };
+        let unit = written(levels, "unit");
+        self.add_test(alloc, row, unit, Purpose::WantedUnit(value), text)
+    }
+
+    /// Adds the tests of the period that facts of a kind want. Returns false if it has a fault in
+    /// each row.
+    fn add_period(
+        &mut self,
+        alloc: Global,
+        row: &TableRow<'a, '_>,
+        levels: &[&'a Level],
+        kind: Kind,
+        text: &mut FrameText,
+    ) -> Result<bool, AllocError>
+        requires maker { IsMaker row.now self.old }
+        requires rise { All (λ l. LevelRises l.now) levels.now }
+        ensures added { IfOk result (λ added. added ≡ true → AddsPeriod row.now.header (keys_in self.new) (from_general levels.now) kind text.old text.new) }
+        ensures maker { IsMaker row.now self.new }
+        ensures grows { Grows self.old.references self.new.references }
+        ensures cells { self.new.cells ≡ self.old.cells }
+    {
+        let Some(wanted) = period_wanted(kind) else {
+            return Ok(true);
+        };
+        let period = written(levels, "period");
+        let purpose = Purpose::WantedPeriod(wanted, side_in(period));
+        self.add_test(alloc, row, period, purpose, text)
+    }
+
     /// Returns the text of facts with these levels and a concept of this kind, after `lead`.
-    /// Returns None if nothing is known of one of the dimensions.
+    /// Returns None if nothing is known of one of the dimensions, or the unit or the period is not
+    /// wanted.
     fn text(
         &mut self,
         alloc: Global,
@@ -309,6 +470,14 @@ impl<'a> FrameMaker<'a> {
         let mut text = self.opening(alloc, row, lead, levels, kind)?;
         let added = self.add_dimensions(alloc, row, levels, &mut text)?;
         if !added {
+            return Ok(None);
+        }
+        let has_unit = self.add_unit(alloc, row, levels, kind, &mut text)?;
+        if !has_unit {
+            return Ok(None);
+        }
+        let has_period = self.add_period(alloc, row, levels, kind, &mut text)?;
+        if !has_period {
             return Ok(None);
         }
         text.fit(alloc);
@@ -364,7 +533,7 @@ impl<'a> FrameMaker<'a> {
         let body = self.body(alloc, row, column, kind)?;
         Ok(Frame {
             column: column.column,
-            kind: kind_number(kind),
+            kind,
             choices,
             body,
         })

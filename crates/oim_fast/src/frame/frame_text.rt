@@ -1,10 +1,12 @@
 //! The text of a column's facts that is the same in each row, with places for what references give.
 
-ghost use Rattle.std.specs.Prelude.{◌≡◌, ◌≤◌, ◌+◌, ◌++◌, [], IfOk, length, slice_range, take, true};
-ghost use Rattle.oim_fast.specs.state.FrameTexts.{dimensions_start, is_ready, with_part};
+ghost use Rattle.std.specs.Prelude.{◌≡◌, ◌≤◌, ◌+◌, ◌++◌, [], IfOk, OnOk, length, slice_range, take, true};
+ghost use Rattle.oim_resolve.specs.Facts.{is_numeric};
+ghost use Rattle.oim_fast.specs.state.FrameTexts.{dimensions_start, is_ready, with_part, with_segment};
 
 use crate::frame::frame_decimals::FrameDecimals;
 use crate::frame::part::{FramePart, PartValue};
+use crate::frame::value_form::{ValueForm, form_of};
 use oim_report::Kind;
 use oim_text::TextBuffer;
 use std::alloc::{AllocError, Global};
@@ -29,6 +31,8 @@ const ROOM: usize = 512;
 pub(crate) struct FrameText {
     pub(crate) text: TextBuffer,
     pub(crate) kind: Kind,
+    /// How the cells of the kind are read.
+    pub(crate) form: ValueForm,
     /// Where the decimals begin, even if there are none, and where they end.
     pub(crate) lead: usize,
     pub(crate) opening: usize,
@@ -40,7 +44,7 @@ pub(crate) struct FrameText {
 
 impl Model for FrameText {
     ghost use Rattle.std.specs.Prelude.{slice_range, take};
-    ghost use Rattle.oim_fast.specs.state.FrameTexts.{FrameValue, IsLaidOut, rest_from, segments_from};
+    ghost use Rattle.oim_fast.specs.state.FrameTexts.{FrameValue, IsFilled, rest_from, segments_from};
 
     ghost Value = { FrameValue };
 
@@ -53,7 +57,7 @@ impl Model for FrameText {
       rest = rest_from a.text.items a.body a.runs.items;
     } };
 
-    ghost invariant = { λ a. IsLaidOut a.text.items a.lead a.opening a.body a.runs.items };
+    ghost invariant = { λ a. IsFilled a.kind a.form a.text.items a.lead a.opening a.body a.runs.items };
 }
 
 impl FrameText {
@@ -76,12 +80,21 @@ impl FrameText {
         Ok(FrameText {
             text,
             kind,
+            form: form_of(kind),
             lead: lead.len(),
             opening,
             body,
             decimals,
             runs: Vec::new(alloc),
         })
+    }
+
+    /// Returns whether facts of the kind have decimals.
+    #[inline(always)]
+    pub(crate) fn is_number(&self) -> bool
+        ensures { result ≡ is_numeric self.now.kind }
+    {
+        self.form.is_number()
     }
 
     /// Moves text and references to memory of their own size. If memory runs out, they stay.
@@ -95,6 +108,20 @@ impl FrameText {
         if runs.extend_from_slice(self.runs.as_slice()).is_ok() {
             self.runs = runs;
         }
+    }
+
+    /// Adds what a reference gives, after the name of its dimension.
+    pub(crate) fn add_reference(&mut self, name: &[u8], reference: usize) -> Result<(), AllocError>
+        ensures { OnOk result (self.new ≡ with_segment self.old name.now reference) }
+    {
+        let alone = self.text.len();
+        self.text.put(name)?;
+        self.runs.push(TextRun {
+            alone,
+            named: self.text.len(),
+            reference,
+        })?;
+        Ok(())
     }
 
     /// Adds a dimension, unless facts of this kind do not have it. Returns false if it is not
@@ -114,13 +141,7 @@ impl FrameText {
                 Ok(true)
             }
             PartValue::Reference(reference) => {
-                let alone = self.text.len();
-                self.text.put(part.text.as_slice())?;
-                self.runs.push(TextRun {
-                    alone,
-                    named: self.text.len(),
-                    reference,
-                })?;
+                self.add_reference(part.text.as_slice(), reference)?;
                 Ok(true)
             }
         }

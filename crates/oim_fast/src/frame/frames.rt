@@ -12,11 +12,12 @@ ghost use Rattle.oim_row.specs.References.{Grows};
 ghost use Rattle.oim_fast.specs.state.StillHolds.{HoldsStill, HoldsWith};
 ghost use Rattle.oim_row.specs.state.Rows.{cell_in};
 
-use crate::frame::fact_column::{FactColumn, GUESSES, kind_number};
+use crate::frame::fact_column::{FactColumn, GUESSES};
 use crate::frame::frame::{Frame, FrameBody};
 use crate::frame::frame_maker::FrameMaker;
 use crate::frame::frame_text::FrameText;
 use crate::frame::hash_index::{HashIndex, STEPS};
+use crate::frame::same_kind::is_same_kind;
 use oim_report::Kind;
 use oim_row::{Choice, GroupCells, TableRow};
 use std::alloc::{AllocError, Global};
@@ -76,7 +77,7 @@ fn is_for(
     if frame.column != column.column {
         return false;
     }
-    if frame.kind != kind_number(kind) {
+    if !is_same_kind(frame.kind, kind) {
         return false;
     }
     are_chosen(frame.choices.as_slice(), column.groups.as_slice(), cells)

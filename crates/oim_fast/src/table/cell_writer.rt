@@ -15,7 +15,7 @@ use crate::frame::fact_start::FactStart;
 use crate::frame::frame_maker::FrameMaker;
 use crate::frame::frame_text::FrameText;
 use crate::frame::frames::Frames;
-use crate::frame::value::{FastValue, quick_value, rare_value};
+use crate::frame::value::{FastValue, ValueMemory, quick_value, rare_value};
 use oim_cells::{CellMeaning, meaning};
 use oim_row::{GroupCells, References, TableRow};
 use oim_rows::TableHeader;
@@ -30,7 +30,7 @@ pub(crate) struct CellWriter<'a> {
     pub(crate) frames: Frames,
     pub(crate) start: FactStart,
     /// For values of rare forms.
-    pub(crate) value: TextBuffer,
+    pub(crate) value: ValueMemory,
 }
 
 /// Records the end of a text, if one was written after the first `before` bytes.
@@ -80,7 +80,7 @@ fn put_rare(
     references: &References<'_>,
     start: &TextBuffer,
     cell: &str,
-    memory: &mut TextBuffer,
+    memory: &mut ValueMemory,
     out: &mut TextBuffer,
 ) -> Result<bool, AllocError>
     requires { IsOfReferences (length references.now) frame.now }
@@ -108,7 +108,7 @@ impl<'a> CellWriter<'a> {
             maker,
             frames,
             start,
-            value: TextBuffer::new(alloc),
+            value: ValueMemory::new(alloc),
         })
     }
 
@@ -165,7 +165,7 @@ impl<'a> CellWriter<'a> {
         };
         let references = &self.maker.references;
         let start = &self.start.start;
-        if let Some(value) = quick_value(row, place, frame.kind, bytes, size) {
+        if let Some(value) = quick_value(row, place, frame.form, bytes, size) {
             return put_fact(frame, references, start, &value, out);
         }
         let cell = row.text_at(Some(place));

@@ -34,13 +34,13 @@ fn is_core(key: &str) -> bool
 fn is_typed(kind: Option<Kind>) -> bool
     ensures { result ≡ typed kind }
 {
-    matches!(kind, Some(Kind::Typed))
+    matches!(kind, Some(Kind::Typed | Kind::TypedBy(_)))
 }
 
 fn is_dimension(kind: Option<Kind>) -> bool
     ensures { result ≡ dimension_kind kind }
 {
-    matches!(kind, Some(Kind::Explicit | Kind::Typed))
+    matches!(kind, Some(Kind::Explicit | Kind::Typed | Kind::TypedBy(_)))
 }
 
 fn bad_literal(kind: Option<Kind>, text: &str) -> bool

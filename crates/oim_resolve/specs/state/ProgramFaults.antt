@@ -15,3 +15,9 @@ both join (Ok a) (Ok b) = Ok (join a b)
 both join (Ok a) (Err g) = Err g
 both join (Err f) (Ok b) = Err f
 both join (Err f) (Err g) = Err (lesser f g)
+
+-- A reading, or the lesser of its fault and another fault, if there is one.
+abbrev pub or_fault : {A : Type 0} → Result A CellFault → Option CellFault → Result A CellFault
+or_fault r None = r
+or_fault (Ok a) (Some g) = Err g
+or_fault (Err f) (Some g) = Err (lesser f g)

@@ -4,7 +4,8 @@ ghost use Rattle.std.specs.Prelude.{◌≡◌, ◌⊎◌, map, IfErr, IfOk, IsOk
 ghost use Rattle.std.specs.List.{All};
 ghost use Rattle.oim_cells.specs.Cells.{seen_meaning};
 ghost use Rattle.oim_report.specs.InOrder.{LevelRises};
-ghost use Rattle.oim_resolve.specs.Facts.{concept_kind, fact_meaning, rest_result, role_of, stated};
+ghost use Rattle.oim_resolve.specs.Facts.{concept_kind, fact_meaning, given, rest_result, role_of, side_given, stated, wanted_faults};
+ghost use Rattle.oim_resolve.specs.Faults.{least};
 ghost use Rattle.oim_resolve.specs.Order.{IsAscending};
 ghost use Rattle.oim_resolve.specs.state.ProgramCell.{cell_at};
 ghost use Rattle.oim_resolve.specs.state.ProgramValues.{seen_stated};
@@ -14,15 +15,17 @@ ghost use Rattle.oim_resolve.specs.Written.{levels, names};
 use crate::cell::cell_at::CellAt;
 use crate::cell::decimals::Stated;
 use crate::cell::texts::side_of;
-use crate::cell::value::{CellValue, suffix_of, text_of};
+use crate::cell::value::{CellValue, text_of};
+use crate::cell::wanted::wanted_fault;
 use crate::dimension::{Entry, read_value};
 use crate::fact::{CellFault, Fact};
-use crate::least::{both, lesser};
+use crate::least::{both, lesser, or_fault};
 use crate::levels::{names, written, written_decimals};
 use crate::reading::fact_value;
 use crate::role::Role;
+use oim_cells::CellMeaning;
 use oim_names::{Items, Text};
-use oim_report::{Kind, Level};
+use oim_report::{Kind, Level, Side};
 use std::alloc::{AllocError, Global};
 
 /// A cell with the levels that apply to it, from the most specific to the most general.
@@ -134,6 +137,31 @@ impl<'a> CellDimensions<'a> {
         self.place.stated(written_decimals(self.levels.as_slice()))
     }
 
+    /// Returns what the row gives a dimension, and the side that is asked for.
+    fn given(&self, name: &str) -> (CellMeaning<'a>, Side)
+        requires { All (λ l. LevelRises l.now) self.now.levels.items }
+        ensures value { seen_meaning result.0 ≡ given (cell_at self.now.place) name.now }
+        ensures side { result.1 ≡ side_given (cell_at self.now.place) name.now }
+    {
+        let Some(written) = written(self.levels.as_slice(), name) else {
+            return (CellMeaning::Absent, Side::Whole);
+        };
+        (self.place.value(written), side_of(written))
+    }
+
+    /// Returns the least fault of the unit and the period that the concept wants.
+    fn wanted_fault(&self, kind: Kind) -> Option<CellFault>
+        requires { All (λ l. LevelRises l.now) self.now.levels.items }
+        ensures { result ≡ least (wanted_faults (cell_at self.now.place) kind) }
+    {
+        let Kind::Concept(concept) = kind else {
+            return None;
+        };
+        let (unit, _) = self.given("unit");
+        let (period, side) = self.given("period");
+        wanted_fault(self.place.report, concept, unit, side, period)
+    }
+
     /// Returns the fact, or the least fault of dimensions, decimals and value.
     fn fact(&self, alloc: Global, value: CellValue<'_>) -> Result<Fact, CellFault>
         requires rise { All (λ l. LevelRises l.now) self.now.levels.items }
@@ -143,9 +171,10 @@ impl<'a> CellDimensions<'a> {
     {
         let reading = fact_value(self.place.report, value.kind, value.meaning);
         let dimensions = self.read(alloc, value.kind)?;
-        let decimals = value.decimals(suffix_of(reading), self.stated());
-        let text = text_of(alloc, reading)?;
-        let given = match both(both(dimensions, decimals), text) {
+        let decimals = value.decimals(value.suffix(), self.stated());
+        let wanted = self.wanted_fault(value.kind);
+        let text = text_of(alloc, self.place.report, reading)?;
+        let given = match both(or_fault(both(dimensions, decimals), wanted), text) {
             Ok(given) => given,
             Err(fault) => return Err(fault),
         };

@@ -16,7 +16,7 @@ ghost use Rattle.oim_resolve.specs.Written.{group_of_cell, named_groups, written
 use crate::cell::cell_at::CellAt;
 use crate::fact::CellFault;
 use oim_cells::CellMeaning;
-use oim_names::find_in_order;
+use oim_names::find;
 use oim_report::{Level, Written};
 use std::alloc::AllocError;
 
@@ -96,7 +96,7 @@ impl<'a> CellAt<'a> {
         let column = self.report.column(self.table, self.column);
         for i in column.from.as_slice() {
             if let Some(level) = self.named_group(*i)
-                && let Some(written) = find_in_order(level.dimensions.as_slice(), name)
+                && let Some(written) = find(level.dimensions.as_slice(), name)
             {
                 return Some(written);
             }

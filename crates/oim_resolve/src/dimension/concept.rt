@@ -1,46 +1,23 @@
 //! The concept of a fact.
 
 ghost use Rattle.std.specs.Prelude.{◌≡◌};
-ghost use Rattle.std.specs.Option.{option_and_then};
-ghost use Rattle.oim_names.specs.QName.{qname_of};
 ghost use Rattle.oim_cells.specs.Cells.{seen_meaning};
-ghost use Rattle.oim_report.specs.Readers.{kind_of};
-ghost use Rattle.oim_resolve.specs.Facts.{concept_read, concept_type_of, is_numeric};
+ghost use Rattle.oim_resolve.specs.Facts.{concept_read};
+ghost use Rattle.oim_resolve.specs.Kinds.{concept_type_of};
 
 use crate::fact::CellFault;
+use crate::kinds::{concept_type, kind_of_name};
 use oim_cells::CellMeaning;
-use oim_names::qname;
 use oim_report::{Kind, Report};
-
-/// Returns the kind of the name that `text`, a declared QName, refers to.
-pub(crate) fn kind_of_name(report: &Report, text: &str) -> Option<Kind>
-    ensures { result ≡ option_and_then (λ q. kind_of report.now q.0 q.1) (qname_of report.now.namespaces text.now) }
-{
-    match qname(report.namespaces(), text) {
-        Some((uri, local)) => report.kind_of(uri, local),
-        None => None,
-    }
-}
 
 /// Returns the kind of the concept that `text`, a declared QName, refers to.
 fn concept_type_of(report: &Report, text: &str) -> Option<Kind>
     ensures { result ≡ concept_type_of report.now text.now }
 {
     match kind_of_name(report, text) {
-        Some(Kind::Number(number)) => Some(Kind::Number(number)),
-        Some(Kind::Text) => Some(Kind::Text),
-        Some(Kind::Boolean) => Some(Kind::Boolean),
-        Some(Kind::Date) => Some(Kind::Date),
-        Some(Kind::Name) => Some(Kind::Name),
-        Some(Kind::Other) => Some(Kind::Other),
-        Some(Kind::Explicit | Kind::Typed) | None => None,
+        Some(kind) => concept_type(kind),
+        None => None,
     }
-}
-
-pub(crate) fn is_numeric(kind: Kind) -> bool
-    ensures { result ≡ is_numeric kind }
-{
-    matches!(&kind, Kind::Number(_))
 }
 
 /// Returns the kind of the concept that a value names, or the value's least fault. (xBRL-CSV 1.0,

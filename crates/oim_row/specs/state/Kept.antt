@@ -1,10 +1,10 @@
 -- What is kept for a reference: texts that it had, each with its answer.
-use Rattle.std.specs.Prelude.{◌≡◌, ◌<◌, ◌++◌, ℕ, true, List, [], IfSome, length}
+use Rattle.std.specs.Prelude.{◌≡◌, ◌<◌, ◌++◌, ℕ, true, false, List, IfSome, length}
 use Rattle.std.specs.List.{All, slice_get}
 use Rattle.std.specs.String.{string_bytes}
 use Rattle.oim_cells.specs.Cells.{meaning_of}
 use Rattle.oim_report.specs.ReportValue.{ReportValue}
-use Rattle.oim_row.specs.Answers.{IsAnswer}
+use Rattle.oim_row.specs.Answers.{IsAnswer, IsSilent}
 use Rattle.oim_row.specs.declared.cached_answer.CachedAnswer.{CachedAnswer}
 use Rattle.oim_row.specs.declared.purpose.Purpose.{Purpose}
 
@@ -19,13 +19,13 @@ pub record IsKept (r : ReportValue) (p : Purpose) (text : List ℕ) (current : �
   pub cached : All (IsCached r p) answers
   pub at_hand : IfSome (slice_get answers current) (λ k. IsAnswer r p (meaning_of text) k.answer)
 
--- The answer that is cached for the empty text.
-pub record IsEmptyText (k : CachedAnswer) : Type 0 where
-  pub cached : (r : ReportValue) (p : Purpose) → IsCached r p k
-  pub answer : (r : ReportValue) (p : Purpose) → IsAnswer r p (meaning_of []) k.answer
+-- Nothing is cached, and the answer asserts nothing.
+pub record IsEmptyPlace (k : CachedAnswer) : Type 0 where
+  pub kept : k.is_kept ≡ false
+  pub answer : IsSilent k.answer
 
--- Places with the empty text were added.
+-- Empty places were added.
 pub record AddsPlaces (old new : List CachedAnswer) : Type 0 where
   pub more : List CachedAnswer
   pub is : new ≡ old ++ more
-  pub empty : All IsEmptyText more
+  pub empty : All IsEmptyPlace more

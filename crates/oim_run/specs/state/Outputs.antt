@@ -15,4 +15,4 @@ pub record RunsInto (known : Option Files) (q : Request) (first : Option (List â
   pub how : RunEnd
   pub run : RunsTo known q.settings first last ran
   pub done : Did before (Ended last ran how âˆ· []) after
-  pub told : IsToldBy q.settings.out q.faults how ran o
+  pub told : IsToldBy q.settings.out q.faults q.counts how ran o

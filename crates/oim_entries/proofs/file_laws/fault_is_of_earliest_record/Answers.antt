@@ -8,4 +8,4 @@ pub returns-clause-parameters : goal.returns-clause-parameters
 returns-clause-parameters c = λ rs e. (earliest_bad parameters_file 0 [] rs e, earliest_back parameters_file 0 [] rs e)
 
 pub returns-clause-types : goal.returns-clause-types
-returns-clause-types c = λ words rs e. (earliest_bad (types_file words) 0 [] rs e, earliest_back (types_file words) 0 [] rs e)
+returns-clause-types c = λ table rs e. (earliest_bad (types_file table) 0 [] rs e, earliest_back (types_file table) 0 [] rs e)

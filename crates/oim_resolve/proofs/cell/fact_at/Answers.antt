@@ -2,7 +2,7 @@ use Rattle.std.proofs.Common.{Ok, Err, inl, inr, sym, ap, ◌∙◌}
 use Rattle.oim_resolve.specs.Facts.{as_result, concept_faults, concept_kind, is_absent}
 use Rattle.oim_resolve.specs.Faults.{least}
 use Rattle.oim_resolve.specs.state.ProgramCell.{cell_at}
-use Rattle.oim_resolve.proofs.Outcomes.{absent_cell, early_absent, early_first, early_second, first_fault, last_step, no_early, read_fault, read_none, second_fault}
+use Rattle.oim_resolve.proofs.Outcomes.{absent_cell, early_absent, early_first, early_second, first_fault, last_step, no_early, read_fault, read_none, read_value, second_fault}
 use Rattle.oim_resolve.proofs.cell.fact_at.Goals as goal
 
 pub returns-then-is_absent : goal.returns-then-is_absent
@@ -23,6 +23,11 @@ returns-in-Err c =
     let here = sym (c.is_absent.ensures ∙ ap is_absent c.fact_meaning-meaning.ensures) ∙ c.if-is_absent.false in
     let second = read_fault (least (concept_faults cell)) (concept_kind cell) c.in-Err.fault c.in-Err.ensures in
     record { early = early_second cell c.in-Err.fault here c.in_default.ensures second; result = inr (second_fault cell c.in-Err.fault here c.in_default.ensures second) }
+
+pub fact_of-requires-clause-kind : goal.fact_of-requires-clause-kind
+fact_of-requires-clause-kind c =
+    let cell = cell_at c.args.place in
+    read_value (least (concept_faults cell)) (concept_kind cell) c.in-Ok.kind c.in-Ok.ensures
 
 pub returns-in-Ok-fact_of : goal.returns-in-Ok-fact_of
 returns-in-Ok-fact_of c =

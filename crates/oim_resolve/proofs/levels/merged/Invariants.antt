@@ -1,4 +1,4 @@
-use Rattle.std.proofs.Common.{◌≡◌, ◌≤◌, ◌-◌, ◌+◌, drop, length}
+use Rattle.std.proofs.Common.{◌≤◌, ◌-◌, ◌+◌, drop, length}
 use Rattle.std.specs.List.{fold}
 use Rattle.oim_resolve.specs.Order.{IsAscending}
 use Rattle.oim_resolve.specs.ProgramCell.{held}

@@ -7,7 +7,7 @@ use Rattle.oim_rows.proofs.row_plan.sources_of.Goals as goal
 
 pub loop-column-preserved : goal.loop-column-preserved
 loop-column-preserved c =
-    let f = source_of_column c.args.header.now in
+    let f = source_of_column c.args.header.now.columns in
     let column = c.loop-column.column in
     let more : range_with_len 0 (column + 1) ≡ range_with_len 0 column ++ column ∷ [] = rw (zero-add column) at (range_with_len-more 0 column) in
     let joined : map f (range_with_len 0 (column + 1)) ≡ map f (range_with_len 0 column) ++ f column ∷ [] = ap (map f) more ∙ map-append f (range_with_len 0 column) (column ∷ []) in

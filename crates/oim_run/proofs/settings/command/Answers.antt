@@ -11,4 +11,6 @@ returns c =
     let five = c.with-command-5.ensures _ _ four c.word_option-layout.ensures.rule in
     let six = c.with-command-6.ensures _ _ five c.flag-progress.ensures.rule in
     let seven = c.with-command-7.ensures _ _ six c.flag-explain.ensures.rule in
-    c.with.ensures _ _ seven c.option-2.ensures.rule
+    let eight = c.with-command-8.ensures _ _ seven c.flag-no_explain.ensures.rule in
+    let nine = c.with-command-9.ensures _ _ eight c.option-2.ensures.rule in
+    c.with.ensures _ _ nine c.option-3.ensures.rule

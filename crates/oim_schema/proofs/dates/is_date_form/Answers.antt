@@ -1,4 +1,4 @@
-use Rattle.std.proofs.Common.{◌≡◌, ◌∙◌, sym, ap}
+use Rattle.std.proofs.Common.{◌∙◌, sym, ap}
 use Rattle.oim_schema.specs.DatesTimes.{is_date_form}
 use Rattle.oim_schema.proofs.Forms.{form_Decides}
 use Rattle.oim_schema.proofs.dates.is_date_form.Goals as goal

@@ -1,4 +1,4 @@
-use Rattle.std.proofs.Common.{◌≡◌, ◌∙◌, sym, ap}
+use Rattle.std.proofs.Common.{◌∙◌, sym, ap}
 use Rattle.oim_schema.specs.Durations.{is_signed_duration, is_duration}
 use Rattle.oim_schema.proofs.DurationLaws.{duration_Decides}
 use Rattle.oim_schema.proofs.durations.is_duration.Goals as goal

@@ -1,4 +1,4 @@
-use Rattle.std.proofs.Common.{◌≡◌, ◌∙◌, sym, ap}
+use Rattle.std.proofs.Common.{◌∙◌, sym, ap}
 use Rattle.oim_schema.specs.HexBinary.{are_octets, is_hex_binary}
 use Rattle.oim_schema.proofs.HexLaws.{hex_Decides}
 use Rattle.oim_schema.proofs.hex_binary.is_hex_binary.Goals as goal

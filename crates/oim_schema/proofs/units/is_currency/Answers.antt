@@ -1,4 +1,4 @@
-use Rattle.std.proofs.Common.{◌≡◌, ◌∙◌, sym}
+use Rattle.std.proofs.Common.{◌∙◌, sym}
 use Rattle.oim_schema.specs.Units.{is_currency}
 use Rattle.oim_schema.proofs.UnitLaws.{currency_Decides}
 use Rattle.oim_schema.proofs.units.is_currency.Goals as goal

@@ -1,4 +1,4 @@
-use Rattle.std.proofs.Common.{◌≡◌, ◌∙◌, sym}
+use Rattle.std.proofs.Common.{◌∙◌, sym}
 use Rattle.oim_schema.specs.Units.{is_shares}
 use Rattle.oim_schema.proofs.UnitLaws.{shares_Decides}
 use Rattle.oim_schema.proofs.units.is_shares.Goals as goal

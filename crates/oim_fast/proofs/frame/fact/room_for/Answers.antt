@@ -1,4 +1,6 @@
-use Rattle.std.proofs.Common.{◌≡◌, ◌*◌, length, sym, ap, ◌∙◌, arith}
+use Rattle.std.proofs.Common.{◌≡◌, ◌*◌, ◌≤◌, length, sym, ap, ◌∙◌, arith}
+use Rattle.std.proofs.lemmas.Nat.{le_or_r}
+use Rattle.std.specs.Int.Bits.{bit_or}
 use Rattle.oim_fast.specs.state.FactTexts.{frame_length}
 use Rattle.oim_fast.specs.state.FrameTexts.{FrameValue}
 use Rattle.oim_fast.proofs.FactTextLaws.{frame_length_is, segments_length}
@@ -8,8 +10,10 @@ pub returns : goal.returns
 returns c =
     let a = c.frame.inside in
     let t = c.args.frame.now in
-    let all : frame_length t ≡ length a.text.items = ap frame_length (sym c.frame.view_is) ∙ frame_length_is a.text.items a.lead a.opening a.body a.runs.items c.frame.invariant a.kind a.decimals in
+    let all : frame_length t ≡ length a.text.items = ap frame_length (sym c.frame.view_is) ∙ frame_length_is a.text.items a.lead a.opening a.body a.runs.items c.frame.invariant.laid a.kind a.decimals in
     let segments : length t.segments ≡ length a.runs.items = ap (λ (q : FrameValue). length q.segments) (sym c.frame.view_is) ∙ segments_length a.text.items a.body a.runs.items in
     let count : c.len-count.result ≡ length t.segments = omega (arith, segments, c.len-count.ensures) in
     let products : c.len-count.result * c.args.most ≡ length t.segments * c.args.most = ap (λ n. n * c.args.most) count in
-    omega (arith, all, products, c.len-size.ensures)
+    let least : c.saturating_mul-given.result ≤ bit_or (bit_or c.args.start c.len-size.result) c.saturating_mul-given.result =
+    le_or_r (bit_or c.args.start c.len-size.result) c.saturating_mul-given.result in
+    omega (arith, all, products, c.len-size.ensures, least)

@@ -11,11 +11,11 @@ use Rattle.oim_row.specs.Rows.{column_in, columns_in}
 use Rattle.oim_fast.proofs.ColumnLaws.{kind_there, names_facts, names_it}
 use Rattle.oim_fast.proofs.frame.fact_column.fact_column.Goals as goal
 
-pub returns-in_default-place_in-clause-column : goal.returns-in_default-place_in-clause-column
-returns-in_default-place_in-clause-column c =
+pub returns-in_default-source-clause-column : goal.returns-in_default-source-clause-column
+returns-in_default-source-clause-column c =
     let f = c.args.header.now in
     let at = c.in-Some.at in
-    let none : position_from (is_column at) 0 f.columns ≡ None = cc (c.place_in.ensures, c.columns-3.ensures, c.in_default-place_in.is) in
+    let none : position_from (is_column at) 0 f.columns ≡ None = sym c.source.ensures ∙ c.in_default-source.is in
     let here = get_or_default f.columns c.args.i None _ c.requires.within ∙ ap (λ (h : Header). get_or h c.args.i _) (sym c.columns.ensures) ∙ c.in-Some.is in
     absurd (names_it f.columns c.args.i at c.requires.within here none)
 
@@ -35,7 +35,7 @@ returns-clause-column c =
       names_facts f c.args.i at here test,
       record {
         range = within;
-        there = sym (c.in-Some-place_in.ensures ∙ ap (position_from (is_column at) 0) c.columns-3.ensures);
+        there = sym c.in-Some-source.ensures;
         level = ap (λ (k : Column). k.level) is;
         lead = c.in_ok-lead.ensures ∙ ap (λ (k : Column). flat_map escaped_byte (codes "." ++ k.id) ++ codes "\":{") is;
         from = subst (λ (k : Column). All (λ g. g < length (columns_in f)) k.from) is

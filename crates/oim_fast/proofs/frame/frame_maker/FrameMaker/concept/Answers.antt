@@ -1,7 +1,6 @@
 use Rattle.std.proofs.Common.{map, reverse, sym, ap, inl}
 use Rattle.oim_resolve.specs.ProgramCell.{held}
 use Rattle.oim_fast.specs.state.Frames.{entry_of}
-use Rattle.oim_fast.specs.state.KeptFrames.{kind_code}
 use Rattle.oim_fast.specs.state.FrameParts.{IsPart}
 use Rattle.oim_row.specs.References.{key_of}
 use Rattle.oim_row.proofs.Growth.{grows_none}
@@ -10,7 +9,7 @@ use Rattle.oim_fast.proofs.MakingLaws.{concept_made, entry_there, part_there, th
 use Rattle.oim_fast.proofs.frame.frame_maker.FrameMaker.concept.Goals as goal
 
 pub returns-in-Some-clause-concept : goal.returns-in-Some-clause-concept
-returns-in-Some-clause-concept c = inl (ap kind_code c.in-Some.is)
+returns-in-Some-clause-concept c = inl c.in-Some.is
 
 pub returns-in-Some-clause-grows : goal.returns-in-Some-clause-grows
 returns-in-Some-clause-grows c = grows_none c.args.self.now.references
@@ -34,4 +33,4 @@ returns-clause-concept c =
     let within = there_in entry_of xs c.in_ok-place.place _ c.in_ok-place.ensures.place in
     let entry = entry_there xs c.in_ok-place.place p _ within c.index-part.ensures c.in_ok-place.ensures.place in
     let is : IsPart f keys p = part_there f keys xs c.in_ok-place.place p c.place_for.ensures.parts within c.index-part.ensures in
-    concept_made f keys ls p c.in-Some-written.concept.now (kind_code c.args.kind) c.concept_of.result entry is c.concept_of.ensures (sym c.in-Some-written.ensures)
+    concept_made f keys ls p c.in-Some-written.concept.now c.args.kind c.concept_of.result entry is c.concept_of.ensures (sym c.in-Some-written.ensures)

@@ -1,7 +1,8 @@
-use Rattle.std.proofs.Common.{◌≡◌, Some, Ok, codes}
+use Rattle.std.proofs.Common.{◌≡◌, Some, codes}
 use Rattle.std.specs.List.{slice_get}
-use Rattle.oim_resolve.specs.Facts.{concept_read, given}
+use Rattle.oim_resolve.specs.Facts.{given}
 use Rattle.oim_fast.specs.state.KeptFrames.{IsFor, IsKnownFor, IsOfConcept}
+use Rattle.oim_row.specs.Answers.{kind_read}
 use Rattle.oim_row.specs.state.Rows.{cell_in}
 use Rattle.oim_fast.specs.declared.frame.frame.Frame.{Frame}
 use Rattle.oim_fast.proofs.ChoiceLaws.{groups_within}
@@ -17,7 +18,7 @@ returns-then-is_at-clause-place c =
     let cells = c.args.maker.now.cells.list.items in
     let column = c.args.column.now in
     let k = c.in-Some.kind in
-    let read : concept_read x.header.report (given (cell_in x column.column) (codes "concept")) ≡ Ok k =
+    let read : kind_read x.header.report (given (cell_in x column.column) (codes "concept")) ≡ Some k =
     referred_read x column.column c.args.maker.now.references c.args.reference c.at.result.now k c.number-number.ensures.within c.requires.maker.fresh c.requires.reference c.at.ensures c.in-Some.is in
     some_also (IsKnownFor cells column (Some k)) (IsOfConcept x cells column) (slice_get c.args.self.now.list.items column.last_of_kind)
     (λ (v : Frame) h. record { kind = k; is = h.is; concept = read }) (c.is_at.ensures c.if-is_at.true)
@@ -28,7 +29,7 @@ returns-clause-place c =
     let cells = c.args.maker.now.cells.list.items in
     let column = c.args.column.now in
     let k = c.in-Some.kind in
-    let read : concept_read x.header.report (given (cell_in x column.column) (codes "concept")) ≡ Ok k =
+    let read : kind_read x.header.report (given (cell_in x column.column) (codes "concept")) ≡ Some k =
     referred_read x column.column c.args.maker.now.references c.args.reference c.at.result.now k c.number-number.ensures.within c.requires.maker.fresh c.requires.reference c.at.ensures c.in-Some.is in
     some_also (IsFor cells column (Some k)) (IsOfConcept x cells column) (slice_get c.place.new.self.list.items c.in_ok-place.place)
     (λ (v : Frame) is. record { kind = k; is = is; concept = read }) c.in_ok-place.ensures.place

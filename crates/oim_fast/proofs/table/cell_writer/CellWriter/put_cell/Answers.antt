@@ -183,7 +183,7 @@ put_fact-requires-clause-plain c =
     let text : IsTextFor x (map key_of rs) k.column t = subst (λ (o : Option FrameValue). IfSome o (IsTextFor x (map key_of rs) k.column)) c.in-Some-text.ensures first in
     let kind : c.frame.inside.kind ≡ t.kind = ap (λ (q : FrameValue). q.kind) c.frame.view_is in
     let v = c.in-Some-quick_value.value in
-    let value : IsValue x.header.report t.kind (meaning_of field) v = subst (λ (q : Kind). IsValue x.header.report q (meaning_of field) v) kind c.in-Some-quick_value.ensures in
+    let value : IsValue x.header.report t.kind (meaning_of field) v = subst (λ (q : Kind). IsValue x.header.report q (meaning_of field) v) kind (c.in-Some-quick_value.ensures c.frame.inside.kind (sym c.frame.invariant.form)) in
     value_is_plain x.header.report t.kind (meaning_of field) v value
 
 pub put_fact-requires-clause-references : goal.put_fact-requires-clause-references
@@ -216,7 +216,7 @@ returns-in-Some-quick_value-clause-cell c =
     let text : IsTextFor x (map key_of rs) k.column t = subst (λ (o : Option FrameValue). IfSome o (IsTextFor x (map key_of rs) k.column)) c.in-Some-text.ensures first in
     let kind : c.frame.inside.kind ≡ t.kind = ap (λ (q : FrameValue). q.kind) c.frame.view_is in
     let v = c.in-Some-quick_value.value in
-    let value : IsValue x.header.report t.kind (meaning_of field) v = subst (λ (q : Kind). IsValue x.header.report q (meaning_of field) v) kind c.in-Some-quick_value.ensures in
+    let value : IsValue x.header.report t.kind (meaning_of field) v = subst (λ (q : Kind). IsValue x.header.report q (meaning_of field) v) kind (c.in-Some-quick_value.ensures c.frame.inside.kind (sym c.frame.invariant.form)) in
     let meant : IsValue x.header.report t.kind (fact_meaning (cell_in x k.column)) v = subst (λ (m : Meaning). IsValue x.header.report t.kind m v) means value in
     subst (λ (n : ℕ). PutsCell x n c.args.out.now.items c.put_fact.new.out.items c.put_fact.result) there
     (puts_fact x old.maker.cells.list.items k rs t v old.start.start.items c.args.out.now.items c.put_fact.new.out.items c.requires.row.number column c.frame_for.ensures.maker.fresh text meant c.requires.row.start

@@ -1,6 +1,5 @@
-use Rattle.std.proofs.Common.{[], ◌∷◌, codes, None, Some, map, refl, subst, sym, ap, ◌∙◌}
+use Rattle.std.proofs.Common.{[], ◌∷◌, codes, None, refl, subst, sym, ap, ◌∙◌}
 use Rattle.std.specs.Borrow.{Bor}
-use Rattle.std.specs.Option.{option_map}
 use Rattle.oim_report.specs.InOrder.{LevelRises}
 use Rattle.oim_report.specs.Readers.{template_of}
 use Rattle.oim_report.specs.declared.data.Column.{Column}

@@ -11,8 +11,8 @@ fact_with-requires c =
     let cell = cell_at c.args.self.now.place in
     let k = c.args.value.kind in
     let dimensions = c.in_ok-dimensions.ensures ∙ row_read cell k (names (levels cell)) in
-    let together = read_together cell k _ _ c.suffix_of.result _ _ _ _ _ c.both-2.result c.requires.meaning c.fact_value-reading.ensures c.suffix_of.ensures
-    c.stated.ensures dimensions c.decimals-decimals.ensures c.in_ok-text.ensures.text c.both.ensures c.both-2.ensures in
+    let together = read_together cell k _ _ c.suffix.result _ _ _ _ _ _ _ c.both-2.result c.requires.meaning c.fact_value-reading.ensures c.suffix.ensures
+    c.stated.ensures dimensions c.decimals-decimals.ensures c.wanted_fault-wanted.ensures c.in_ok-text.ensures.text c.both.ensures c.or_fault.ensures c.both-2.ensures in
     given_ascends cell k c.in-Ok.given c.both-2.result c.in-Ok.is together
 
 pub returns : goal.returns
@@ -20,8 +20,8 @@ returns c =
     let cell = cell_at c.args.self.now.place in
     let k = c.args.value.kind in
     let dimensions = c.in_ok-dimensions.ensures ∙ row_read cell k (names (levels cell)) in
-    let together = read_together cell k _ _ c.suffix_of.result _ _ _ _ _ c.both-2.result c.requires.meaning c.fact_value-reading.ensures c.suffix_of.ensures
-    c.stated.ensures dimensions c.decimals-decimals.ensures c.in_ok-text.ensures.text c.both.ensures c.both-2.ensures in
+    let together = read_together cell k _ _ c.suffix.result _ _ _ _ _ _ _ c.both-2.result c.requires.meaning c.fact_value-reading.ensures c.suffix.ensures
+    c.stated.ensures dimensions c.decimals-decimals.ensures c.wanted_fault-wanted.ensures c.in_ok-text.ensures.text c.both.ensures c.or_fault.ensures c.both-2.ensures in
     inr (ap Ok c.fact_with.ensures ∙ fact_whole cell k _ c.in-Ok.given c.both-2.result c.requires.kind c.in_ok-id.ensures c.in-Ok.is together)
 
 pub returns-in-Err : goal.returns-in-Err
@@ -29,6 +29,6 @@ returns-in-Err c =
     let cell = cell_at c.args.self.now.place in
     let k = c.args.value.kind in
     let dimensions = c.in_ok-dimensions.ensures ∙ row_read cell k (names (levels cell)) in
-    let together = read_together cell k _ _ c.suffix_of.result _ _ _ _ _ c.both-2.result c.requires.meaning c.fact_value-reading.ensures c.suffix_of.ensures
-    c.stated.ensures dimensions c.decimals-decimals.ensures c.in_ok-text.ensures.text c.both.ensures c.both-2.ensures in
+    let together = read_together cell k _ _ c.suffix.result _ _ _ _ _ _ _ c.both-2.result c.requires.meaning c.fact_value-reading.ensures c.suffix.ensures
+    c.stated.ensures dimensions c.decimals-decimals.ensures c.wanted_fault-wanted.ensures c.in_ok-text.ensures.text c.both.ensures c.or_fault.ensures c.both-2.ensures in
     inr (fact_fault cell k c.in-Err.fault c.both-2.result c.requires.kind c.in-Err.is together)

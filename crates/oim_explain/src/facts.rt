@@ -1,0 +1,94 @@
+//! What is wrong with the cell of a fact, and where that comes from.
+
+use crate::forms::{form_of, wrong_period};
+use crate::groups::known_groups;
+use crate::levels::RowOfFault;
+use crate::numbers::wrong_numeral;
+use crate::quotes::{UNCLOSED, unclosed_quote};
+use crate::sources::{Origin, origin_of, sources};
+use crate::spreadsheet::{SPREADSHEET_ERROR, is_spreadsheet_error};
+use oim_files::Folder;
+use oim_meta::{Written, WrittenDecimals};
+use oim_names::{Items, Text};
+use oim_resolve::{CellFault, read_concept};
+use std::alloc::{AllocError, Global};
+use std::io::Read;
+
+/// What is told of a record of a table's file.
+#[derive(Drop)]
+pub(crate) struct Told {
+    /// What is wrong with it.
+    pub(crate) cause: &'static str,
+    /// The lines after that.
+    pub(crate) more: Items<Text>,
+}
+
+/// Returns the text that has a fault, by what causes it.
+fn faulty_text<'r>(row: &RowOfFault<'r>, origin: Option<Origin<'r>>) -> &'r str {
+    match origin {
+        None => row.own_cell(),
+        Some(Origin::Groups(place)) => row.cell_of(row.column_id(place)),
+        Some(Origin::Dimension(name)) => match row.written(name) {
+            Some((_, Written::Text(text))) => text.as_str(),
+            Some((_, Written::Named(name, _))) => row.text_referred(name.as_str()),
+            _ => "",
+        },
+        Some(Origin::Decimals) => match row.decimals() {
+            Some((_, WrittenDecimals::Named(name))) => row.text_referred(name.as_str()),
+            _ => "",
+        },
+    }
+}
+
+/// Returns what is wrong with the text that has a fault, or `None` if nothing more than the fault
+/// is known.
+fn wrong_text(row: &RowOfFault<'_>, fault: CellFault, text: &str) -> Option<&'static str> {
+    match fault {
+        CellFault::BadNumber => wrong_numeral(text),
+        CellFault::UnknownSpecial if is_spreadsheet_error(text) => Some(SPREADSHEET_ERROR),
+        CellFault::BadPeriod => wrong_period(text),
+        CellFault::BadFactValue => match read_concept(&row.again.report, row.concept()) {
+            Ok(kind) => form_of(kind),
+            Err(_) => None,
+        },
+        _ => None,
+    }
+}
+
+/// Returns the line that names the quotation mark which opens a text that the file does not close,
+/// if the text that has the fault may be one: it has a line feed.
+fn swallowing_quote<R: Read + Drop, F: Folder<R>>(
+    alloc: Global,
+    folder: &mut F,
+    row: &RowOfFault<'_>,
+    text: &str,
+) -> Result<Option<Text>, AllocError> {
+    if text.split_once('\n').is_some() {
+        unclosed_quote(alloc, folder, row.path, row.line)
+    } else {
+        Ok(None)
+    }
+}
+
+/// Returns what is told of a fault of the cell of a fact.
+pub(crate) fn of_fact<R: Read + Drop, F: Folder<R>>(
+    alloc: Global,
+    folder: &mut F,
+    row: &RowOfFault<'_>,
+    fault: CellFault,
+) -> Result<Told, AllocError> {
+    let origin = origin_of(alloc, row, fault)?;
+    let text = faulty_text(row, origin);
+    let mut more = sources(alloc, folder, row, origin)?;
+    if let (CellFault::UnknownGroup, Some(Origin::Groups(place))) = (fault, origin) {
+        if let Some(column) = row.columns.get(place) {
+            more.push(known_groups(alloc, column, text)?)?;
+        }
+    }
+    let mut cause = wrong_text(row, fault, text).unwrap_or(fault.explanation());
+    if let Some(line) = swallowing_quote(alloc, folder, row, text)? {
+        cause = UNCLOSED;
+        more.push(line)?;
+    }
+    Ok(Told { cause, more })
+}

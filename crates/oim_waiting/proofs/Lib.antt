@@ -1,0 +1,4 @@
+mod Examples
+pub mod CallLaws
+pub mod RoomLaws
+pub mod TurnLaws

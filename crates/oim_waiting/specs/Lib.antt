@@ -1,0 +1,4 @@
+pub mod Calls
+pub mod Rooms
+pub mod Turns
+pub mod state

@@ -1,0 +1,4 @@
+pub mod DocumentMarks
+pub mod JsonPlaces
+pub mod RecordCounts
+pub mod state

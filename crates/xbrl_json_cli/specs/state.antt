@@ -1,0 +1,3 @@
+pub mod DocumentCounts
+pub mod Keys
+pub mod TableRows

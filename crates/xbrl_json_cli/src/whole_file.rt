@@ -1,0 +1,85 @@
+//! Files that are written after a run, and replaced only by whole ones.
+//!
+//! Not proved: what is written to the system's files.
+
+use crate::new_file::{NewFile, replaced};
+use std::alloc::Global;
+use std::fs::OpenOptions;
+use std::io::Write;
+use std::{fs, io};
+
+/// What such a file gets.
+pub trait Content {
+    /// Writes all of it.
+    fn write_to<W: Write + Drop>(&mut self, to: W) -> io::Result<()>;
+}
+
+/// Makes a new file next to the one at a path, if that is a regular file or does not exist.
+///
+/// Returns `Some(None)` for any other file, which is written directly, and `None` if no new file
+/// can be made.
+fn file_beside(rt: &HostRuntime, alloc: Global, path: &str) -> Option<Option<NewFile>> {
+    let Some(old) = replaced(rt, path) else {
+        return Some(None);
+    };
+    match NewFile::make(rt, alloc, path, &old) {
+        Some(new) => Some(Some(new)),
+        None => None,
+    }
+}
+
+/// Whether a file that is written directly can hold the content: any but a folder. It is not opened
+/// to find out.
+fn is_no_folder(rt: &HostRuntime, path: &str) -> bool {
+    match fs::metadata(rt, path) {
+        Ok(metadata) => !metadata.is_dir(),
+        Err(_) => true,
+    }
+}
+
+/// Whether the file at a path can be written, as far as can be known before the run: a new file can
+/// be made next to it, or it is neither a regular file nor a folder.
+///
+/// A pipe is not opened to find out, because closing it again would end its reader's input.
+pub fn can_be_made(rt: &HostRuntime, alloc: Global, path: &str) -> bool {
+    match file_beside(rt, alloc, path) {
+        Some(Some(new)) => {
+            new.remove(rt);
+            true
+        }
+        Some(None) => is_no_folder(rt, path),
+        None => false,
+    }
+}
+
+/// Writes a new file, gives it its name, and returns whether both succeeded.
+fn write_new<C: Content>(rt: &HostRuntime, content: &mut C, new: NewFile) -> bool {
+    let mut new = new;
+    if content.write_to(&mut new.file).is_ok() {
+        return new.take_name(rt).is_ok();
+    }
+    new.remove(rt);
+    false
+}
+
+/// Writes the file at a path directly, and returns whether that succeeded.
+fn write_straight<C: Content>(rt: &HostRuntime, content: &mut C, path: &str) -> bool {
+    match OpenOptions::new().write(true).create(true).open(rt, path) {
+        Ok(mut file) => content.write_to(&mut file).is_ok(),
+        Err(_) => false,
+    }
+}
+
+/// Writes the file at a path, and returns whether it is whole.
+pub fn write_whole<C: Content>(
+    rt: &HostRuntime,
+    alloc: Global,
+    content: &mut C,
+    path: &str,
+) -> bool {
+    match file_beside(rt, alloc, path) {
+        Some(Some(new)) => write_new(rt, content, new),
+        Some(None) => write_straight(rt, content, path),
+        None => false,
+    }
+}

@@ -1,0 +1,53 @@
+"""The program that is started as xbrl-json: its version, and which options it has."""
+
+from __future__ import annotations
+
+from functools import lru_cache
+from subprocess import DEVNULL, PIPE, SubprocessError, run
+
+from .outcomes import first_line
+from .refusals import FILES, Refusal
+
+COUNTS, PROGRESS = "--counts", "--progress"
+EXPLAIN, NO_EXPLAIN = "--explain", "--no-explain"
+LONGEST_HELP = 60.0  # seconds; a program that prints no help by then has no options
+
+
+def version_of(program: str) -> str:
+    """Return the version of xbrl-json. Refuse one that does not run."""
+    try:
+        done = run([program, "--version"], stdin=PIPE, stdout=PIPE, stderr=PIPE, check=False)
+    except OSError as error:
+        raise Refusal(FILES, program, f"cannot run ({error.strerror})") from None
+    if done.returncode:
+        why = first_line(done.stderr) or f"it ends with status {done.returncode}"
+        raise Refusal(FILES, program, f"cannot run ({why})")
+    return done.stdout.decode("utf-8", "replace").strip()
+
+
+@lru_cache(maxsize=None)
+def help_of(program: str) -> bytes:
+    """Return the help of the program, or nothing if it prints none."""
+    words = [program, "--help"]
+    try:
+        done = run(words, stdin=DEVNULL, stdout=PIPE, stderr=DEVNULL, timeout=LONGEST_HELP)
+    except (OSError, SubprocessError):
+        return b""
+    return done.stdout
+
+
+def has_counts(program: str) -> bool:
+    """Return whether the program has the option `--counts`, as its help says."""
+    return COUNTS.encode() in help_of(program)
+
+
+def has_no_explain(program: str) -> bool:
+    """Return whether the program has the option `--no-explain`, as its help says."""
+    return NO_EXPLAIN.encode() in help_of(program)
+
+
+def require_counts(program: str) -> None:
+    """Refuse a program without `--counts`, which a summary needs."""
+    if not has_counts(program):
+        why = f"has no option {COUNTS}, which --summary needs: take a newer xbrl-json"
+        raise Refusal(FILES, program, why)
