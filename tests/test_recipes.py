@@ -1,6 +1,7 @@
 """Tests the recipes of examples/batch with the real programs, where they are installed."""
 from __future__ import annotations
 
+import functools
 import json
 import os
 import shutil
@@ -29,14 +30,33 @@ exec {filing} "$@"
 """
 
 
+@functools.lru_cache(maxsize=None)
+def lack_of_parallel() -> str:
+    """Returns why GNU parallel starts no program here, or nothing.
+
+    Other programs have its name, and a file of it may be there that is empty.
+    """
+    if shutil.which("parallel") is None:
+        return "GNU parallel is not installed"
+    words = ["parallel", "-0", "-j", "1", "echo", "{}"]
+    try:
+        done = subprocess.run(words, input=b"seen\0", capture_output=True, timeout=PATIENCE)
+    except OSError as refused:
+        return f"parallel does not start: {refused}"
+    if done.stdout == b"seen\n":
+        return ""
+    return f"parallel starts no program: status {done.returncode}, {done.stderr!r}"
+
+
 class TestParallel(TestCase):
     """The recipe of GNU parallel, over two names of this machine."""
 
     def setUp(self) -> None:
         """Makes four reports, one with a fault, and a taxonomy."""
         super().setUp()
-        if shutil.which("parallel") is None:
-            self.skipTest("GNU parallel is not installed")
+        lack = lack_of_parallel()
+        if lack:
+            self.skipTest(lack)
         self.report: Files = {it: GOOD[it] for it in GOOD if it.startswith("reports")}
         for name in ("in", "taxonomy", "bin"):
             (self.folder / name).mkdir()
@@ -54,15 +74,19 @@ class TestParallel(TestCase):
         return path
 
     def convert(self, little: int = 0, taxonomy: str = "taxonomy") -> int:
-        """Runs the recipe, whose first runs have little memory, and returns its status."""
+        """Runs the recipe, whose first runs have little memory, and returns its status.
+
+        As in many services, there is no SHELL and no HOME.
+        """
         command = COMMAND.format(program=PROGRAM, filing=TOP / "xbrl-filing", little=little)
         self.script("xbrl-filing", command)
         own = str(self.folder / "bin")
-        told = {"PATH": f"{own}:{os.environ['PATH']}", "SHARE": "4"}
+        told = {it: os.environ[it] for it in os.environ if it not in ("SHELL", "HOME")}
+        told.update(PATH=f"{own}:{os.environ['PATH']}", SHARE="4")
         told["SSH"] = str(self.script("ssh", SSH))
         words = [str(RECIPES / "night_parallel.sh"), "in", taxonomy, "out", "a,b"]
         done = subprocess.run(
-            words, cwd=self.folder, env={**os.environ, **told}, capture_output=True, timeout=PATIENCE
+            words, cwd=self.folder, env=told, capture_output=True, timeout=PATIENCE
         )
         self.said = done.stderr.decode()
         return done.returncode

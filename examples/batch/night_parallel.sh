@@ -7,6 +7,8 @@
 
 inbox=$1 taxonomy=$2 out=$3 hosts=${4:-:}
 mkdir -p -- "$out" || exit
+# GNU parallel starts nothing, and says nothing, where a service sets no SHELL.
+export PARALLEL_SHELL=/bin/bash HOME=${HOME:-/}
 
 # A share that ends with any other status than 0 and 1 is started again, at most three times in all,
 # on another host if there is one, and only if 1 GB of memory is free there. What is done or refused
@@ -17,7 +19,7 @@ find "$inbox" -maxdepth 1 -name '*.zip' -print0 | sort -z |
         xbrl-filing {} --taxonomy "$taxonomy"/*.zip --into "$out" --cache "$out/.cache" \
         --time-limit 3600 '||' test '$?' -eq 1
 left=$?
-cat -- "$out"/*.outcome > "$out.jsonl"
+cat -- "$out"/*.outcome > "$out.jsonl" || exit 3
 again='"outcome": "(read|memory|thread|signal|time-limit|memory-limit|busy)"'
 if ((left)); then
     grep -qE "$again" "$out.jsonl" && exit 75
