@@ -1,8 +1,9 @@
-"""Tests that a run starts no second thread where the system offers one processor."""
+"""Tests that a run starts no second thread where only one processor is there for it."""
 from __future__ import annotations
 
 import os
 import subprocess
+import sys
 import threading
 import time
 import unittest
@@ -11,6 +12,10 @@ from pathlib import Path
 from tests.harness import PATIENCE, PROGRAM, TYPES, TestCase, metadata
 
 WORDS = ["meta.json", "--types", "types.csv"]
+# How many processors the system offers to this process.
+OFFERED = len(os.sched_getaffinity(0))
+# A program that only uses a processor.
+BUSY = "while True: sum(range(100_000))"
 
 
 def on_one_processor() -> None:
@@ -51,14 +56,17 @@ class TestProcessors(TestCase):
         for name in self.names:
             threading.Thread(target=fill, args=(name,), daemon=True).start()
 
-    def most_threads(self, workers: int, one: bool) -> tuple[int, bytes]:
-        """Runs, and returns the most threads that were seen, and the document."""
+    def most_threads(self, workers: int, one: bool, few: bool = False) -> tuple[int, bytes]:
+        """Runs, and returns the most threads that were seen, and the document.
+
+        With `one` the run has one processor only. With `few` one thread is wanted all the same.
+        """
         ends = threading.Event()
         self.feed(ends)
         way = on_one_processor if one else None
         words = [PROGRAM, *WORDS, f"--workers={workers}", "--out", "o.json"]
         # Threads that are wanted are waited for, on a loaded machine too; others for a while.
-        many = workers > 1 and not one
+        many = workers > 1 and not one and not few
         most, until = 0, time.monotonic() + (PATIENCE if many else 2)
         with subprocess.Popen(words, cwd=self.folder, preexec_fn=way) as run:
             while run.poll() is None and time.monotonic() < until:
@@ -78,9 +86,22 @@ class TestProcessors(TestCase):
             with self.subTest(workers=workers):
                 self.assertEqual(self.most_threads(workers, True), alone)
 
-    @unittest.skipIf(len(os.sched_getaffinity(0)) < 2, "there is one processor only")
+    @unittest.skipUnless(1 < OFFERED < 64, "there is one processor only, or there are very many")
     def test_more_processors(self) -> None:
-        """Starts threads for several workers."""
-        most, document = self.most_threads(4, False)
+        """Starts threads for more workers than processors, however busy these are."""
+        most, document = self.most_threads(OFFERED + 1, False)
         self.assertGreater(most, 1)
         self.assertEqual(document, self.most_threads(4, True)[1])
+
+    @unittest.skipIf(OFFERED < 2, "there is one processor only")
+    def test_busy_processors(self) -> None:
+        """Starts no thread if all processors are busy, and writes the same document."""
+        alone = self.most_threads(1, False)
+        busy = [subprocess.Popen([sys.executable, "-c", BUSY]) for _ in range(os.cpu_count() or 1)]
+        try:
+            time.sleep(0.5)
+            self.assertEqual(self.most_threads(2, False, few=True), alone)
+        finally:
+            for program in busy:
+                program.kill()
+                program.wait()

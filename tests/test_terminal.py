@@ -141,3 +141,29 @@ class TestFailedWrite(ExplainTest):
         path = "a\x1b[31mb"
         (self.folder / path).symlink_to("/dev/full")
         self.check_write("a\\x1b[31mb", FULL, "--out", path)
+
+
+class TestFailedFile(ExplainTest):
+    """Explains why a file other than the document could not be written."""
+
+    def check_file(self, why: str, *words: str, **more: Any) -> None:
+        """Checks a run that cannot write the file of faults or of counts, which words[1] names."""
+        seen = self.run_program(*WORDS, *words, "--out", "o.json", "--explain", **more)
+        line = f"xbrl-json: cannot write {words[1]}\n"
+        self.check_run(Done(seen.status, b"", seen.err), 3, b"", f"{line}    {why}\n")
+
+    def test_a_full_disk(self) -> None:
+        """Names it for both."""
+        self.write({"r/t1.csv": "cash,note\n1,x\n"})
+        for word in ("--faults", "--counts"):
+            with self.subTest(word=word):
+                self.check_file(FULL, word, "/dev/full")
+
+    def test_a_closed_pipe(self) -> None:
+        """Names the reader."""
+        self.write({"r/t1.csv": "cash,note\n1,x\n"})
+        read, write = os.pipe()
+        os.close(read)
+        with os.fdopen(write, "wb") as closed:
+            path = f"/dev/fd/{closed.fileno()}"
+            self.check_file(CLOSED, "--counts", path, pass_fds=(closed.fileno(),))

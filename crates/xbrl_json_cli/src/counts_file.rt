@@ -9,6 +9,7 @@ use crate::counts::Counts;
 use crate::faults::{document_path, is_taken};
 use crate::target::Target;
 use crate::whole_file::{Content, can_be_made, write_whole};
+use crate::write_failure::WriteFailure;
 use oim_run::{Outcome, Request, cannot_write, status};
 use std::alloc::Global;
 use std::io;
@@ -50,13 +51,14 @@ pub fn uncounted_before(rt: &HostRuntime, alloc: Global, request: &Request) -> O
     Some(cannot_write(alloc, path))
 }
 
-/// Writes the file, and returns whether it is whole.
+/// Writes the file, and returns whether it is whole. `failure` gets why a write failed.
 fn write_file(
     rt: &HostRuntime,
     alloc: Global,
     request: &Request,
     counts: Option<&Counts>,
     path: &str,
+    failure: &WriteFailure,
 ) -> bool {
     if Target::of(rt, path).is_at(rt, document_path(&request.settings))
         || is_of_faults(rt, request, path)
@@ -71,7 +73,7 @@ fn write_file(
             let content = &mut CountsText {
                 text: text.as_slice(),
             };
-            write_whole(rt, alloc, content, path)
+            write_whole(rt, alloc, content, path, failure)
         }
         None => false,
     }
@@ -79,19 +81,21 @@ fn write_file(
 
 /// Writes the file of the counts, if the command line names one and the exit status is 0.
 ///
-/// It is replaced only by a whole one. Returns the outcome that it cannot be written, if so.
+/// It is replaced only by a whole one. Returns the outcome that it cannot be written, if so;
+/// `failure` then gets why a write failed.
 pub fn write_counts(
     rt: &HostRuntime,
     alloc: Global,
     request: &Request,
     outcome: &Outcome,
     counts: Option<&Counts>,
+    failure: &WriteFailure,
 ) -> Option<Outcome>
     ensures { IfSome result (λ last. IsLeftUncounted request.now.counts outcome.now last) }
 {
     let path = request.counts.as_ref()?;
     let path = path.as_str();
-    if status(outcome) != 0 || write_file(rt, alloc, request, counts, path) {
+    if status(outcome) != 0 || write_file(rt, alloc, request, counts, path, failure) {
         return None;
     }
     Some(cannot_write(alloc, path))

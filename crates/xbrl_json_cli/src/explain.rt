@@ -75,7 +75,8 @@ pub struct Explainer<'a> {
 }
 
 impl<'a> Explainer<'a> {
-    /// Makes it. `failure` is why a write of the document failed, if one did.
+    /// Makes it. `failure` is why a write of the output that the outcome is about failed, if one
+    /// did.
     pub fn new(
         rt: &'a HostRuntime,
         alloc: Global,
@@ -164,7 +165,10 @@ impl<'a> Explainer<'a> {
                 return Known::Nothing;
             }
             Outcome::CannotRead(path) => why_unread(self.rt, path.as_str()),
-            Outcome::CannotWrite(path) => why_unwritten(self.rt, self.settings, path.as_str()),
+            Outcome::CannotWrite(path) => match self.failure.noted() {
+                Some(why) => why,
+                None => why_unwritten(self.rt, self.settings, path.as_str()),
+            },
             Outcome::Run(fault) => fault.explanation(),
         };
         let _ = eprint!(self.rt; "    {reason}\n");

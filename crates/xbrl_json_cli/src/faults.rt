@@ -9,6 +9,7 @@ use crate::explain::{Known, KnownTables};
 use crate::files_again::FilesAgain;
 use crate::target::Target;
 use crate::whole_file::{Content, can_be_made, write_whole};
+use crate::write_failure::WriteFailure;
 use oim_meta::Finding;
 use oim_names::Text;
 use oim_rows::TableFault;
@@ -177,34 +178,26 @@ impl<'a, 'b> Content for FaultRecords<'a, 'b> {
     }
 }
 
-/// Writes the file of the faults, and returns whether it is whole.
+/// Writes the file of the faults, and returns whether it is whole. `failure` gets why a write
+/// failed.
 fn write_file(
     rt: &HostRuntime,
-    alloc: Global,
-    settings: &Settings,
-    outcome: &Outcome,
-    files: &mut FilesAgain<'_>,
-    known: &Known,
+    records: &mut FaultRecords<'_, '_>,
     path: &str,
+    failure: &WriteFailure,
 ) -> bool {
-    if Target::of(rt, path).is_at(rt, document_path(settings)) {
+    if Target::of(rt, path).is_at(rt, document_path(records.settings)) {
         return false;
     }
-    let records = &mut FaultRecords {
-        alloc,
-        settings,
-        outcome,
-        files,
-        known,
-    };
-    write_whole(rt, alloc, records, path)
+    let alloc = records.alloc;
+    write_whole(rt, alloc, records, path, failure)
 }
 
 /// Writes the file of the faults, if the command line names one and the exit status is 0 or 1.
 ///
 /// The file gets its header and a record for each refused table, or for the fault of another file
 /// of the report. `known` is what is known of them. It is replaced only by a whole one. Returns the
-/// outcome that it cannot be written, if so.
+/// outcome that it cannot be written, if so; `failure` then gets why a write failed.
 pub fn write_faults(
     rt: &HostRuntime,
     alloc: Global,
@@ -212,14 +205,20 @@ pub fn write_faults(
     outcome: &Outcome,
     files: &mut FilesAgain<'_>,
     known: &Known,
+    failure: &WriteFailure,
 ) -> Option<Outcome>
     ensures { IfSome result (λ last. IsLeftUnwritten request.now.faults outcome.now last) }
 {
     let path = request.faults.as_ref()?;
     let path = path.as_str();
-    if status(outcome) > 1
-        || write_file(rt, alloc, &request.settings, outcome, files, known, path)
-    {
+    let records = &mut FaultRecords {
+        alloc,
+        settings: &request.settings,
+        outcome,
+        files,
+        known,
+    };
+    if status(outcome) > 1 || write_file(rt, records, path, failure) {
         return None;
     }
     Some(cannot_write(alloc, path))

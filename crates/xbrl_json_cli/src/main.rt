@@ -42,8 +42,10 @@ mod document_marks;
 mod explain;
 mod faults;
 mod files_again;
+mod idle_processors;
 mod json_place;
 mod new_file;
+mod noted;
 mod output;
 mod over;
 mod paths;
@@ -63,6 +65,7 @@ use counts::Counts;
 use counts_file::uncounted_before;
 use disk::Disk;
 use faults::refused_before;
+use noted::Noted;
 use oim_convert::ConvertFault;
 use oim_run::{Outcome, Request, held_told, request_of, tell};
 use output::SystemOutputs;
@@ -94,8 +97,9 @@ fn converted<T: Threads + Wait + Sync>(
     alloc: Global,
     request: &Request,
 ) -> u8 {
-    let failure = &WriteFailure::new(alloc);
-    let written = &WrittenFiles::new(rt, request, failure.shared());
+    let document = &WriteFailure::new(alloc);
+    let beside = &WriteFailure::new(alloc);
+    let written = &WrittenFiles::new(rt, request, document.shared());
     let progress = if request.progress {
         Progress::start(rt, rt.stderr().is_terminal())
     } else {
@@ -118,8 +122,13 @@ fn converted<T: Threads + Wait + Sync>(
         progress,
         counts,
     };
+    let noted = &Noted {
+        counts,
+        document,
+        beside,
+    };
     let errors = &mut StandardError::new(rt);
-    convert_and_tell(rt, threads, request, disk, outputs, counts, failure, errors)
+    convert_and_tell(rt, threads, request, disk, outputs, noted, errors)
 }
 
 /// Checks what the arguments ask for and runs it. Returns the exit status.
@@ -155,7 +164,7 @@ fn started<T: Threads + Wait + Sync>(
         return status;
     }
     match request_of(alloc, words) {
-        Ok(request) => asked(rt, threads, alloc, &fitted(threads, request)),
+        Ok(request) => asked(rt, threads, alloc, &fitted(rt, threads, request)),
         Err(error) => explained(rt, alloc, &error),
     }
 }

@@ -1,31 +1,47 @@
 //! How many workers a run gets.
 //!
-//! Not proved: how many processors the system offers.
+//! Not proved: how many processors the system offers, and how many of them are idle.
 
 ghost use Rattle.std.specs.Prelude.{◌≡◌, ◌≤◌};
 ghost use Rattle.oim_convert.specs.Limits.{IsWorkerCount};
 
+use crate::idle_processors::idle_processors;
 use oim_run::Request;
 use std::thread::{Threads, available_parallelism};
 
-/// Whether the system offers one processor only.
-fn is_one<T: Threads>(threads: &T) -> bool {
-    match available_parallelism(threads) {
-        Ok(count) => count.get() == 1,
-        Err(_) => false,
+/// Returns how many workers are of use where `asked` are asked for: one if the system offers one
+/// processor, else one for each processor that is idle. More workers than processors are all of
+/// use, because then it is the open tables that are asked for.
+fn useful_workers<T: Threads>(rt: &HostRuntime, threads: &T, asked: usize) -> usize
+    ensures { 1 ≤ result }
+{
+    let offered = match available_parallelism(threads) {
+        Ok(count) => count.get(),
+        Err(_) => return asked.max(1),
+    };
+    if offered == 1 {
+        return 1;
+    }
+    if asked > offered {
+        return asked;
+    }
+    match idle_processors(rt) {
+        Some(idle) => idle.max(1),
+        None => asked.max(1),
     }
 }
 
-/// Returns the request with one worker if the system offers only one processor, where more would
-/// only take time. A run ends as the request asks whatever the number of workers.
-pub fn fitted<T: Threads>(threads: &T, request: Request) -> Request
+/// Returns the request with fewer workers if more would only take time. A run ends as the request
+/// asks whatever the number of workers.
+pub fn fitted<T: Threads>(rt: &HostRuntime, threads: &T, request: Request) -> Request
     ensures same { result ≡ record request { settings = record request.settings { workers = result.settings.workers } } }
     ensures fewer { result.settings.workers ≤ request.settings.workers }
     ensures some { IsWorkerCount request.settings.workers → IsWorkerCount result.settings.workers }
 {
     let mut fitted = request;
-    if fitted.settings.workers > 1 && is_one(threads) {
-        fitted.settings.workers = 1;
+    let useful = useful_workers(rt, threads, fitted.settings.workers);
+    if useful < fitted.settings.workers {
+        fitted.settings.workers = useful;
     }
     fitted
 }

@@ -6,11 +6,11 @@ ghost use Rattle.oim_run.specs.Lines.{status_of, unprinted_status, words_status}
 ghost use Rattle.oim_run.specs.Outputs.{EndsFor, EndsTold, IsLeftOut, Says, SaysLast};
 
 use crate::colours::Colours;
-use crate::counts::Counts;
 use crate::counts_file::write_counts;
 use crate::explain::{Explainer, Known};
 use crate::faults::write_faults;
 use crate::files_again::FilesAgain;
+use crate::noted::Noted;
 use crate::write_failure::WriteFailure;
 use oim_run::{Folder, Outcome, Outputs, Request, Teller, convert_as, shown, status, tell};
 use std::alloc::{AllocError, Global};
@@ -79,7 +79,8 @@ fn told_as_asked<L: Teller>(
 }
 
 /// Writes the files of the faults and of the counts of a run with this outcome. `known` is what is
-/// known of its faults. Returns the outcome that one of them cannot be written, if so.
+/// known of its faults, and `noted` gets why a write failed. Returns the outcome that one of them
+/// cannot be written, if so.
 fn left_out(
     rt: &HostRuntime,
     alloc: Global,
@@ -87,22 +88,24 @@ fn left_out(
     outcome: &Outcome,
     files: &mut FilesAgain<'_>,
     known: &Known,
-    counts: Option<&Counts>,
+    noted: &Noted<'_>,
 ) -> Option<Outcome>
     ensures { IfSome result (λ last. IsLeftOut request.now.faults request.now.counts outcome.now last) }
 {
-    match write_faults(rt, alloc, request, outcome, files, known) {
+    match write_faults(rt, alloc, request, outcome, files, known, noted.beside) {
         Some(unwritten) => Some(unwritten),
-        None => write_counts(rt, alloc, request, outcome, counts),
+        None => write_counts(rt, alloc, request, outcome, noted.counts, noted.beside),
     }
 }
 
 /// Tells the lines of an outcome, with the places of its faults if they are asked for. Returns its
-/// exit status. The files are read again only for this.
+/// exit status. The files are read again only for this. `failure` is why a write failed, if one
+/// did.
 fn told_alone<L: Teller>(
     rt: &HostRuntime,
     alloc: Global,
     request: &Request,
+    failure: &WriteFailure,
     outcome: &Outcome,
     to: &mut L,
 ) -> u8
@@ -110,26 +113,19 @@ fn told_alone<L: Teller>(
     ensures says { Says (L.terminal to.old) outcome.now (L.said to.old) (L.said to.new) }
 {
     let files = &mut FilesAgain::new(rt, alloc);
-    told_as_asked(
-        rt,
-        alloc,
-        request,
-        &WriteFailure::none(),
-        outcome,
-        files,
-        to,
-    );
+    told_as_asked(rt, alloc, request, failure, outcome, files, to);
     status(outcome)
 }
 
 /// Returns the exit status of a run with this outcome. If a file is left out after it, tells so and
-/// returns the exit status of that.
+/// returns the exit status of that. `failure` is why a write of that file failed, if one did.
 fn last_told<L: Teller>(
     rt: &HostRuntime,
     alloc: Global,
     request: &Request,
     outcome: &Outcome,
     left: Option<Outcome>,
+    failure: &WriteFailure,
     to: &mut L,
 ) -> u8
     requires { IfSome left (λ last. IsLeftOut request.now.faults request.now.counts outcome.now last) }
@@ -138,12 +134,13 @@ fn last_told<L: Teller>(
     let Some(unwritten) = left else {
         return status(outcome);
     };
-    told_alone(rt, alloc, request, &unwritten, to)
+    told_alone(rt, alloc, request, failure, &unwritten, to)
 }
 
 /// Tells the outcome of a run that was not begun, and returns its exit status.
 pub fn told_before(rt: &HostRuntime, alloc: Global, request: &Request, outcome: &Outcome) -> u8 {
-    told_alone(rt, alloc, request, outcome, &mut StandardError::new(rt))
+    let errors = &mut StandardError::new(rt);
+    told_alone(rt, alloc, request, &WriteFailure::none(), outcome, errors)
 }
 
 /// Converts as `convert_as` does, with the numbers of standard input, output and error occupied.
@@ -175,7 +172,7 @@ fn convert_apart<
 
 /// Converts as the command line asks, tells the outcome, and writes the files of the faults and of
 /// the counts. Returns the exit status of what was told last. `threads` starts the workers, and
-/// `counts` and `failure` are what folder and outputs note.
+/// `noted` is what folder and outputs note.
 pub fn convert_and_tell<
     R: Read + Drop + Send,
     F: Folder<R>,
@@ -189,8 +186,7 @@ pub fn convert_and_tell<
     request: &Request,
     folder: &mut F,
     outputs: &mut O,
-    counts: Option<&Counts>,
-    failure: &WriteFailure,
+    noted: &Noted<'_>,
     to: &mut L,
 ) -> u8
     ensures { EndsTold (F.files folder.old) request.now (O.done outputs.old) (O.done outputs.new) (L.terminal to.old) (L.said to.old) (L.said to.new) result }
@@ -198,9 +194,9 @@ pub fn convert_and_tell<
     let alloc = rt.alloc();
     let outcome = convert_apart(rt, threads, alloc, request, folder, outputs);
     let files = &mut FilesAgain::new(rt, alloc);
-    let known = told_as_asked(rt, alloc, request, failure, &outcome, files, to);
-    let left = left_out(rt, alloc, request, &outcome, files, &known, counts);
-    last_told(rt, alloc, request, &outcome, left, to)
+    let known = told_as_asked(rt, alloc, request, noted.document, &outcome, files, to);
+    let left = left_out(rt, alloc, request, &outcome, files, &known, noted);
+    last_told(rt, alloc, request, &outcome, left, noted.beside, to)
 }
 
 /// Appends a line with its control characters escaped.

@@ -3,6 +3,7 @@
 //! Not proved: what is written to the system's files.
 
 use crate::new_file::{NewFile, replaced};
+use crate::write_failure::WriteFailure;
 use std::alloc::Global;
 use std::fs::OpenOptions;
 use std::io::Write;
@@ -52,34 +53,42 @@ pub fn can_be_made(rt: &HostRuntime, alloc: Global, path: &str) -> bool {
     }
 }
 
-/// Writes a new file, gives it its name, and returns whether both succeeded.
-fn write_new<C: Content>(rt: &HostRuntime, content: &mut C, new: NewFile) -> bool {
+/// Writes a new file, and gives it its name.
+fn write_new<C: Content>(rt: &HostRuntime, content: &mut C, new: NewFile) -> io::Result<()> {
     let mut new = new;
-    if content.write_to(&mut new.file).is_ok() {
-        return new.take_name(rt).is_ok();
-    }
-    new.remove(rt);
-    false
-}
-
-/// Writes the file at a path directly, and returns whether that succeeded.
-fn write_straight<C: Content>(rt: &HostRuntime, content: &mut C, path: &str) -> bool {
-    match OpenOptions::new().write(true).create(true).open(rt, path) {
-        Ok(mut file) => content.write_to(&mut file).is_ok(),
-        Err(_) => false,
+    match content.write_to(&mut new.file) {
+        Ok(()) => new.take_name(rt),
+        Err(error) => {
+            new.remove(rt);
+            Err(error)
+        }
     }
 }
 
-/// Writes the file at a path, and returns whether it is whole.
+/// Writes the file at a path directly.
+fn write_straight<C: Content>(rt: &HostRuntime, content: &mut C, path: &str) -> io::Result<()> {
+    let mut file = OpenOptions::new().write(true).create(true).open(rt, path)?;
+    content.write_to(&mut file)
+}
+
+/// Writes the file at a path, and returns whether it is whole. `failure` gets why a write failed.
 pub fn write_whole<C: Content>(
     rt: &HostRuntime,
     alloc: Global,
     content: &mut C,
     path: &str,
+    failure: &WriteFailure,
 ) -> bool {
-    match file_beside(rt, alloc, path) {
+    let written = match file_beside(rt, alloc, path) {
         Some(Some(new)) => write_new(rt, content, new),
         Some(None) => write_straight(rt, content, path),
-        None => false,
+        None => return false,
+    };
+    match written {
+        Ok(()) => true,
+        Err(error) => {
+            failure.note(&error);
+            false
+        }
     }
 }

@@ -1,4 +1,4 @@
-//! Why a write to the document's output failed.
+//! Why a write to an output failed.
 //!
 //! Not proved: all of this file.
 
@@ -8,7 +8,10 @@ use std::io;
 use std::io::ErrorKind;
 use std::rc::Rc;
 
-/// The kind of the first error of the document's output.
+/// What is said where the kind of an error says no more.
+const UNKNOWN: &str = "the system refused a write, or it is closed";
+
+/// The kind of the first error of an output.
 #[derive(Drop)]
 pub struct WriteFailure {
     /// The kind, which all that are shared have; `None` if memory ran out for it.
@@ -55,19 +58,24 @@ impl WriteFailure {
         }
     }
 
-    /// Returns why the write failed, as a sentence without capital and full stop.
-    pub fn why(&self) -> &'static str {
-        match self.first() {
-            Some(ErrorKind::StorageFull) => "no space is left on its device",
-            Some(ErrorKind::QuotaExceeded) => "its owner's quota of the device is used up",
-            Some(ErrorKind::FileTooLarge) => {
+    /// Returns why the write failed, as a sentence without capital and full stop, or None if no
+    /// error was noted.
+    pub fn noted(&self) -> Option<&'static str> {
+        Some(match self.first()? {
+            ErrorKind::StorageFull => "no space is left on its device",
+            ErrorKind::QuotaExceeded => "its owner's quota of the device is used up",
+            ErrorKind::FileTooLarge => {
                 "the file grew past the largest size that is allowed (ulimit -f)"
             }
-            Some(ErrorKind::BrokenPipe) =>
-                "the program that reads it has ended: its pipe is closed",
-            Some(ErrorKind::ReadOnlyFilesystem) => "its device is only for reading",
-            Some(ErrorKind::PermissionDenied) => "the system does not let you write it",
-            _ => "the system refused a write, or it is closed",
-        }
+            ErrorKind::BrokenPipe => "the program that reads it has ended: its pipe is closed",
+            ErrorKind::ReadOnlyFilesystem => "its device is only for reading",
+            ErrorKind::PermissionDenied => "the system does not let you write it",
+            _ => UNKNOWN,
+        })
+    }
+
+    /// Returns why the write failed, as `noted` does, also if no error was noted.
+    pub fn why(&self) -> &'static str {
+        self.noted().unwrap_or(UNKNOWN)
     }
 }

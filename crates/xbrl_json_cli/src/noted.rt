@@ -1,0 +1,15 @@
+//! What is noted during a run for what is told after it.
+
+use crate::counts::Counts;
+use crate::write_failure::WriteFailure;
+
+/// What is noted during a run for what is told after it.
+#[derive(Drop)]
+pub struct Noted<'a> {
+    /// The counts, if the command line asks for them.
+    pub counts: Option<&'a Counts>,
+    /// Why a write of the document failed, if one did.
+    pub document: &'a WriteFailure,
+    /// Why a write of the file of the faults or of the counts failed, if one did.
+    pub beside: &'a WriteFailure,
+}
