@@ -504,6 +504,19 @@ def waiting_tables(n: int) -> Report:
     return report(columns, ["1"] * (n // 256), ["Long,typed"], tables=tables)
 
 
+@kind(25_000, hostile=True)
+def waiting_rows(n: int) -> Report:
+    """A literal of 1,000 bytes in each of n facts, in rows of two bytes."""
+    return report({"count": counts()}, ["1"] * n, ["Long,typed"], dimensions={**LEVEL, "b:Long": "x" * 1_000})
+
+
+@kind(50, hostile=True)
+def waiting_copies(n: int) -> Report:
+    """A cell of 2,000 bytes in each of n rows, to which the row's 500 facts refer."""
+    columns: dict[str, Any] = {"key": {}, **{c: counts(**{"b:Key": "$key"}) for c in names("c", 500)}}
+    return report(columns, ["x" * 2_000 + "," + line(500)] * n)
+
+
 @kind(200, hostile=True, work=16)
 def group_frames(n: int) -> Report:
     """n columns of facts under one column of n property groups, each in one row."""

@@ -14,16 +14,21 @@ use std::sync::Wait;
 
 /// Sends a block when it is the feed's turn. Tries again while the ring is full or as many blocks
 /// wait as may.
+///
+/// Fewer blocks may wait before a block with long texts than before another. No wake is lost by
+/// that: each try that fails says anew how few must be left, which is at least none, and the drain
+/// always wakes the feed when none is left.
 pub(crate) fn put_waiting<T: Wait>(rt: &T, at_work: &AtWork, feed: &mut Feed, block: Block)
     ensures ring { feed.new.ring ≡ feed.old.ring }
     ensures sent { feed.new.sent ≡ feed.old.sent ++ items.Block block ∷ [] }
 {
+    let bytes = block.bytes().len();
     let mut block = block;
     for _ in rt.forever() {
         at_work.rest();
         feed.wait_for_turn(rt);
         at_work.start();
-        match feed.put_below(block, at_work.most_waiting()) {
+        match feed.put_below(block, at_work.most_waiting(bytes)) {
             Ok(()) => return,
             Err(back) => block = back,
         }

@@ -24,6 +24,10 @@ const WAITING_EACH: usize = 12;
 /// The most blocks of a table that wait for the writer if one thread decodes its pieces.
 const WAITING_ALONE: usize = 32;
 
+/// The most bytes of a table's texts that wait for the writer. The blocks of ordinary facts have
+/// fewer.
+const WAITING_BYTES: usize = 8_388_608;
+
 /// How often a helper thread looks for a piece again before it sleeps. Waking it would cost its
 /// worker more than that, and all others wait for the worker.
 const LOOKS: usize = 50;
@@ -79,12 +83,13 @@ impl AtWork {
         }
     }
 
-    /// Returns how many blocks of a table may wait for the writer.
-    pub fn most_waiting(&self) -> usize {
-        match self.known_processors().min(self.workers) {
+    /// Returns how many blocks of a table may wait for the writer, if they have `bytes` bytes each.
+    pub fn most_waiting(&self, bytes: usize) -> usize {
+        let most = match self.known_processors().min(self.workers) {
             0 | 1 => WAITING_ALONE,
             count => count.min(MOST_AT_WORK) * WAITING_EACH,
-        }
+        };
+        most.min(WAITING_BYTES / bytes.max(1))
     }
 
     /// Takes the memory that the identifiers of another table left, if it is kept.

@@ -8,6 +8,7 @@ ghost use Rattle.oim_records.specs.PieceTaking.{TakesBytes, bytes_left};
 ghost use Rattle.oim_records.specs.Reads.{KeepsLeft, left_behind};
 ghost use Rattle.oim_pieces.specs.state.Cutting.{IsOver, TakesRows};
 
+use crate::text_growth::{TextGrowth, has_memory};
 use oim_records::{FilePiece, PieceReader};
 use oim_rows::{TableFault, TableKind, fault_of_read, whole_fault};
 use std::io::Read;
@@ -15,7 +16,7 @@ use std::marker::Model;
 
 /// A piece of a table: whole records, and the row number of the first. `stays` means that the
 /// worker that cut it also decodes it, as it does if the piece has less than half of the asked-for
-/// bytes.
+/// bytes, or if the table's facts are long.
 #[derive(Drop)]
 pub(crate) struct CutPiece {
     pub(crate) bytes: Vec<u8>,
@@ -54,6 +55,10 @@ pub(crate) struct Cutter<R: Read + Drop> {
     over: Option<Option<TableFault>>,
     // How many bytes a piece should have.
     size: usize,
+    // How much longer than its rows the table's facts can be.
+    growth: TextGrowth,
+    // How many bytes the metadata adds to the longest of the last pieces.
+    longest: usize,
     // Whether the last piece or the last read was short, as at the end of a file, or with a reader
     // that gives few bytes at a time.
     is_slow: bool,
@@ -69,6 +74,8 @@ impl<R: Read + Drop> Drop for Cutter<R> {
             next: _,
             over: _,
             size: _,
+            growth: _,
+            longest: _,
             is_slow: _,
         } = self;
     }
@@ -113,8 +120,24 @@ impl<R: Read + Drop> Cutter<R> {
             next,
             over: None,
             size,
+            growth: TextGrowth::none(),
+            longest: 0,
             is_slow: false,
         }
+    }
+
+    /// Sets how much longer than its rows the table's facts can be, and the size of its pieces.
+    pub(crate) fn set_growth(&mut self, growth: TextGrowth, size: usize)
+        ensures { self.new ≡ self.old }
+    {
+        self.growth = growth;
+        self.size = size;
+    }
+
+    /// Returns whether the facts of one more piece may take memory in addition to those of `count`
+    /// pieces.
+    pub(crate) fn has_memory(&self, count: usize) -> bool {
+        has_memory(count, self.longest)
     }
 
     /// Returns the table's place in the report.
@@ -174,13 +197,15 @@ impl<R: Read + Drop> Cutter<R> {
         match self.pieces.next(self.size, true) {
             Ok(Some(FilePiece { bytes, records })) => {
                 let first = self.next as u32;
+                let rows = records as usize;
+                self.longest = self.growth.longest(self.longest, bytes.len(), rows);
                 let is_short = bytes.len() < self.size / 2;
                 self.is_slow = is_short || self.pieces.is_short();
                 self.next += records;
                 Some(CutPiece {
                     bytes,
                     first,
-                    stays: is_short,
+                    stays: is_short || self.growth.is_long(),
                 })
             }
             Ok(None) => {

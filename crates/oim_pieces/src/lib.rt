@@ -21,9 +21,10 @@
 //! - `HelperThread`, `HelperSetup`: what a helper thread is started with.
 //! - `SpareVectors`, `SparesByThread`: spare vectors, kept for the thread that last wrote to them.
 //! - `Memory`: all spare vectors of a table.
+//! - `TextGrowth`: how much longer than its rows a table's facts can be. It makes pieces small.
 //! - `AtWork`: the count of the threads at work in the run.
 //!
-//! Not proved: what `AtWork` and `Memory` hold, and how many pieces the worker cuts
+//! Not proved: what `AtWork`, `Memory` and `TextGrowth` hold, and how many pieces the worker cuts
 //! ahead. No result depends on them.
 //!
 //! A call, which returns how many blocks the first piece of a report's first table has:
@@ -61,9 +62,11 @@ mod in_channel;
 mod memory;
 mod piece_under_way;
 mod pieces_under_way;
+mod small_reads;
 mod spare_vectors;
 mod table_pieces;
 mod table_threads;
+mod text_growth;
 
 pub use at_work::AtWork;
 pub use table_pieces::{PIECE_SIZE, TablePieces};

@@ -13,6 +13,7 @@ use crate::at_work::AtWork;
 use crate::cutter::Cutter;
 use crate::piece_under_way::PieceUnderWay;
 use crate::table_threads::TableThreads;
+use crate::text_growth::TextGrowth;
 use oim_decode::{FirstRecords, JoinedPiece, PieceJoin};
 use oim_records::PieceReader;
 use oim_report::Report;
@@ -150,6 +151,13 @@ impl<'a, R: Read + Drop> PiecesUnderWay<'a, R> {
         }
     }
 
+    /// Sets how much longer than its rows the table's facts can be, and the size of its pieces.
+    pub(crate) fn set_growth(&mut self, growth: TextGrowth, size: usize)
+        ensures { self.new ≡ self.old }
+    {
+        self.cutter.set_growth(growth, size);
+    }
+
     /// Keeps the vector of a written block as a spare, for the thread that wrote the block if that
     /// is known.
     pub(crate) fn keep_spare<T: Wait>(&mut self, rt: &T, spare: Vec<u8>)
@@ -233,12 +241,14 @@ impl<'a, R: Read + Drop> PiecesUnderWay<'a, R> {
     /// Returns whether to cut one more piece.
     ///
     /// The rows of the head, and a short piece from a slow reader, are given without waiting for
-    /// others. After a longer one, others may be read before it is given.
+    /// others. After a longer one, others may be read before it is given, unless their facts take
+    /// much memory.
     fn may_cut<T: Threads>(&self, rt: &T) -> bool {
         match self.under_way.front() {
             Some(_) => {
                 self.has_given
                     && !self.cutter.is_slow()
+                    && self.cutter.has_memory(self.under_way.len())
                     && self
                         .threads
                         .may_have(rt, self.under_way.len(), self.is_wanted)

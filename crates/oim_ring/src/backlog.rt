@@ -17,7 +17,8 @@
 //!   then sleeps again.
 //!
 //! The limit counts facts, not blocks, because a block of a few facts takes little memory. So
-//! workers that decode many short tables are not held back for each of them.
+//! workers that decode many short tables are not held back for each of them. A block with long
+//! texts counts as more facts than it has.
 //!
 //! Not proved: which feeds are held back and called, and that each function does the step that it
 //! notes.
@@ -28,6 +29,7 @@ ghost use Rattle.oim_waiting.specs.declared.steps.TurnStep.TheVariants.{Announce
 
 use crossbeam_queue::ArrayQueue;
 use crossbeam_utils::sync::{EventCount, Key};
+use oim_json::Block;
 use oim_waiting::{Steps, TurnStep};
 use std::alloc::{AllocError, Global};
 use std::sync::atomic::{AtomicBool, AtomicUsize, Ordering};
@@ -38,6 +40,12 @@ const MOST_SPARES: usize = 160;
 
 /// The largest spare vector, in bytes.
 const LARGEST_SPARE: usize = 262_144;
+
+/// The most memory of spare vectors, in bytes.
+const SPARE_MEMORY: usize = 12_582_912;
+
+/// How many bytes of a block's texts count as one fact, if its facts have more.
+const LONG_FACT: usize = 2_048;
 
 /// The count of places at which feeds sleep.
 const GROUPS: usize = 64;
@@ -77,6 +85,11 @@ fn new_sleepers(alloc: Global) -> Result<Vec<Sleepers>, AllocError> {
         })?;
     }
     Ok(sleepers)
+}
+
+/// Returns how many facts a block counts as: those that it has, or more if their texts are long.
+fn facts_in(block: &Block) -> usize {
+    block.count().max(block.bytes().len() / LONG_FACT)
 }
 
 impl Sleepers {
@@ -284,14 +297,14 @@ impl BacklogHandle {
         })
     }
 
-    /// Notes that a block of `facts` facts is put into the ring.
-    pub(crate) fn more(&self, facts: usize) {
-        self.backlog.put(facts, &mut Steps::none());
+    /// Notes that a block is put into the ring.
+    pub(crate) fn more(&self, block: &Block) {
+        self.backlog.put(facts_in(block), &mut Steps::none());
     }
 
-    /// Notes that a block of `facts` facts was taken from the ring.
-    pub(crate) fn less(&self, facts: usize) {
-        self.backlog.take(facts, &mut Steps::none());
+    /// Notes that a block was taken from the ring.
+    pub(crate) fn less(&self, block: &Block) {
+        self.backlog.take(facts_in(block), &mut Steps::none());
     }
 
     /// Notes that the feed cannot use the space for which it may have been called, and calls
@@ -310,7 +323,9 @@ impl BacklogHandle {
     /// Keeps a spare vector for the texts of another block. Drops it if enough are kept or it is
     /// large.
     pub(crate) fn keep_spare<R: Wait>(&self, rt: &R, spare: Vec<u8>) {
-        if spare.capacity() <= LARGEST_SPARE {
+        let size = spare.capacity();
+        let kept = self.backlog.spares.len(rt);
+        if size <= LARGEST_SPARE && kept.saturating_mul(size) <= SPARE_MEMORY {
             let _ = self.backlog.spares.push(rt, spare);
         }
     }

@@ -94,7 +94,7 @@ impl Drain {
         steps.take(RoomStep::Take);
         let item = self.consumer.pop().ok()?;
         if let Item::Block(block) = &item {
-            self.backlog.less(block.count());
+            self.backlog.less(block);
         }
         let left = self.consumer.slots();
         steps.take(RoomStep::Count);

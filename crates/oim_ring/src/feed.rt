@@ -172,7 +172,7 @@ impl Feed {
         if self.producer.slots() <= self.kept {
             return Err(block);
         }
-        self.backlog.more(block.count());
+        self.backlog.more(&block);
         self.producer.push_reserved(Item::Block(block));
         Ok(())
     }

@@ -21,7 +21,7 @@ use std::mem;
 const FEW: usize = 16;
 
 /// The texts of the facts of a piece's rows, in stretches of whole rows. Each stretch has the facts
-/// of one block, if they fit.
+/// of one block, if they fit, and ends early if their texts are long.
 ///
 /// Contracts see the facts of each row.
 pub(crate) struct PieceRows {
@@ -135,7 +135,8 @@ impl PieceRows {
         ensures facts { AddsRowFacts row.now.header.table (facts_of_row row.now) self.old self.new result }
         ensures same { texts.new ≡ texts.old }
     {
-        let is_full = !has_room(self.last.count(), row.header().columns().len());
+        let width = row.header().columns().len();
+        let is_full = !has_room(self.last.count(), width, self.last.bytes());
         if is_full && self.close(alloc, spares.take(alloc)).is_err() {
             return Err(whole_fault(row.table(), TableKind::Memory));
         }

@@ -107,6 +107,11 @@ impl WrittenRows {
         self.facts.count()
     }
 
+    /// Returns how many bytes the texts of the facts have.
+    pub(crate) fn bytes(&self) -> usize {
+        self.facts.bytes()
+    }
+
     /// Returns the number of rows.
     pub(crate) fn len(&self) -> usize
         ensures { result ≡ length self.now }

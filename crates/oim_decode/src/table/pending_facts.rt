@@ -118,6 +118,11 @@ impl PendingFacts {
         self.ends.len()
     }
 
+    /// Returns how many bytes the texts have.
+    pub(crate) fn bytes(&self) -> usize {
+        self.bytes.len()
+    }
+
     /// Adds the facts of a row.
     ///
     /// Fails with the fault of the row's first faulty cell, and with Memory if memory runs out.

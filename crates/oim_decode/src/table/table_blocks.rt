@@ -20,6 +20,10 @@ use std::marker::Model;
 /// The most facts that a block has.
 pub(crate) const MOST: usize = 256;
 
+/// The length of texts, in bytes, after which a block gets no further row. A block of ordinary
+/// facts is shorter.
+const LONG: usize = 131_072;
+
 /// The remaining facts of one table, as blocks of text (xBRL-CSV 1.0, table files: the first record
 /// is the header, and each record after it a row).
 ///
@@ -161,7 +165,7 @@ impl<R: Read + Drop> TableBlocks<'_, R> {
     {
         let mut whole = 0;
         let width = self.rows.width();
-        while has_room(self.facts.count(), width) {
+        while has_room(self.facts.count(), width, self.facts.bytes()) {
             match self.settled {
                 Some(_) => return whole,
                 None => {}
@@ -177,15 +181,16 @@ impl<R: Read + Drop> TableBlocks<'_, R> {
     }
 }
 
-// Returns whether to read a row of `width` cells before giving the waiting facts: if none waits, or
-// if a block still has room for one fact of each cell.
-pub(crate) fn has_room(count: usize, width: usize) -> bool
+// Returns whether to read a row of `width` cells before giving the `count` waiting facts, whose
+// texts have `bytes` bytes: if none waits, or if a block still has room for one fact of each cell
+// and the texts are not long.
+pub(crate) fn has_room(count: usize, width: usize, bytes: usize) -> bool
     ensures some { result ≡ false → 1 ≤ count }
-    ensures full { result ≡ false → 256 < count + width }
+    ensures full { result ≡ false → bytes ≤ 131072 → 256 < count + width }
     ensures most { result ≡ true → count ≤ 256 }
     ensures room { result ≡ true → 1 ≤ count → count + width ≤ 256 }
 {
-    count == 0 || (width <= MOST && count <= MOST - width)
+    count == 0 || (bytes <= LONG && width <= MOST && count <= MOST - width)
 }
 
 // Returns how many of `count` facts the next block gets, if `whole` of them are from before the

@@ -1,0 +1,266 @@
+//! How much longer than its rows the facts of a table can be.
+//!
+//! Not proved: that they are no longer. The figures only decide how much of a table is decoded at
+//! once, and no result depends on them.
+
+ghost use Rattle.std.specs.Prelude.{◌<◌, length};
+
+use oim_report::{Column, ColumnKind, Level, Report, Written};
+use std::alloc::Global;
+
+/// The most bytes that the metadata adds to the facts of a piece. Ordinary metadata adds up to 256
+/// bytes to a fact, and then a piece keeps its usual size.
+const MOST_ADDED: usize = 8_388_608;
+
+/// The bytes that the metadata adds to a long fact.
+const LONG: usize = 2_048;
+
+/// The most bytes that the metadata adds to the long facts of a piece.
+const MOST_LONG: usize = 2_097_152;
+
+/// The most bytes that the metadata adds to the facts of all pieces under way, except one.
+const MOST_UNDER_WAY: usize = 8_388_608;
+
+/// The most bytes of cells that are copied to the facts of a piece.
+const MOST_COPIED: usize = 2_097_152;
+
+/// The least size of a piece, so that rows without facts take little time.
+const LEAST: usize = 16;
+
+/// The least size of a piece if each fact copies a cell once. A row with many facts has more bytes.
+const LEAST_COPIED: usize = 4_096;
+
+/// The bytes of a dimension in a fact's text, besides its name and value.
+const AROUND: usize = 6;
+
+/// The most property groups of a column that are looked at. More would take long in a report of
+/// many tables.
+const MOST_GROUPS: usize = 65_536;
+
+/// How much longer than its rows the facts of a table can be.
+#[derive(Clone, Copy)]
+pub(crate) struct TextGrowth {
+    // The most facts of a row.
+    facts: usize,
+    // The most bytes that the metadata adds to a fact.
+    added: usize,
+    // The most copies of a cell in the facts of a row.
+    copies: usize,
+}
+
+/// What levels add to a fact at most: bytes, and references to cells.
+#[derive(Clone, Copy)]
+struct Added {
+    bytes: usize,
+    references: usize,
+}
+
+impl Added {
+    /// Returns what an empty level adds.
+    fn nothing() -> Added {
+        Added {
+            bytes: 0,
+            references: 0,
+        }
+    }
+
+    /// Returns what both add together.
+    fn and(self, other: Added) -> Added {
+        Added {
+            bytes: self.bytes.saturating_add(other.bytes),
+            references: self.references.saturating_add(other.references),
+        }
+    }
+
+    /// Returns what one of both adds at most.
+    fn or(self, other: Added) -> Added {
+        Added {
+            bytes: self.bytes.max(other.bytes),
+            references: self.references.max(other.references),
+        }
+    }
+}
+
+/// Returns what a dimension's value adds.
+fn added_by_value(report: &Report, table: usize, value: &Written) -> Added
+    requires { table < length report.now.tables }
+{
+    match value {
+        Written::Text(text) => Added {
+            bytes: text.as_str().len(),
+            references: 0,
+        },
+        Written::Named(name, _) => match report.parameter(table, name.as_str()) {
+            Some(text) => Added {
+                bytes: text.len(),
+                references: 0,
+            },
+            None => Added {
+                bytes: 0,
+                references: 1,
+            },
+        },
+        Written::Absent | Written::Nil | Written::Empty | Written::RowNumber(_) => Added::nothing(),
+    }
+}
+
+/// Returns what a level adds.
+fn added_by(report: &Report, table: usize, level: &Level) -> Added
+    requires { table < length report.now.tables }
+{
+    let mut added = Added::nothing();
+    for dimension in level.dimensions.as_slice() {
+        let name = Added {
+            bytes: dimension.0.as_str().len().saturating_add(AROUND),
+            references: 0,
+        };
+        let value = added_by_value(report, table, &dimension.1);
+        added = added.and(name).and(value);
+    }
+    added
+}
+
+/// Returns what a property group of the column adds at most.
+fn added_by_group(report: &Report, table: usize, column: &Column) -> Added
+    requires { table < length report.now.tables }
+{
+    let groups = column.groups.as_slice();
+    let mut added = Added::nothing();
+    for i in 0..groups.len().min(MOST_GROUPS) {
+        added = added.or(added_by(report, table, &groups[i].1));
+    }
+    added
+}
+
+/// Counts that `times` facts copy the cells to which a level refers.
+fn count_copies(report: &Report, table: usize, level: &Level, times: usize, copies: &mut Vec<usize>)
+    requires { table < length report.now.tables }
+{
+    for dimension in level.dimensions.as_slice() {
+        if let Written::Named(name, _) = &dimension.1 {
+            if let Some(place) = report.place_of_column(table, name.as_str().as_bytes()) {
+                if place < copies.len() {
+                    copies[place] = copies[place].saturating_add(times);
+                }
+            }
+        }
+    }
+}
+
+/// Returns the greatest count.
+fn greatest(counts: &[usize]) -> usize {
+    let mut most = 0usize;
+    for count in counts {
+        most = most.max(*count);
+    }
+    most
+}
+
+/// Returns how many columns have facts.
+fn facts_in(columns: &[Column]) -> usize {
+    let mut count = 0usize;
+    for column in columns {
+        if column.kind == ColumnKind::Fact {
+            count = count.saturating_add(1);
+        }
+    }
+    count
+}
+
+/// Returns how often the facts of a row copy one cell at most, but for references from property
+/// groups. If memory runs out, it counts none.
+fn copies_in(alloc: Global, report: &Report, table: usize, facts: usize) -> usize
+    requires { table < length report.now.tables }
+{
+    let columns = report.template_columns(table);
+    let Ok(mut copies) = vec![in alloc; 0usize; columns.len()] else {
+        return 0;
+    };
+    count_copies(report, table, report.report_level(), facts, &mut copies);
+    count_copies(
+        report,
+        table,
+        report.template_level(table),
+        facts,
+        &mut copies,
+    );
+    for column in columns {
+        count_copies(report, table, &column.level, 1, &mut copies);
+    }
+    greatest(copies.as_slice())
+}
+
+impl TextGrowth {
+    /// Returns a growth of nothing.
+    pub(crate) fn none() -> TextGrowth {
+        TextGrowth {
+            facts: 0,
+            added: 0,
+            copies: 0,
+        }
+    }
+
+    /// Returns how much longer than its rows the facts of a table can be.
+    pub(crate) fn of(alloc: Global, report: &Report, table: usize) -> TextGrowth
+        requires { table < length report.now.tables }
+    {
+        let columns = report.template_columns(table);
+        let mut own = Added::nothing();
+        let mut groups = Added::nothing();
+        for column in columns {
+            own = own.or(added_by(report, table, &column.level));
+            groups = groups.and(added_by_group(report, table, column));
+        }
+        let shared = added_by(report, table, report.report_level());
+        let template = added_by(report, table, report.template_level(table));
+        let facts = facts_in(columns);
+        let of_groups = facts.saturating_mul(groups.references);
+        TextGrowth {
+            facts,
+            added: shared.and(template).and(own).and(groups).bytes,
+            copies: copies_in(alloc, report, table, facts).saturating_add(of_groups),
+        }
+    }
+
+    /// Returns whether the facts are so long that one piece at a time is enough. Its worker decodes
+    /// it, so that other threads keep no memory for it.
+    pub(crate) fn is_long(self) -> bool {
+        self.added > LONG
+    }
+
+    /// Returns the size of pieces, at most the usual one: so small that their facts take little
+    /// memory unless a row's own facts are long.
+    pub(crate) fn piece_size(self, usual: usize) -> usize {
+        let most = if self.is_long() {
+            MOST_LONG
+        } else {
+            MOST_ADDED
+        };
+        let added = most / self.added.max(1);
+        let copies = self.copies.max(1);
+        let once = LEAST_COPIED.saturating_mul(self.facts) / copies;
+        let copied = (MOST_COPIED / copies).max(once.min(LEAST_COPIED));
+        usual.min(added.min(copied).max(LEAST))
+    }
+
+    /// Returns how many bytes the metadata adds at most to the facts of a piece of `bytes` bytes
+    /// with `rows` rows.
+    fn added_to(self, bytes: usize, rows: usize) -> usize {
+        rows.saturating_mul(self.facts)
+            .min(bytes)
+            .saturating_mul(self.added)
+    }
+
+    /// Returns what is added to the longest of the last pieces: to the one of `bytes` bytes with
+    /// `rows` rows, or to those before it, which count less with each piece.
+    pub(crate) fn longest(self, before: usize, bytes: usize, rows: usize) -> usize {
+        self.added_to(bytes, rows)
+            .max(before.saturating_sub(before / 4))
+    }
+}
+
+/// Returns whether one more piece may be under way in addition to `count`, if `longest` bytes are
+/// added to the longest.
+pub(crate) fn has_memory(count: usize, longest: usize) -> bool {
+    count.saturating_mul(longest) < MOST_UNDER_WAY
+}
