@@ -182,6 +182,14 @@ TABLES: list[tuple[Any, ...]] = [
         "an earlier row of the table has the same row identifier",
     ),
     (
+        IDENTIFIED,
+        "cash,k\n1,a\n2,b\n3,c\n4,d\n5,c\n",
+        "5, 2 RepeatedRowId (30)",
+        "r/t1.csv, line 6, cell 2",
+        '"c" in k of row c, first in line 4',
+        "an earlier row of the table has the same row identifier",
+    ),
+    (
         {},
         "cash,note\n1,#x\n",
         "1, 2 UnknownSpecial (31)",

@@ -115,6 +115,18 @@ class TestManyFiles(EdgeTest):
         self.assertEqual((status, err), (0, ""))
         self.assertEqual(len(facts(out)), 4096)
 
+    def test_many_refused_tables(self) -> None:
+        """Prints a line for each of 300 refused tables."""
+        tables = [f"t{i:04}" for i in range(300)]
+        self.report({it: {} for it in tables})
+        self.write({f"{it}.csv": "cash\nx\n" for it in tables})
+        lines = "".join(table_fault(it, 1, 1, "BadNumber (40)") for it in tables)
+        for workers in ("1", "4"):
+            with self.subTest(workers=workers):
+                status, _, err = self.convert("--workers", workers)
+                self.assertEqual(status, 1)
+                self.check_same(err, lines)
+
     def switches(self, *words: str) -> tuple[int, bytes]:
         """Returns how often the threads of a run gave their processor up, and the document."""
         with tempfile.TemporaryFile() as out:

@@ -41,9 +41,11 @@ class TestOutputs(OutputTest):
         self.check_same(self.out.read_bytes(), self.document)
 
     def test_a_missing_folder(self) -> None:
-        """Refuses a file in a folder that is missing."""
-        said = "xbrl-json: cannot write no/out.json\n"
-        self.check_run(self.convert("--out", "no/out.json"), 3, b"", said)
+        """Refuses a file in a folder that is missing, also if its path is long."""
+        for path in ("no/out.json", f"no/{'long' * 60}.json", f"{'no/' * 1_000}out.json"):
+            with self.subTest(path=path):
+                said = f"xbrl-json: cannot write {path}\n"
+                self.check_run(self.convert("--out", path), 3, b"", said)
 
     def test_inputs(self) -> None:
         """Refuses META and the types table."""

@@ -124,7 +124,7 @@ pub fn run_alone<R: Read + Drop, F: Folder<R>, W: Sink>(
 /// [`run_alone`].
 ///
 /// Returns how the run ended. `Done` and `Tables` are the same for every number of workers, ring
-/// size and schedule:
+/// size and schedule, apart from failed reads and running out of memory or threads:
 ///
 /// - `Done`: exactly the document of the files' bytes is written, in this layout.
 /// - `Tables`: these tables are refused, each with its first fault, in table order. The unfinished
