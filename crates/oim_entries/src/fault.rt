@@ -6,12 +6,11 @@ ghost use Rattle.oim_entries.specs.FaultNames.{fault_number, fault_name};
 
 use oim_records::ReadFault;
 use std::alloc::AllocError;
-use std::error::Error;
-use std::fmt;
-use std::fmt::{Display, Formatter};
+use thiserror::Error;
 
 /// Why a metadata, its parameters file or its types table is refused.
-#[derive(Clone, Copy, Debug, PartialEq, Eq)]
+#[derive(Clone, Copy, Debug, PartialEq, Eq, Error)]
+#[error("{}", self.name())]
 pub enum MetaFault {
     /// The bytes are not a JSON text in UTF-8, as `serde_json` reads one.
     Syntax,
@@ -134,15 +133,6 @@ impl MetaFault {
         }
     }
 }
-
-/// Writes the fault's name.
-impl Display for MetaFault {
-    fn fmt<W: fmt::Write>(&self, f: &mut Formatter<W>) -> fmt::Result {
-        f.write_str(self.name())
-    }
-}
-
-impl Error for MetaFault {}
 
 impl From<ReadFault> for MetaFault {
     ghost from_gives = { λ fault made. made ≡ fault_of_read fault };
