@@ -1,0 +1,3 @@
+mod OwnFaults
+mod FirstFaults
+mod Examples
