@@ -3,8 +3,10 @@ use Rattle.std.proofs.Common.{◌≡◌, ◌∙◌, ◌++◌, ◌+◌, ℕ, Bool
 use Rattle.std.specs.Prelude.{◌↔◌, if◌then◌else◌, is_none, nat_lt}
 use Rattle.std.specs.List.{enumerate_from, flat_map}
 use Rattle.oim_records.specs.Grids.{Field, Record, grid}
+use Rattle.oim_fast.specs.Facts.{WritesFacts}
 use Rattle.oim_report.specs.ReportValue.{ReportValue}
 use Rattle.oim_resolve.specs.FactParts.{FactParts as Fact}
+use Rattle.oim_row.specs.Rows.{RowValue}
 use Rattle.oim_rows.specs.Header.{header_fault}
 use Rattle.oim_rows.specs.RowFacts.{TableHeaderValue, all_or_first, checked, fact_at, facts_from, id_place_of, ids_after, in_front, row_fault, row_of, row_result}
 use Rattle.oim_rows.specs.Streams.{no_file, row_in_front, stream_from, stream_of, table_header_of, table_stream}
@@ -54,6 +56,12 @@ none_is_good g n ids r e = by (row_result g n ids r) refl
     by : (a : Result (List Fact) TableFault) → row_result g n ids r ≡ a → (facts : List Fact) × (row_result g n ids r ≡ Ok facts)
     by (Ok facts) is = (facts, is)
     by (Err x) is = let never : None ≡ Some x = sym (ap first_in e) ∙ first_of_row g n ids r ∙ ap err_of is in absurd (cc never)
+
+-- A row that the fast way wrote has no fault in its cells.
+pub written_has_none : (x : RowValue) (old new noted notes : List ℕ) → WritesFacts x old new noted notes → cell_faults x.header x.number x.fields ≡ []
+written_has_none x old new noted notes w =
+    none_first (cell_faults x.header x.number x.fields)
+    (first_cell (λ cell. fact_at x.header.report x.header.table (row_of x.header x.number x.fields) cell.0 cell.1) (enumerate_from 0 x.header.columns) ∙ ap err_of w.are)
 
 -- A GOOD ROW ADDS NOTHING
 

@@ -1,3 +1,7 @@
 mod OwnFaults
 mod FirstFaults
+mod RowCells
+mod ReadRows
+mod RowSteps
+mod ListRows
 mod Examples

@@ -10,11 +10,7 @@ use Rattle.oim_rows.specs.Header.{fault_at, is_empty, or_else}
 use Rattle.oim_rows.specs.RowFacts.{TableHeaderValue, id_fault, id_place_of, limit_fault, ragged_fault, row_fault, text_fault}
 use Rattle.oim_rows.specs.declared.fault.TableFault.{TableFault}
 use Rattle.oim_rows.specs.declared.fault.TableKind.TheVariants as kind
-
--- The fault of a row whose identifier an earlier row has.
-abbrev pub repeats : ℕ → Option ℕ → ℕ → List Field → Record → Option TableFault
-repeats table None n ids r = None
-repeats table (Some p) n ids r = if list_any (bytes_eq (unwrap_or (field_at r p) [])) ids then Some (fault_at table n (p + 1) kind.RepeatedRowId) else None
+use Rattle.oim_table_faults.specs.state.Rows.{repeats}
 
 id_apart : (g : TableHeaderValue) (o : Option ℕ) (n : ℕ) (ids : List Field) (r : Record) → id_fault g o n ids r ≡ or_else (id_fault g o n [] r) (repeats g.table o n ids r)
 id_apart g None n ids r = refl
