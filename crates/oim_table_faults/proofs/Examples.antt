@@ -1,5 +1,5 @@
 -- Worked cases of all faults of a table (xBRL-CSV 1.0, table files).
-use Rattle.std.proofs.Common.{◌≡◌, ◌++◌, ℕ, Bool, true, false, List, [], ◌∷◌, Option, Some, None, codes, map, refl}
+use Rattle.std.proofs.Common.{◌≡◌, ◌++◌, ℕ, Bool, true, false, List, [], ◌∷◌, Option, Some, None, codes, map, refl, inl, inr}
 use Rattle.std.specs.Prelude.{⊤}
 use Rattle.std.specs.Str.{chars, is_utf8}
 use Rattle.csv.specs.Machine.{next_record}
@@ -19,8 +19,12 @@ use Rattle.oim_report.specs.declared.kind.Kind.{Kind}
 use Rattle.oim_report.specs.declared.kind.Kind.TheVariants as type
 use Rattle.oim_report.specs.declared.typed_name.TypedName.{TypedName}
 use Rattle.oim_resolve.specs.Facts.{cell_result, fact_of, rest_faults}
+use Rattle.oim_resolve.specs.declared.fact.CellFault.TheVariants as cell
 use Rattle.oim_rows.specs.FaultNames.{number_of}
+use Rattle.oim_rows.specs.Header.{fault_at, file_fault}
 use Rattle.oim_rows.specs.declared.fault.TableFault.{TableFault}
+use Rattle.oim_rows.specs.declared.fault.TableKind.TheVariants as kind
+use Rattle.oim_table_faults.specs.Reading.{IsFaultList}
 use Rattle.oim_table_faults.specs.TableFaults.{bad_rows, table_faults}
 
 -- What is unfolded to compute with cells, identifiers and files that are written out.
@@ -150,3 +154,21 @@ no_rows = refl
 
 no_file : (map told (table_faults (report_by (Some 1) false) 0 9 None) ≡ (0, 0, 20) ∷ []) × (table_faults (report_by (Some 1) true) 0 9 None ≡ [])
 no_file = (refl, refl)
+
+-- A LIST CUT SHORT: of two bad rows the first one's faults, and then the reader failed.
+abbrev two_bad_rows : List ℕ
+two_bad_rows = codes "k,cash,note\na,x,#foo\nb,z,y\n"
+
+abbrev first_row : List TableFault
+first_row = fault_at 0 1 2 (kind.Cell cell.BadNumber) ∷ fault_at 0 1 3 (kind.Cell cell.UnknownSpecial) ∷ []
+
+cut_behind_a_row : IsFaultList (report_by (Some 1) false) 0 9 two_bad_rows (first_row ++ file_fault 0 kind.Read ∷ [])
+unfolding on_literals
+cut_behind_a_row = inr (record {
+  front = first_row ∷ [];
+  rest = (fault_at 0 2 2 (kind.Cell cell.BadNumber) ∷ []) ∷ [];
+  failure = file_fault 0 kind.Read;
+  outside = inl refl;
+  begins = inr (refl, refl);
+  faults_are = refl;
+})

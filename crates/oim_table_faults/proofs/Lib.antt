@@ -5,3 +5,4 @@ mod ReadRows
 mod RowSteps
 mod ListRows
 mod Examples
+mod ExamplesReading
