@@ -1,6 +1,6 @@
 //! The report of these calls, the calls over it, and a fact.
 
-use crate::{blocks, facts, fast_rows, pieces, reports, row_answers, rows, tables};
+use crate::{bad_rows, blocks, facts, fast_rows, pieces, reports, row_answers, rows, tables};
 use oim_json::{Block, block_of};
 use oim_meta::{Limits, Parameters, Report, Types, read_report, read_types};
 use oim_names::{Items, Text};
@@ -26,6 +26,7 @@ pub(crate) const TYPES: &str =
 /// A library whose calls are made over the report.
 #[derive(Clone, Copy)]
 pub(crate) enum Over {
+    BadRows,
     Blocks,
     Cells,
     Facts,
@@ -42,6 +43,7 @@ pub(crate) enum Over {
 /// Returns whether the calls of a library over this report answer as they must.
 fn hold_over(alloc: Global, report: &Report, over: Over) -> bool {
     match over {
+        Over::BadRows => bad_rows::hold(alloc, report),
         Over::Blocks => blocks::hold(alloc, report),
         Over::Cells => facts::hold_of_cells(alloc, report),
         Over::Facts => facts::hold(alloc, report),

@@ -5,6 +5,8 @@
 #![tactic(auto)]
 
 #[cfg(test)]
+mod bad_rows;
+#[cfg(test)]
 mod blocks;
 #[cfg(test)]
 mod cells;

@@ -1,0 +1,4 @@
+pub mod TableFaults
+pub mod Reading
+pub mod Laws
+pub mod state
