@@ -17,6 +17,7 @@ from .catalog import CATALOG
 from .chain import Chain
 from .converter_lines import ConverterLines, for_terminal, put
 from .converter_program import require_counts, version_of
+from .dates import date_places, with_types_of_dates
 from .every_fault import Converter, Search, Unread, fault_list
 from .filed import filed_of
 from .final import check_final
@@ -414,7 +415,8 @@ def join_anew(
     refuse_lost_cells(merged, lost, files, kind)
     places = member_places(merged.value, unread_prefixes(namespaces, kinds), kind)
     with_members = not takes_unread(places, merged, files)
-    return origins, files, types_table(kinds, namespaces.values(), with_members)
+    types = types_table(kinds, namespaces.values(), with_members)
+    return origins, files, with_types_of_dates(types, date_places(merged.value, kind), files)
 
 
 def namespaces_of(chain: Chain) -> Dict[str, str]:
