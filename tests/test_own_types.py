@@ -15,6 +15,7 @@ from tests.harness import TestCase
 from tests.own_types import BOUNDS, FREE, SETS, Names, Read, cell_of, typed_of, unit_fault
 
 SEED, CELLS = 1, 1500  # cells of each word in each place
+CSV = "https://xbrl.org/2021/xbrl-csv"
 EG, OTHER = "http://example.com/eg", "http://example.com/o"
 PREFIXES = {
     "eg": EG,
@@ -256,10 +257,10 @@ class TestOwnTypes(TestCase):
 
     def report(self, places: Places, tables: Mapping[str, tuple[str, Sequence[str]]]) -> None:
         """Writes a report; each table is given by its place and cells."""
-        info = {"documentType": "https://xbrl.org/2021/xbrl-csv", "namespaces": PREFIXES}
+        info: dict[str, Any] = {"documentType": CSV, "namespaces": PREFIXES}
         named = {it: {"url": f"{it}.csv", "template": used} for it, (used, _) in tables.items()}
         metadata = {
-            "documentInfo": {**info, "taxonomy": ["http://example.com/eg.xsd"]},
+            "documentInfo": {**info, "taxonomy": [f"{EG}.xsd"]},
             "dimensions": {"entity": "eg:A1", "period": "2021-12-31T00:00:00"},
             "tableTemplates": {it: {"columns": place.columns} for it, place in places.items()},
             "tables": named,
@@ -271,17 +272,15 @@ class TestOwnTypes(TestCase):
             self.write({f"{table}.csv": f"{header}\n{rows}"})
 
     def compare(self, places: Places, cells: Mapping[str, Sequence[str]], with_members: bool) -> None:
-        """Converts the good cells of each place together, and each bad one alone."""
+        """Converts the good cells of each place in one table, and each bad one in its own."""
         self.write({"types.csv": types(with_members)})
-        good: dict[str, list[str]] = {it: [] for it in places}
-        bad: list[tuple[str, str]] = []
-        for it, place in places.items():
-            for text in cells[it]:
-                if place.read(text).fault:
-                    bad.append((it, text))
-                else:
-                    good[it].append(text)
-            self.assertGreater(len(good[it]), 0, it)
+        cases = [(it, text, place.read(text)) for it, place in places.items() for text in cells[it]]
+        good: dict[str, list[str]] = {}
+        for it, text, read in cases:
+            if not read.fault:
+                good.setdefault(it, []).append(text)
+        bad = [(it, text) for it, text, read in cases if read.fault]
+        self.assertEqual(set(good), set(places))
         self.compare_good(places, good)
         for at in range(0, len(bad), MOST_TABLES):
             self.compare_bad(places, bad[at : at + MOST_TABLES])
@@ -328,7 +327,7 @@ class TestOwnTypes(TestCase):
     def test_members(self) -> None:
         """Compares cells of members and names, with members in the types table."""
         random = Random(SEED)
-        names = Names(PREFIXES, MEMBERS | {(EG, f"c_{it}") for it in MAKERS})
+        names = Names(PREFIXES, {*MEMBERS, *((EG, f"c_{it}") for it in MAKERS)})
         places = {it: fact_place(it, names) for it in (*SETS, "qname")}
         self.compare(places, {it: [cell(random, it) for _ in range(CELLS)] for it in places}, True)
 
