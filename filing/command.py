@@ -29,6 +29,7 @@ from .marked_output import asked_for, check_asked
 from .members import member_places, takes_unread, unread_prefixes
 from .metadata import check_parts, merge
 from .named import Places, names_of
+from .named_members import with_named_members
 from .nested import open_taxonomy
 from .origins import Origins
 from .outputs import claim_outputs, refuse_outputs
@@ -225,6 +226,7 @@ def convert(here: Run, joined: Joined) -> int:
     With `--progress` xbrl-json writes to standard error itself, unless `--explain` is given too.
     """
     settings, (origins, files, types) = here.settings, joined
+    types = with_named_members(types, files)
     with temporary_folder(temporary_place(), f"{NAME}-", here.stopping) as folder:
         notes = RunNotes(settings, folder, here.program)
         written = write_files(folder, files, types, copy=False)

@@ -29,7 +29,6 @@ ZONE = "(?:Z|[+-](?:(?:0[0-9]|1[0-3]):[0-5][0-9]|14:00))?"
 TIME = r"(?:(?:[01][0-9]|2[0-3]):[0-5][0-9]:[0-5][0-9](?:\.[0-9]+)?|24:00:00(?:\.0+)?)"
 FORM = re.compile(f"([0-9]{{4}})-([0-9]{{2}})-([0-9]{{2}})(T{TIME})?{ZONE}")
 BLANKS = " \t\r\n"
-NO_VALUE = ("", "#none", "#nil")
 
 
 class DateColumn(NamedTuple):
@@ -202,13 +201,13 @@ class SeenDates:
         for number, row in enumerate(rows, 1):
             cells = dict(zip(header, row))
             for at, name, column in places:
-                if at < len(row) and row[at] not in NO_VALUE:
+                if at < len(row) and row[at]:
                     record = self.record(concept_of(column, cells, given))
                     if record:
                         self.note(record, Cell(label, number, name, row[at]))
 
     def note(self, record: bytes, cell: Cell) -> None:
-        """Note the form of a cell. Special values that do not exist are left to xbrl-json."""
+        """Note the form of a cell, unless it is a special value other than the empty text."""
         text = cell.text
         if text.startswith("##"):
             text = text[1:]

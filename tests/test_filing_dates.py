@@ -221,11 +221,12 @@ class TestLevels(DatesTest):
     def test_groups(self) -> None:
         """Each row has its own concept, by the first group that gives one."""
         rows = "Opened,,2025-01-01\nNote,,soon\nnone,Closed,2025-01-01T00:00:00\nCount,Closed,7\n"
-        values = ["2025-01-01", "soon", "2025-01-01T00:00:00", "7"]
+        rows += "none,Closed,2025-01-01\n"
+        values = ["2025-01-01", "soon", "2025-01-01T00:00:00", "7", "2025-01-01"]
         self.converts(values, ("points", f"point,more,value\n{rows}"))
-        self.refuses(fault(10, 5, 3), ("points", f"point,more,value\n{rows}Opened,,soon\n"))
+        self.refuses(fault(10, 6, 3), ("points", f"point,more,value\n{rows}Opened,,soon\n"))
         both = f"point,more,value\n{rows}Opened,,2025-01-01T00:00:00\nNote,,late\nOpened,,soon\n"
-        self.refuses(neither(10, 7, "value", "soon"), ("points", both))
+        self.refuses(neither(10, 8, "value", "soon"), ("points", both))
 
     def test_templates(self) -> None:
         """A template gives the concept after groups, and a column before it."""
