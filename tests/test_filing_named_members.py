@@ -57,7 +57,7 @@ class TestNamedMembers(TestCase):
         self.keeps("eg:A", "v\neg:nowhere none:A zz:A A :A\n")
 
     def test_what_is_not_searched(self) -> None:
-        """Keeps all members of a small table, and beside large files, and beside a pipe."""
+        """Keeps all members of a small table, and of a report with large files or a pipe."""
         self.keeps(ALL, "v\n1\n", large=len(TYPES.encode()) + 1)
         rows = "v\n" + "1\n" * 5_000
         self.keeps(ALL, rows, most=5_000)
