@@ -8,13 +8,14 @@ from __future__ import annotations
 
 import json
 from collections.abc import Callable, Mapping, Sequence
+from functools import partial
 from random import Random
 from typing import Any, NamedTuple
 
 from tests.harness import TestCase
 from tests.own_types import BOUNDS, FREE, SETS, Names, Read, cell_of, typed_of, unit_fault
 
-SEED, CELLS = 1, 1500  # cells of each word in each place
+SEED, CELLS = 1, 1200  # cells of each word in each place
 CSV = "https://xbrl.org/2021/xbrl-csv"
 EG, OTHER = "http://example.com/eg", "http://example.com/o"
 PREFIXES = {
@@ -48,10 +49,12 @@ def digits(random: Random, most: int) -> str:
     return "".join(random.choices("0123456789", k=random.randint(1, most)))
 
 
-def integer(random: Random) -> str:
+def integer(random: Random, word: str) -> str:
     """Returns an integer, often one at the bound of a type."""
-    bounds = [it for pair in BOUNDS.values() for it in pair if it is not None]
-    value = random.choice([0, random.choice(bounds) + random.randint(-1, 1), random.randint(-300, 300)])
+    of = random.choice([word, *BOUNDS])
+    bounds = [it for it in (*BOUNDS[word], *BOUNDS[of]) if it is not None] or [0]
+    at_bound = random.choice(bounds) + random.randint(-1, 1)
+    value = random.choice([0, at_bound, at_bound, random.randint(-300, 300)])
     sign = random.choice(["-", "+"]) if value == 0 and random.random() < 0.3 else ""
     zeros = "0" * random.choice([0, 0, 0, 2])
     text = f"{'-' if value < 0 else sign}{zeros}{abs(value)}"
@@ -138,7 +141,7 @@ def hexadecimal(random: Random) -> str:
 
 
 MAKERS: dict[str, Maker] = {
-    **{it: suffixed(integer) for it in BOUNDS},
+    **{it: suffixed(partial(integer, word=it)) for it in BOUNDS},
     **{it: suffixed(decimal) for it in ("decimal", "monetary", "shares")},
     "double": suffixed(double),
     "text": name,
