@@ -17,6 +17,7 @@ from .catalog import CATALOG
 from .chain import Chain
 from .converter_lines import ConverterLines, for_terminal, put
 from .converter_program import require_counts, version_of
+from .dates import date_places, with_types_of_dates
 from .every_fault import Converter, Search, Unread, fault_list
 from .filed import filed_of
 from .final import check_final
@@ -28,6 +29,7 @@ from .marked_output import asked_for, check_asked
 from .members import member_places, takes_unread, unread_prefixes
 from .metadata import check_parts, merge
 from .named import Places, names_of
+from .named_members import with_named_members
 from .nested import open_taxonomy
 from .origins import Origins
 from .outputs import claim_outputs, refuse_outputs
@@ -224,6 +226,7 @@ def convert(here: Run, joined: Joined) -> int:
     With `--progress` xbrl-json writes to standard error itself, unless `--explain` is given too.
     """
     settings, (origins, files, types) = here.settings, joined
+    types = with_named_members(types, files)
     with temporary_folder(temporary_place(), f"{NAME}-", here.stopping) as folder:
         notes = RunNotes(settings, folder, here.program)
         written = write_files(folder, files, types, copy=False)
@@ -414,7 +417,8 @@ def join_anew(
     refuse_lost_cells(merged, lost, files, kind)
     places = member_places(merged.value, unread_prefixes(namespaces, kinds), kind)
     with_members = not takes_unread(places, merged, files)
-    return origins, files, types_table(kinds, namespaces.values(), with_members)
+    types = types_table(kinds, namespaces.values(), with_members)
+    return origins, files, with_types_of_dates(types, date_places(merged.value, kind), files)
 
 
 def namespaces_of(chain: Chain) -> Dict[str, str]:

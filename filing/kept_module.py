@@ -21,6 +21,7 @@ from .cache import key_of
 from .cache_room import store, used
 from .catalog import CATALOG
 from .chain import Chain, Metadata, read_metadata
+from .dates import DateColumn, DatePlaces, date_places, with_types_of_dates
 from .digests import digest_of
 from .final import final_parts
 from .finding import Found
@@ -77,6 +78,7 @@ class Module:
     faulty: List[str]  # templates that name what the taxonomy does not have
     lost: Dict[str, str]  # the prefixes that are replaced
     members: MemberPlaces
+    dates: DatePlaces
     types: Block
     templates: Dict[str, Block]
     sources: List[Source]  # of the module's parameters
@@ -165,7 +167,7 @@ class ModuleCache:
                 used_templates = files.merged.value.get("tableTemplates", {})
                 blocks = {name: module.templates[name] for name in used_templates}
                 texts = {name: text_of(block) for name, block in blocks.items()}
-                types = text_of(module.types)
+                types = with_types_of_dates(text_of(module.types), module.dates, files)
         except (OSError, ValueError, LookupError, TypeError, RecursionError, Refusal):
             return None
         used(self.path())
@@ -258,6 +260,7 @@ class ModuleCache:
             "faulty": sorted(faulty),
             "lost": renaming.lost,
             "members": member_places(merged.value, unread_prefixes(namespaces, kinds), kind),
+            "dates": date_places(merged.value, kind),
             "types": block(types_table(kinds, namespaces.values(), with_members=True)),
             "templates": {name: block(compact(template)) for name, template in templates.items()},
             "sources": self.sources(merged, module_files),
@@ -400,6 +403,10 @@ def read_index(line: bytes) -> Module:
         raise ValueError("the index is not whole")
     index: Dict[str, Any] = json.loads(head)
     index["members"] = MemberPlaces(*index["members"])
+    index["dates"] = {
+        name: {column: DateColumn(*place) for column, place in columns.items()}
+        for name, columns in index["dates"].items()
+    }
     index["types"] = Block(*index["types"])
     index["templates"] = {name: Block(*block) for name, block in index["templates"].items()}
     index["sources"] = [Source(*source) for source in index["sources"]]

@@ -14,9 +14,9 @@ from typing import Callable, Collection, Dict, Iterable, Iterator, List, Optiona
 from .metadata import Merged, objects
 from .named import reference
 from .prepared import Files
-from .refusals import wrong
+from .refusals import Refusal, wrong
 from .strict_json import Json, Object
-from .table_cells import cells_of, pieces_of
+from .table_cells import cells_of, is_pipe, pieces_of
 
 KindOf = Callable[[str], Optional[str]]  # the kind of a name of the metadata
 FEW = 16  # prefixes that are faster to look for one by one
@@ -35,6 +35,8 @@ def refuse_lost_cells(merged: Merged, lost: Dict[str, str], files: Files, kind_o
         if not isinstance(url, str) or url not in files.tables or not mentions(files, url, lost):
             continue
         columns = columns_of_texts(template, merged.value, kind_of)
+        if columns and is_pipe(files, url):
+            raise unread(files, url, lost)
         for row, column, text in cells_of(files, url, columns):
             found = named.match(text.lstrip())
             if found:
@@ -44,13 +46,23 @@ def refuse_lost_cells(merged: Merged, lost: Dict[str, str], files: Files, kind_o
                 raise wrong(label, f"row {row}, column {column}: {why} {what} in {files.report}")
 
 
+def unread(files: Files, url: str, lost: Dict[str, str]) -> Refusal:
+    """Return the refusal of a pipe, whose cells may name a replaced prefix."""
+    old, new = next(iter(lost.items()))
+    why = f"is a pipe, which cannot be searched for the prefix '{old}', whose namespace has the prefix"
+    what = f"'{new}' here: give a file, or declare '{old}' instead of '{new}' in {files.report}"
+    return wrong(files.package.shown(files.name(url)), f"{why} {what}")
+
+
 def mention_lost(files: Files, lost: Dict[str, str]) -> bool:
-    """Return whether any table has the text of a replaced prefix."""
+    """Return whether any table may have the text of a replaced prefix."""
     return bool(lost) and any(mentions(files, url, lost) for url in sorted(files.tables))
 
 
 def mentions(files: Files, url: str, prefixes: Collection[str]) -> bool:
-    """Return whether a table has the text of one of these prefixes."""
+    """Return whether a table has the text of one of these prefixes, or is a pipe: it may then."""
+    if is_pipe(files, url):
+        return True
     longest = max(len(prefix.encode()) for prefix in prefixes)
     sought = [f"{prefix}:".encode() for prefix in prefixes]
     many = re.compile(b"|".join(map(re.escape, sought))) if len(sought) > FEW else None

@@ -5,6 +5,7 @@ from __future__ import annotations
 import csv
 import io
 import os
+from contextlib import suppress
 from typing import Container, Iterator, List, Tuple
 
 from .packages import LARGEST_TEXT
@@ -33,24 +34,35 @@ class Pieces(io.RawIOBase):
         return size
 
 
-def pieces_of(files: Files, url: str) -> Iterator[bytes]:
-    """Yield the bytes of a table that is a regular file. A pipe is left to xbrl-json."""
+def is_pipe(files: Files, url: str) -> bool:
+    """Return whether a table is a pipe or a device: it can be read once, and that by xbrl-json."""
     name = files.name(url)
-    if files.package.has(name):
-        path = files.package.path_on_disk(name)
-        if path is None or os.path.isfile(path):
-            yield from files.package.pieces(name)
+    if not files.package.has(name):
+        return False
+    path = files.package.path_on_disk(name)
+    return path is not None and not os.path.isfile(path)
 
 
-def cells_of(files: Files, url: str, columns: Container[str]) -> Iterator[Cell]:
-    """Yield the cells of some columns of a table. What is wrong with it is left to xbrl-json."""
+def pieces_of(files: Files, url: str) -> Iterator[bytes]:
+    """Yield the bytes of a table that is a regular file."""
+    name = files.name(url)
+    if files.package.has(name) and not is_pipe(files, url):
+        yield from files.package.pieces(name)
+
+
+def rows_of(files: Files, url: str) -> Iterator[List[str]]:
+    """Yield the records of a table, its header first. What is wrong is left to xbrl-json."""
     csv.field_size_limit(LARGEST_TEXT)
     file = io.BufferedReader(Pieces(pieces_of(files, url)))
     rows = csv.reader(io.TextIOWrapper(file, "utf-8-sig", "replace", newline=""))
-    try:
-        header: List[str] = next(rows, [])
-        places = [(at, name) for at, name in enumerate(header) if name in columns]
-        for number, row in enumerate(filter(None, rows), 1):
-            yield from ((number, name, row[at]) for at, name in places if at < len(row))
-    except csv.Error:
-        return
+    with suppress(csv.Error):
+        yield from filter(None, rows)
+
+
+def cells_of(files: Files, url: str, columns: Container[str]) -> Iterator[Cell]:
+    """Yield the cells of some columns of a table."""
+    rows = rows_of(files, url)
+    header: List[str] = next(rows, [])
+    places = [(at, name) for at, name in enumerate(header) if name in columns]
+    for number, row in enumerate(rows, 1):
+        yield from ((number, name, row[at]) for at, name in places if at < len(row))

@@ -91,7 +91,8 @@ KNOWN = [
 
 def kinds_are(name: str, body: str, *lines: str, **files: Text) -> Case:
     """Returns the case of a schema with these elements, which gives these records."""
-    taxonomy = {**TAXONOMY, "reg/mod.json": meta(INFO), "reg/mod.xsd": schema(body), **files}
+    own = {"reg/mod.json": meta(INFO), "reg/mod.xsd": schema(body)}
+    taxonomy: dict[str, Text] = {**TAXONOMY, **own, **files}
     return makes(name, types=records(*sorted(lines)), taxonomies=[taxonomy])
 
 
@@ -539,10 +540,13 @@ def dimensions_that_are_none() -> Iterator[Case]:
         **REPORT,
         "reports/report.json": meta({"extends": [HOST + "mod.json"], "namespaces": {"eg": EG}}),
     }
-    module = {**TAXONOMY, "reg/mod.json": meta(other, dimensions={"g:None": "x"})}
+    displaced = {**TAXONOMY, "reg/mod.json": meta(other, dimensions={"g:None": "x"})}
     line = f"t0/reg/mod.json: names the dimension 'g:None', {unknown} (dimensions.g:None)"
     yield stops(
-        "a dimension by the name that the file has for it", line, report=named, taxonomies=[module]
+        "a dimension by the name that the file has for it",
+        line,
+        report=named,
+        taxonomies=[displaced],
     )
     for name in ("A", "B", "C", "D", "E", "M", "nowhere"):
         module = meta(INFO, dimensions={"concept": f"eg:{name}"})

@@ -228,21 +228,27 @@ class SchemaTest(FilingTest):
         taxonomy: Optional[Mapping[str, str]] = None,
         words: tuple[str, ...] = (),
         module: Optional[Mapping[str, Any]] = None,
-        **parameters: str,
+        prefixes: Optional[Mapping[str, str]] = None,
+        **parameters: Optional[str],
     ) -> tuple[int, bytes, str]:
-        """Converts tables, which are t10, t11 .. by their order."""
+        """Converts tables, which are t10, t11 .. by their order.
+
+        `prefixes` are those of the report itself. A parameter that is None is left out.
+        """
         named = {f"t{number + 10}": it for number, it in enumerate(tables)}
         parts = {
             name: {"url": f"{name}.csv", "template": it.template, "parameters": it.parameters}
             for name, it in named.items()
         }
         made = {**MODULE, **(module or {}), "tables": parts}
-        said = {**PARAMETERS, **parameters}
+        said: dict[str, Optional[str]] = {**PARAMETERS, **parameters}
         files = {
             "r": {
-                "reports/report.json": meta({"extends": [f"{HOST}mod.json"]}),
+                "reports/report.json": meta(
+                    {"extends": [f"{HOST}mod.json"], "namespaces": prefixes or {}}
+                ),
                 "reports/parameters.csv": "name,value\n"
-                + "".join(f"{it},{text}\n" for it, text in said.items()),
+                + "".join(f"{it},{text}\n" for it, text in said.items() if text is not None),
                 **{f"reports/{name}.csv": it.text for name, it in named.items()},
             },
             "t": {
@@ -345,6 +351,7 @@ ROWS = {
     "a duration for an instant": ({"when": "2025"}, "WrongPeriod (46)"),
     "no period for an instant": ({"when": "#none"}, "WrongPeriod (46)"),
     "no unit": ({"unit": "#none"}, "BadUnit (45)"),
+    "an empty unit": ({"unit": ""}, "BadUnit (45)"),
 }
 
 
@@ -415,6 +422,30 @@ class TestBadFilings(SchemaTest):
                 for text in ("1", "#nil")
             ]
         )
+
+    def test_no_currency(self) -> None:
+        """Refuses an amount if the parameter of the currency is left out or misspelt."""
+        bad = [(points("st1,text", "mi1,1"), "row 2, column 2: BadUnit (45)")]
+        self.refused(bad, baseCurrency=None)
+        self.refused(bad, baseCurrency=None, baseCurency="iso4217:EUR")
+        given: dict[str, Any] = {"baseCurrency": None, "basecurrency": "iso4217:EUR"}
+        status, _, err = self.convert([bad[0][0]], **given)
+        line = "xbrl-filing: r/reports/parameters.csv: nothing refers to the parameter 'basecurrency'"
+        self.assertEqual((status, err[: len(line)]), (1, line))
+
+    def test_a_replaced_prefix(self) -> None:
+        """Refuses members by the prefix of the module if the report has its own for them."""
+        given: dict[str, Any] = {"prefixes": {"ga": DICT["GA"]}}
+        cells = ("eba_GA:AT", "ga:AT eba_GA:x1")
+        tables = [columns({"when": END, "es1": it}) for it in cells]
+        self.refused([(it, "row 1, column 2: BadFactValue (44)") for it in tables], **given)
+        line = "xbrl-filing: r/reports/t10.csv: row 2, column value: 'eba_GA:AT' has the prefix"
+        table = points("st1,text", "es1,eba_GA:AT")  # a point may be a text that is copied
+        for words in ((), ("--cache", "c"), ("--cache", "c")):
+            status, _, err = self.convert([table], words=words, **given)
+            self.assertEqual((status, err[: len(line)]), (1, line))
+        facts = self.facts([points("es1,ga:AT ga:x1")], **given)
+        self.assertEqual([it["value"] for it in facts], ["ga:AT ga:x1"])
 
     def test_rows(self) -> None:
         """Refuses rows with one dimension that the schemas do not allow."""

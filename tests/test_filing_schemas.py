@@ -13,6 +13,7 @@ from tests.filing_samples import (
     ONE,
     TAXONOMY,
     TYPES_HEADER,
+    Text,
     XBRLI,
     XS,
     catalog,
@@ -507,7 +508,7 @@ def refused_markup() -> Iterator[Case]:
             {"reg/mod.xsd": f"<?xml version='1.0' encoding='{name}'?>{schema()}"},
             line,
         )
-    for name, text, what in (
+    faulty: list[tuple[str, Text, str]] = [
         (
             "a document type",
             "<!DOCTYPE x>" + schema(),
@@ -586,7 +587,8 @@ def refused_markup() -> Iterator[Case]:
             '<link:loc xmlns:link="http://www.xbrl.org/2003/linkbase"/>',
             "is neither a schema nor a linkbase: its root is 'loc'",
         ),
-    ):
+    ]
+    for name, text, what in faulty:
         yield refuses(f"a schema with {name}", {"reg/mod.xsd": text}, f"t0/reg/mod.xsd: {what}")
 
 

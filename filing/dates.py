@@ -1,0 +1,261 @@
+"""The types of concepts whose values are dates with or without a time.
+
+XBRL 2.1 (section 5.1.1.3) lets a value of `dateTimeItemType` be either, and no type of the types
+table does. So the cells of a filing choose: such a concept is a `date` if its cells are dates, else
+a `dateTime`. If it has cells of both it is `other`, and its cells are checked here.
+"""
+
+from __future__ import annotations
+
+import re
+from datetime import date
+from typing import Callable, Dict, Iterator, List, NamedTuple, Optional, Tuple
+
+from .metadata import objects
+from .named import reference
+from .parameters import parameters_of_file
+from .prepared import Files
+from .refusals import wrong
+from .strict_json import Object
+from .table_cells import is_pipe, pieces_of, rows_of
+from .types_table import quoted
+
+KindOf = Callable[[str], Optional[str]]  # the word of a name of the metadata
+DATE, DATE_TIME, OTHER = "date", "dateTime", "other"
+RECORD_ENDS = re.compile(rb",dateTime,(?:instant|duration)?,\n")  # a typed dimension's ends otherwise
+BARE_DATE = re.compile(rb"-[0-9][0-9]-[0-9][0-9](?!T)")
+LONGEST_END = 6  # bytes of a piece that may begin a date of the next one
+ZONE = "(?:Z|[+-](?:(?:0[0-9]|1[0-3]):[0-5][0-9]|14:00))?"
+TIME = r"(?:(?:[01][0-9]|2[0-3]):[0-5][0-9]:[0-5][0-9](?:\.[0-9]+)?|24:00:00(?:\.0+)?)"
+FORM = re.compile(f"([0-9]{{4}})-([0-9]{{2}})-([0-9]{{2}})(T{TIME})?{ZONE}")
+BLANKS = " \t\r\n"
+
+
+class DateColumn(NamedTuple):
+    """Where the facts of a column get their concept from.
+
+    It is that of the first group that gives one, else `concept`, which may be empty. The groups are
+    by the column whose cell names one.
+    """
+
+    concept: str
+    groups: List[Tuple[str, Dict[str, str]]]
+
+
+# The columns whose facts may have such a concept, by template.
+DatePlaces = Dict[str, Dict[str, DateColumn]]
+
+
+class Cell(NamedTuple):
+    """A cell, and how lines name its table."""
+
+    label: str
+    row: int
+    column: str
+    text: str
+
+
+UNSEEN = Cell("", 0, "", "")
+
+
+def form_of(text: str) -> str:
+    """Return whether a text is a `date` or a `dateTime`; empty if it is neither.
+
+    See XML Schema, part 2, sections 3.2.7 and 3.2.9. Years are 0001 to 9999, seconds up to 59.
+    """
+    found = FORM.fullmatch(text.strip(BLANKS))
+    if found is None:
+        return ""
+    try:
+        date(int(found[1]), int(found[2]), int(found[3]))
+    except ValueError:
+        return ""
+    return DATE_TIME if found[4] else DATE
+
+
+def date_places(report: Object, kind_of: KindOf) -> DatePlaces:
+    """Return the columns whose facts may have a concept of dates with or without a time."""
+
+    def is_sought(concept: str) -> bool:
+        return reference("concept", concept) is not None or kind_of(concept) == DATE_TIME
+
+    places: DatePlaces = {}
+    for name, template in objects(report, "tableTemplates"):
+        outer = concept_at(template) or concept_at(report) or ""
+        columns = dict(objects(template, "columns"))
+        for column_name, column in columns.items():
+            if "dimensions" in column:
+                place = date_column(column, columns, outer, is_sought)
+                if place is not None:
+                    places.setdefault(name, {})[column_name] = place
+    return places
+
+
+def date_column(
+    column: Object, columns: Dict[str, Object], outer: str, is_sought: Callable[[str], bool]
+) -> Optional[DateColumn]:
+    """Return where a column gets its concept from; None if it never gets one that is sought.
+
+    Other concepts of groups are left out, unless something after the groups may give one.
+    """
+    own = concept_at(column)
+    if own is not None:
+        return DateColumn(own, []) if is_sought(own) else None
+    named = column.get("propertiesFrom")
+    givers = [name for name in named if isinstance(name, str)] if isinstance(named, list) else []
+    all_count = len(givers) > 1 or is_sought(outer)
+    groups: List[Tuple[str, Dict[str, str]]] = []
+    for giver in givers:
+        given = concepts_of_groups(columns.get(giver, {}))
+        groups.append((giver, {name: it for name, it in given if all_count or is_sought(it)}))
+    sought = is_sought(outer) or any(is_sought(it) for _, given in groups for it in given.values())
+    return DateColumn(outer, groups) if sought else None
+
+
+def concepts_of_groups(column: Object) -> Iterator[Tuple[str, str]]:
+    """Yield each property group of a column that gives a concept, with this concept."""
+    for name, group in objects(column, "propertyGroups"):
+        concept = concept_at(group)
+        if concept is not None:
+            yield name, concept
+
+
+def concept_at(level: Object) -> Optional[str]:
+    """Return the concept that a level of the metadata gives itself."""
+    dimensions = level.get("dimensions")
+    concept = dimensions.get("concept") if isinstance(dimensions, dict) else None
+    return concept if isinstance(concept, str) else None
+
+
+def with_types_of_dates(types: bytes, places: DatePlaces, files: Files) -> bytes:
+    """Return a types table in which the cells have chosen the types of their concepts.
+
+    Refuse a cell that is neither form, if its concept has cells of both. A table that is a pipe is
+    left to xbrl-json, so a concept that it may have is not checked.
+    """
+    tables: List[Tuple[str, Object, Dict[str, DateColumn]]] = []
+    for name, table in objects(files.merged.value, "tables"):
+        used, url = table.get("template", name), table.get("url")
+        if isinstance(used, str) and used in places and isinstance(url, str) and url in files.tables:
+            tables.append((url, table, places[used]))
+    if not any(is_pipe(files, url) or has_bare_date(files, url) for url, _, _ in tables):
+        return types
+    seen = SeenDates(types, files)
+    for url, table, columns in tables:
+        if is_pipe(files, url):
+            seen.pass_over(columns)
+        else:
+            seen.look_at(url, columns, {**seen.given, **parameters_of(table)})
+    return seen.types_table()
+
+
+def has_bare_date(files: Files, url: str) -> bool:
+    """Return whether a table may have a date without a time."""
+    end = b""
+    for piece in pieces_of(files, url):
+        if BARE_DATE.search(end + piece):
+            return True
+        end = piece[-LONGEST_END:]
+    return False
+
+
+def parameters_of(owner: Object) -> Dict[str, str]:
+    """Return the parameters that metadata or a table has itself."""
+    given = owner.get("parameters")
+    items = given.items() if isinstance(given, dict) else ()
+    return {name: text for name, text in items if isinstance(text, str)}
+
+
+class SeenDates:
+    """The forms of the cells of each concept that may have both."""
+
+    def __init__(self, types: bytes, files: Files) -> None:
+        self.types, self.files = types, files
+        self.namespaces: Object = files.merged.value["documentInfo"].get("namespaces", {})
+        self.given = parameters_of(files.merged.value)
+        self.given.update((name, text) for name, text, _ in parameters_of_file(files))
+        # By the first two cells of the record of such a concept: where its type begins.
+        self.places: Dict[bytes, int] = {}
+        for found in RECORD_ENDS.finditer(types):
+            begin = types.rfind(b"\n", 0, found.start()) + 1
+            self.places[types[begin : found.start()]] = found.start() + 1
+        self.records: Dict[str, bytes] = {}  # these cells by the concept; empty for any other
+        self.forms: Dict[bytes, Dict[str, Cell]] = {}  # the first cell of each form
+
+    def record(self, concept: str) -> bytes:
+        """Return the first two cells of the record of such a concept; empty of any other."""
+        if concept not in self.records:
+            prefix, _, name = concept.partition(":")
+            uri = self.namespaces.get(prefix)
+            front = f"{quoted(uri)},{name}" if isinstance(uri, str) else ""
+            record = front.encode(errors="replace")
+            self.records[concept] = record if record in self.places else b""
+        return self.records[concept]
+
+    def look_at(self, url: str, columns: Dict[str, DateColumn], given: Dict[str, str]) -> None:
+        """Note the forms of the cells of a table."""
+        label = self.files.package.shown(self.files.name(url))
+        rows = rows_of(self.files, url)
+        header: List[str] = next(rows, [])
+        places = [(at, name, columns[name]) for at, name in enumerate(header) if name in columns]
+        for number, row in enumerate(rows, 1):
+            cells = dict(zip(header, row))
+            for at, name, column in places:
+                if at < len(row) and row[at]:
+                    record = self.record(concept_of(column, cells, given))
+                    if record:
+                        self.note(record, Cell(label, number, name, row[at]))
+
+    def note(self, record: bytes, cell: Cell) -> None:
+        """Note the form of a cell, unless it is a special value other than the empty text."""
+        text = cell.text
+        if text.startswith("##"):
+            text = text[1:]
+        elif text.startswith("#") and text != "#empty":
+            return
+        self.forms.setdefault(record, {}).setdefault(form_of(text), cell)
+
+    def pass_over(self, columns: Dict[str, DateColumn]) -> None:
+        """Let each concept that the metadata names for these columns have both forms."""
+        for column in columns.values():
+            groups = (concept for _, given in column.groups for concept in given.values())
+            for concept in (column.concept, *groups):
+                record = self.record(concept)
+                if record:
+                    self.forms.setdefault(record, {}).update({DATE: UNSEEN, DATE_TIME: UNSEEN})
+
+    def types_table(self) -> bytes:
+        """Return the types table with the types that the cells choose."""
+        pieces: List[bytes] = []
+        done = 0
+        for record, forms in sorted(self.forms.items(), key=lambda it: self.places[it[0]]):
+            word = chosen(forms)
+            if word != DATE_TIME:
+                at = self.places[record]
+                pieces += [self.types[done:at], word.encode()]
+                done = at + len(DATE_TIME)
+        return b"".join([*pieces, self.types[done:]])
+
+
+def chosen(forms: Dict[str, Cell]) -> str:
+    """Return the type of a concept with cells of these forms. Refuse a cell that has neither."""
+    if DATE not in forms:
+        return DATE_TIME
+    if DATE_TIME not in forms:
+        return DATE
+    if "" in forms:
+        label, row, column, text = forms[""]
+        raise wrong(label, f"row {row}, column {column}: '{text}' is neither a date nor a date with a time")
+    return OTHER
+
+
+def concept_of(column: DateColumn, cells: Dict[str, str], given: Dict[str, str]) -> str:
+    """Return the concept of a fact; empty if it has none. `given` are the parameters."""
+    concept = column.concept
+    for giver, groups in column.groups:
+        named = groups.get(cells.get(giver, ""))
+        if named is not None:
+            concept = named
+            break
+    name = reference("concept", concept)
+    return concept if name is None else cells.get(name, "") or given.get(name, "")
