@@ -79,7 +79,12 @@ for size in (1 << 31, (1 << 32) + 5):
     except MemoryError:
         print(size)
 """
-# More files than may be open are mapped.
+# A table of more bytes than the process may have of its own.
+MAPPED = """import resource, sys, xbrl_json
+resource.setrlimit(resource.RLIMIT_DATA, (1 << 26, 1 << 26))
+print(xbrl_json.convert_folder(sys.argv[1]).count(b"t1.r_"))
+"""
+# More large tables than the process may have files open.
 FEW_DESCRIPTORS = """import json, resource, sys, xbrl_json
 resource.setrlimit(resource.RLIMIT_NOFILE, (24, 24))
 print(len(json.loads(xbrl_json.convert_folder(sys.argv[1]))["facts"]))
@@ -464,17 +469,27 @@ def python_folders(package: Any, program: str, folder: Path) -> None:
         case(name, seen == wanted, seen)
 
 
-def few_descriptors(folder: Path) -> None:
-    """Converts a report with more large tables than the process may have files open."""
-    shutil.copytree(TOP / "examples/held", folder / "few")
-    metadata = json.loads((folder / "few/meta.json").read_text())
+def large_tables(folder: Path) -> None:
+    """Converts a table that is too large to copy, and more tables than may be open."""
+    report = folder / "tables"
+    shutil.copytree(TOP / "examples/held", report)
+    metadata = json.loads((report / "meta.json").read_text())
+
+    def printed(script: str) -> str:
+        """Runs a script over the report. Returns what it prints."""
+        done = subprocess.run([sys.executable, "-c", script, report], capture_output=True, text=True,
+                              cwd=TOP / "library/python")
+        return done.stdout + done.stderr
+
+    (report / "t1.csv").write_text("cash,note\n1,a\n" + "\n" * (100 << 20))
+    seen = printed(MAPPED)
+    case("a table is not copied", seen == "2\n", seen)
     for number in range(40):
         metadata["tables"][f"u{number}"] = {"url": f"u{number}.csv", "template": "p"}
-        (folder / f"few/u{number}.csv").write_text("cash,note\n1,a\n" + "\n" * (1 << 20))
-    (folder / "few/meta.json").write_text(json.dumps(metadata))
-    done = subprocess.run([sys.executable, "-c", FEW_DESCRIPTORS, folder / "few"], capture_output=True,
-                          cwd=TOP / "library/python", text=True)
-    case("few descriptors", done.stdout == "84\n", done.stdout, done.stderr)
+        (report / f"u{number}.csv").write_text("cash,note\n1,a\n" + "\n" * (1 << 20))
+    (report / "meta.json").write_text(json.dumps(metadata))
+    seen = printed(FEW_DESCRIPTORS)
+    case("few descriptors", seen == "82\n", seen)
 
 
 def python_long_texts(package: Any) -> None:
@@ -561,7 +576,7 @@ def tested(library: Path, program: str, is_whole: bool) -> int:
             header_by_itself(folder)
             python_errors(package, folder)
             python_folders(package, program, folder)
-            few_descriptors(folder)
+            large_tables(folder)
             python_long_texts(package)
             python_threads(package)
             python_memory(package)
