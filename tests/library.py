@@ -93,7 +93,7 @@ print(len(json.loads(xbrl_json.convert_folder(sys.argv[1]))["facts"]))
 MOST_GROWTH = 1 << 18
 MODULES = ["test_reports", "test_cells", "test_facts", "test_metadata", "test_explained",
            "test_explained_metadata", "test_explained_sentences", "test_explained_sources",
-           "test_explained_tables"]
+           "test_explained_tables", "test_schema_types"]
 Run = Tuple[int, bytes, str]
 
 
