@@ -64,7 +64,8 @@ typedef struct {
 } xbrl_json_answer;
 
 /* No bytes. */
-#define XBRL_JSON_NOTHING {(const uint8_t *)"", 0}
+static const uint8_t xbrl_json_no_byte = 0;
+#define XBRL_JSON_NOTHING {&xbrl_json_no_byte, 0}
 
 /* An answer before its first call. */
 #define XBRL_JSON_ANSWER {0, XBRL_JSON_NOTHING, XBRL_JSON_NOTHING, XBRL_JSON_NOTHING}
@@ -88,12 +89,18 @@ uint32_t xbrl_json_convert(const xbrl_json_file *files, size_t count,
  * `0.20.0 (proved with KIT)`. Never free this text. */
 void xbrl_json_version(xbrl_json_text *version);
 
+#ifdef __cplusplus
+#define XBRL_JSON_TO_FREE(at) const_cast<uint8_t *>(at)
+#else
+#define XBRL_JSON_TO_FREE(at) (void *)(uintptr_t)(at)
+#endif
+
 /* Frees the texts of an answer, which may then be used for another call. */
 static inline void xbrl_json_free(xbrl_json_answer *answer) {
     const xbrl_json_answer none = XBRL_JSON_ANSWER;
-    if (answer->document.len) free((void *)(uintptr_t)answer->document.at);
-    if (answer->lines.len) free((void *)(uintptr_t)answer->lines.at);
-    if (answer->faults.len) free((void *)(uintptr_t)answer->faults.at);
+    if (answer->document.len) free(XBRL_JSON_TO_FREE(answer->document.at));
+    if (answer->lines.len) free(XBRL_JSON_TO_FREE(answer->lines.at));
+    if (answer->faults.len) free(XBRL_JSON_TO_FREE(answer->faults.at));
     *answer = none;
 }
 

@@ -24,6 +24,7 @@ from __future__ import annotations
 import concurrent.futures
 import contextlib
 import csv
+import errno
 import importlib
 import io
 import json
@@ -44,8 +45,9 @@ from tests import cases, dist  # noqa: E402
 from tests.cases import case, told  # noqa: E402
 NAME = "the C library and the Python package"
 WRAP = "-Wl,--wrap=malloc,--wrap=realloc,--wrap=free"
-WARNINGS = ["-Wall", "-Wextra", "-Werror", "-pedantic"]
-STANDARDS = (("cc", "-std=c99"), ("cc", "-std=c17"), ("c++", "-std=c++11", "-x", "c++"))
+WARNINGS = ["-Wall", "-Wextra", "-Wcast-qual", "-Werror", "-pedantic"]
+STANDARDS = (("cc", "-std=c99"), ("cc", "-std=c17"),
+             ("c++", "-std=c++11", "-x", "c++", "-Wold-style-cast"))
 EXAMPLES = ("held", "quarterly", "questionnaire", "refused")
 CALLS = 10_000
 # A program that only compiles with the layouts that library/README.md gives.
@@ -58,7 +60,7 @@ MUST(texts, offsetof(xbrl_json_answer, lines) == 24 && offsetof(xbrl_json_answer
 int main(void) {
     xbrl_json_answer a = XBRL_JSON_ANSWER;
     xbrl_json_free(&a);
-    return (int)a.status;
+    return a.status != 0;
 }
 """
 # Outcomes that no report of examples/ has: the status, the layout, and the files of the driver.
@@ -77,11 +79,21 @@ for size in (1 << 31, (1 << 32) + 5):
     except MemoryError:
         print(size)
 """
+# A table of more bytes than the process may have of its own.
+MAPPED = """import resource, sys, xbrl_json
+resource.setrlimit(resource.RLIMIT_DATA, (1 << 26, 1 << 26))
+print(xbrl_json.convert_folder(sys.argv[1]).count(b"t1.r_"))
+"""
+# More large tables than the process may have files open.
+FEW_DESCRIPTORS = """import json, resource, sys, xbrl_json
+resource.setrlimit(resource.RLIMIT_NOFILE, (24, 24))
+print(len(json.loads(xbrl_json.convert_folder(sys.argv[1]))["facts"]))
+"""
 # Bytes by which Python may grow in these calls: less than one short text of each answer.
 MOST_GROWTH = 1 << 18
 MODULES = ["test_reports", "test_cells", "test_facts", "test_metadata", "test_explained",
            "test_explained_metadata", "test_explained_sentences", "test_explained_sources",
-           "test_explained_tables"]
+           "test_explained_tables", "test_schema_types"]
 Run = Tuple[int, bytes, str]
 
 
@@ -420,6 +432,66 @@ def python_errors(package: Any, folder: Path) -> None:
     case("a path that leads outside", raised(package.Refused, package.convert_folder, large))
 
 
+def python_folders(package: Any, program: str, folder: Path) -> None:
+    """Checks that convert_folder opens the files that the program opens."""
+    report = folder / "report"
+    shutil.copytree(TOP / "examples/held", report)
+    text = (report / "meta.json").read_text()
+
+    def ended(old: str, new: str) -> object:
+        """Changes the metadata. Returns how both ended, if they do not agree."""
+        (report / "meta.json").write_text(text.replace(old, new, 1))
+        words = [program, "meta.json", "--types", "types.csv", "--workers", "1"]
+        wanted = subprocess.run(words, cwd=report, capture_output=True)
+        try:
+            seen = 0, package.convert_folder(report)
+        except package.Refused as refused:
+            seen = refused.status, wanted.stdout
+        except OSError as error:
+            return error.errno if b"Read (" in wanted.stderr else wanted.stderr
+        return "as the program" if seen == (wanted.returncode, wanted.stdout) else (seen, wanted)
+
+    start, loop = '{"documentInfo"', report / "loop.csv"
+    (report / "a folder").mkdir()
+    loop.symlink_to(loop)
+    for name, more in (("a url that is not a table's", '"eg:a":{"url":"a folder"}'),
+                       ("tables twice", '"tables":{"t0":{"url":"a folder"}}'),
+                       ("tables that are a list", '"tables":[{"url":"a folder"}]')):
+        seen = ended(start, f'{{{more},"documentInfo"')
+        case(name, seen == "as the program", seen)
+    for name, url in (("a file as a folder", "t1.csv/t1.csv"), ("a colon", "a:b"), ("an empty path", "")):
+        seen = ended('"url":"t1.csv"', f'"optional":true,"url":"{url}"')
+        case(name, seen == "as the program", seen)
+    for name, url, wanted in (("a loop of links", "loop.csv", errno.ELOOP),
+                              ("a folder as a table", "a folder", errno.EISDIR),
+                              ("a long name", "n" * 300, errno.ENAMETOOLONG)):
+        seen = ended('"url":"t1.csv"', f'"optional":true,"url":"{url}"')
+        case(name, seen == wanted, seen)
+
+
+def large_tables(folder: Path) -> None:
+    """Converts a table that is too large to copy, and more tables than may be open."""
+    report = folder / "tables"
+    shutil.copytree(TOP / "examples/held", report)
+    metadata = json.loads((report / "meta.json").read_text())
+
+    def printed(script: str) -> str:
+        """Runs a script over the report. Returns what it prints."""
+        done = subprocess.run([sys.executable, "-c", script, report], capture_output=True, text=True,
+                              cwd=TOP / "library/python")
+        return done.stdout + done.stderr
+
+    (report / "t1.csv").write_text("cash,note\n1,a\n" + "\n" * (100 << 20))
+    seen = printed(MAPPED)
+    case("a table is not copied", seen == "2\n", seen)
+    for number in range(40):
+        metadata["tables"][f"u{number}"] = {"url": f"u{number}.csv", "template": "p"}
+        (report / f"u{number}.csv").write_text("cash,note\n1,a\n" + "\n" * (1 << 20))
+    (report / "meta.json").write_text(json.dumps(metadata))
+    seen = printed(FEW_DESCRIPTORS)
+    case("few descriptors", seen == "82\n", seen)
+
+
 def python_long_texts(package: Any) -> None:
     """Checks long and odd cells of faults, and that a document of any length is returned whole."""
     folder = "examples/held"
@@ -503,6 +575,8 @@ def tested(library: Path, program: str, is_whole: bool) -> int:
         if is_whole:
             header_by_itself(folder)
             python_errors(package, folder)
+            python_folders(package, program, folder)
+            large_tables(folder)
             python_long_texts(package)
             python_threads(package)
             python_memory(package)

@@ -1,18 +1,22 @@
 """The files of a report on disk. A large one is mapped, so it is not copied."""
 from __future__ import annotations
 
+import contextlib
 import errno
 import json
 import mmap
 import os
+import re
 import stat
-from typing import Any, Dict, List, Set, Tuple
+from typing import Any, Dict, Set
 
 from .c_library import Buffer
 
 # A smaller file is read, because a map keeps a file descriptor. Most tables are smaller.
 LEAST_MAPPED = 1 << 20
-DOES_NOT_EXIST = (errno.ENOENT, errno.ENOTDIR, errno.ENAMETOOLONG, errno.ELOOP)
+# What a path in the metadata never has.
+BARRED = re.compile(r"[\\:?#%\x00-\x1f]")
+DOES_NOT_EXIST = (errno.ENOENT, errno.ENOTDIR)
 
 
 def content(path: str) -> Buffer:
@@ -20,34 +24,35 @@ def content(path: str) -> Buffer:
     with open(path, "rb") as file:
         about = os.fstat(file.fileno())
         if stat.S_ISREG(about.st_mode) and about.st_size >= LEAST_MAPPED:
-            return mmap.mmap(file.fileno(), 0, access=mmap.ACCESS_READ)
+            # No descriptor may be left, and not every file system can map.
+            with contextlib.suppress(OSError):
+                return mmap.mmap(file.fileno(), 0, access=mmap.ACCESS_READ)
         return file.read()
 
 
 def is_plain(path: str) -> bool:
-    """Whether a path stays in its folder. The library refuses every other path in the metadata."""
-    parts = path.split("/")
-    return "\0" not in path and not any(part in ("", ".", "..") for part in parts)
+    """Whether a path in the metadata is one that the library takes. It stays in its folder."""
+    segments = path.split("/")
+    return not BARRED.search(path) and not any(it in ("", ".", "..") for it in segments)
+
+
+def members_of(value: Any) -> Dict[str, Any]:
+    """Returns the members of a JSON object, and none of another value."""
+    return value if isinstance(value, dict) else {}
 
 
 def files_named_in(metadata: bytes) -> Set[str]:
-    """Returns the paths of tables and parameters that a metadata file may mean.
+    """Returns the paths of the tables and of the parameters file that a metadata file names.
 
-    It may return more than the library opens. It returns none for a text that is not JSON, which
-    the library refuses before it opens a table.
+    It returns none for a text that is not JSON, which the library refuses before it opens a table.
     """
-    found: Set[str] = set()
-
-    def note(pairs: List[Tuple[str, Any]]) -> None:
-        """Notes the paths of an object. A key may occur twice."""
-        named = (value for key, value in pairs if key in ("url", "parameterURL"))
-        found.update(it for it in named if isinstance(it, str) and is_plain(it))
-
     try:
-        json.loads(metadata, object_pairs_hook=note)
+        read = members_of(json.loads(metadata))
     except (ValueError, RecursionError):
         return set()
-    return found
+    tables = members_of(read.get("tables")).values()
+    named = [read.get("parameterURL"), *(members_of(it).get("url") for it in tables)]
+    return {it for it in named if isinstance(it, str) and is_plain(it)}
 
 
 def report_files(meta: str, types: str) -> Dict[str, Buffer]:
