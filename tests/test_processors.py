@@ -31,6 +31,11 @@ def threads_of(process: int) -> int:
     return 0
 
 
+def running_threads() -> int:
+    """Returns how many threads of the system run or want to run."""
+    return int(Path("/proc/loadavg").read_text(encoding="ascii").split()[3].split("/")[0])
+
+
 class TestProcessors(TestCase):
     """Looks at the threads of a run whose tables do not end yet."""
 
@@ -100,6 +105,8 @@ class TestProcessors(TestCase):
         busy = [subprocess.Popen([sys.executable, "-c", BUSY]) for _ in range(os.cpu_count() or 1)]
         try:
             time.sleep(0.5)
+            if running_threads() < len(busy):
+                self.skipTest("the system does not count the threads that run")
             self.assertEqual(self.most_threads(2, False, few=True), alone)
         finally:
             for program in busy:
