@@ -14,8 +14,8 @@ from typing import Dict, Optional
 from .origins import Origins
 from .refusals import escaped
 
-# With `--explain`, a line below that of a fault has a place in the metadata, as a JSON pointer. What
-# is there may follow it.
+# With `--explain`, a line below that of a fault may have a place in the metadata, as a JSON
+# pointer, and what is there.
 PLACE = re.compile(
     r"([ \t]+(?:by |the same cause as in table [^:]*: )?)(/.*?)(: .*)?", re.DOTALL
 )

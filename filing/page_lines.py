@@ -66,7 +66,7 @@ class KeptLines(ConverterLines):
 
 
 def sorted_lines(lines: List[str]) -> List[str]:
-    """Return the lines below a fault with its own place first, and a cause that is elsewhere last."""
+    """Return the lines below a fault with its own place first, a cause elsewhere among the last."""
     for at, line in enumerate(lines[2:], 2):
         fact = FACT.fullmatch(line)
         if fact:

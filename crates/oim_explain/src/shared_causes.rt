@@ -61,8 +61,8 @@ pub fn explained_faults<R: Read + Drop, F: Folder<R>>(
     Ok(told)
 }
 
-/// Returns the lines below that of the refused table at this index: its explanation, and which later
-/// tables have the same cause. If an earlier table has it, they are a line that names that table.
+/// Returns the lines below that of the refused table at this index: its explanation, and which
+/// later tables have the same cause. If an earlier table has it, they are a line that names it.
 /// `told` is what `explained_faults` gives. There are no lines for a table past those.
 pub fn lines_below(
     alloc: Global,
