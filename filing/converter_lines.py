@@ -14,8 +14,11 @@ from typing import Dict, Optional
 from .origins import Origins
 from .refusals import escaped
 
-# With `--explain`, a line below that of a fault has its place in the metadata, as a JSON pointer.
-PLACE = re.compile(r"([ \t]+)(/.*)", re.DOTALL)
+# With `--explain`, a line below that of a fault may have a place in the metadata, as a JSON
+# pointer, and what is there.
+PLACE = re.compile(
+    r"([ \t]+(?:by |the same cause as in table [^:]*: )?)(/.*?)(: .*)?", re.DOTALL
+)
 FAULT_OF_METADATA = "xbrl-json: report: "
 
 
@@ -59,7 +62,7 @@ class ConverterLines:
         place = self.origins.place(found[2]) if found else None
         if found and place:
             self.placed = True
-            text = f"{found[1]}{place[0]}: {place[1]}"
+            text = f"{found[1]}{place[0]}: {place[1]}{found[3] or ''}"
         return (escaped(text) if self.for_terminal else text).encode("utf-8", "surrogateescape")
 
     def place(self, text: str) -> str:

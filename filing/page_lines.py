@@ -14,6 +14,9 @@ FAULT = re.compile(
     r" [A-Za-z0-9]+ \((?P<number>\d+)\)"
 )
 BELOW = "    "  # how a line of `--explain` begins
+# The fact, below a cause that is elsewhere: what is in its cell, and where that is.
+FACT = re.compile(r"for (?P<found>.*): (?P<place>.*, line \d+, cell \d+)")
+SAME = re.compile(r"the same cause as in table (?P<table>[^:]*): .*")
 Key = Tuple[str, int, int, int]  # table, row, column and number of a fault
 
 
@@ -53,5 +56,20 @@ class KeptLines(ConverterLines):
             self.key = (table, int(row), int(column), int(found["number"]))
 
     def of(self, fault: Fault) -> List[str]:
-        """Return the lines below a fault: its place, the text there, what is wrong, the causes."""
-        return self.said.get((fault.table, fault.row, fault.column, fault.number), [])
+        """Return what is told of a fault: its place, the text there, what is wrong, the causes."""
+        lines = self.said.get((fault.table, fault.row, fault.column, fault.number), [])
+        same = SAME.fullmatch(lines[0]) if lines else None
+        if not same:
+            return sorted_lines(lines)
+        first = next((said for key, said in self.said.items() if key[0] == same["table"]), [])
+        return ["", "", *sorted_lines(first)[2:3], lines[0]]
+
+
+def sorted_lines(lines: List[str]) -> List[str]:
+    """Return the lines below a fault with its own place first, a cause elsewhere among the last."""
+    for at, line in enumerate(lines[2:], 2):
+        fact = FACT.fullmatch(line)
+        if fact:
+            why = lines[1]
+            return [fact["place"], fact["found"], why, lines[0], *lines[2:at], *lines[at + 1 :]]
+    return lines

@@ -26,6 +26,9 @@ UNKNOWN_SPECIAL = "a text begins with # and is not a special value"
 MALFORMED = (
     "an entity, unit, language or explicit member is not well-formed, or its prefix is not declared"
 )
+NO_PERIOD = (
+    "a period is written 2025Q3, 2025-09, 2025-09-30 or 2025-07-01..2025-09-30, and must exist"
+)
 NO_NAME = "the types table has no concept of this name, or its prefix is not declared"
 
 # The null of JSON, as the value of a place.
@@ -64,6 +67,22 @@ def lines_of(line: str, places: Iterable[str]) -> str:
     return f"xbrl-json: {line}\n" + "".join(f"    {it}\n" for it in places)
 
 
+def elsewhere(
+    source: str,
+    why: str,
+    *advice: str,
+    fact: str = '"1" in cash (eg:Cash) of row r_1',
+    at: str = "r/t1.csv, line 2, cell 1",
+    by: Iterable[str] = (),
+) -> list[str]:
+    """Returns what is told of a fact whose fault comes from elsewhere.
+
+    The place to mend comes first, then why, and what could be meant. The fact follows, with the
+    places by which the fault came to it.
+    """
+    return [source, why, *advice, f"for {fact}: {at}", *(f"by {it}" for it in by)]
+
+
 class ExplainTest(CaseTest):
     """A test of explanations."""
 
@@ -87,10 +106,12 @@ class ExplainTest(CaseTest):
     ) -> None:
         """Checks the line of a fault, and its explanation after it.
 
-        The sentence, in the third line of the explanation, has at most 100 characters.
+        The sentence has at most 100 characters: in the second line of the explanation if the fault
+        comes from elsewhere, else in the third.
         """
         self.write(files)
         self.check_same(self.err(report=words), f"xbrl-json: {line}\n")
         explained = self.err("--explain", report=words)
         self.check_same(explained, lines_of(line, places))
-        self.assertLessEqual(len(explained.split("\n")[3].strip()), 100)
+        sentence = places[1 if any(it.startswith("for ") for it in places) else 2]
+        self.assertLessEqual(len(sentence), 100)

@@ -3,7 +3,17 @@ from __future__ import annotations
 
 from typing import Any
 
-from tests.explaining import CASH, REPORT, TYPES, UNKNOWN_SPECIAL, ExplainTest, edited, edited_all
+from tests.explaining import (
+    CASH,
+    NO_PERIOD,
+    REPORT,
+    TYPES,
+    UNKNOWN_SPECIAL,
+    ExplainTest,
+    edited,
+    edited_all,
+    elsewhere,
+)
 from tests.harness import NAMESPACE, Content, for_each
 
 SPREADSHEET = "this is an error of the spreadsheet, not a value: mend the cell's formula"
@@ -11,8 +21,6 @@ BOOLEAN = "a yes/no cell holds true, false, 1 or 0, in small letters"
 DATE = "a date is written 2025-09-30, by year, month and day, and must exist"
 WITH_TIME = "a date with a time is written 2025-09-30T12:00:00, and must exist"
 NAME = "a name has a prefix that namespaces declares, as in eg:North"
-PERIOD = "write a date as 2025-09-30, a period as 2025Q3, 2025-09 or 2025-07-01..2025-09-30"
-NO_PERIOD = "a period is not well-formed"
 NO_COLUMN = "a header cell does not name a column of the template"
 UTF_16 = "the file is in UTF-16: save it as UTF-8"
 SEMICOLONS = "semicolons are between the cells: save the file with commas"
@@ -73,11 +81,9 @@ class TestSpreadsheet(ExplainTest):
         self.says({"r/t1.csv": f"cash\n{text}x\n"}, line, CELL, found, UNKNOWN_SPECIAL)
         files: dict[str, Content] = {"r/t1.csv": f"cash,note\n1,{text}\n"}
         files["r/m.json"] = edited((*CASH, "dimensions", "unit"), "$note")
-        places = "/tableTemplates/p/columns/cash/dimensions/unit: \"$note\"", (
-            f'r/t1.csv, line 2, cell 2: "{text}"'
-        )
-        found = '"1" in cash (eg:Cash) of row r_1'
-        self.says(files, line, CELL, found, SPREADSHEET, *places)
+        by = ['/tableTemplates/p/columns/cash/dimensions/unit: "$note"']
+        source = f'r/t1.csv, line 2, cell 2: "{text}"'
+        self.says(files, line, *elsewhere(source, SPREADSHEET, by=by))
 
 
 def grouped(*names: str) -> dict[str, Any]:
@@ -89,7 +95,7 @@ def grouped(*names: str) -> dict[str, Any]:
 
 FEW = ("dp1", "dp2", "dp3")
 MANY = tuple(f"dp{i}" for i in range(100, 300))
-# The groups, the cell, and what the last line says of the column.
+# The groups, the cell, and what is told of the column.
 GROUP_CELLS = [
     (FEW, "dp9", '"dp9" in g: this column knows dp1, dp2, dp3'),
     (("dp1",), "dp 1", '"dp 1" in g: this column knows dp1'),
@@ -108,9 +114,10 @@ class TestGroups(ExplainTest):
         """Explains a cell that names none of them."""
         files: dict[str, Content] = {"r/m.json": grouped(*names)}
         files["r/t1.csv"] = f"cash,g\n1,{cell}\n"
-        places = f'r/t1.csv, line 2, cell 2: "{cell}"', told
+        source = f'r/t1.csv, line 2, cell 2: "{cell}"'
         line = "table t1, row 1, column 1: UnknownGroup (32)"
-        self.says(files, line, CELL, '"1" in cash of row r_1', NO_GROUP, *places)
+        fact = '"1" in cash of row r_1'
+        self.says(files, line, *elsewhere(source, NO_GROUP, told, fact=fact))
 
 
 def found_in(header: Content) -> str:
@@ -200,25 +207,25 @@ class TestQuotes(ExplainTest):
                 self.says({"r/t1.csv": text}, line, "r/t1.csv, line 2", found, why)
 
 
-# A period, and the sentence.
+# Texts that are no period: dates in other forms, and what does not exist.
 PERIODS = [
-    *((text, PERIOD) for text in ("30.09.2025", "9/30/2025", "30-9-2025", "2025/09/30", "3.2025")),
-    *((text, NO_PERIOD) for text in ("2021-13", "2025-02-30", "2025Q5", "Q3 2025")),
-    *((text, NO_PERIOD) for text in ("2025-09-30..2025-07-01", "september")),
+    *("30.09.2025", "9/30/2025", "30-9-2025", "2025/09/30", "3.2025"),
+    *("2021-13", "2025-02-30", "2025Q5", "Q3 2025", "2025-09-30..2025-07-01", "september"),
 ]
 
 
-@for_each((text, (text, why)) for text, why in PERIODS)
+@for_each((text, (text,)) for text in PERIODS)
 class TestPeriods(ExplainTest):
-    """Says how a period is written if it is a date in another form."""
+    """Says how a period is written."""
 
-    def check(self, text: str, why: str) -> None:
+    def check(self, text: str) -> None:
         """Explains a period of a parameter."""
         report = {**edited(("dimensions", "period"), "$when"), "parameters": {"when": text}}
-        places = '/dimensions/period: "$when"', f'/parameters/when: "{text}"'
-        found = '"100" in cash (eg:Cash) of row r_1'
+        fact = '"100" in cash (eg:Cash) of row r_1'
+        by = ['/dimensions/period: "$when"']
+        lines = elsewhere(f'/parameters/when: "{text}"', NO_PERIOD, fact=fact, by=by)
         line = "table t1, row 1, column 1: BadPeriod (37)"
-        self.says({"r/m.json": report}, line, CELL, found, why, *places)
+        self.says({"r/m.json": report}, line, *lines)
 
 
 class TestFilings(ExplainTest):

@@ -8,6 +8,7 @@ from tests.explaining import (
     CASH,
     MALFORMED,
     NO_NAME,
+    NO_PERIOD,
     TABLE,
     TYPES,
     UNKNOWN_SPECIAL,
@@ -15,6 +16,7 @@ from tests.explaining import (
     ExplainTest,
     Place,
     edited_all,
+    elsewhere,
 )
 from tests.harness import Content, for_each
 
@@ -25,6 +27,7 @@ GROUPS = {
 }
 OPEN = {(*CASH, "dimensions", "concept"): "eg:Open"}
 WITH_OPEN = TYPES + "http://example.com/eg,Open,boolean\n"
+HUNDRED = '"100" in cash (eg:Cash) of row r_1'
 NO_NUMERAL = "the cell of a number is not a numeral"
 OTHER_NUMERAL = (
     "the concept's type takes no such numeral: an integer has no point, only a double an exponent"
@@ -49,8 +52,8 @@ def shown(cell: str) -> str:
     return cell
 
 
-# What is edited in the metadata, the table (None: it has no file), the place and the fault, the
-# three lines, and those of the places elsewhere that cause the fault.
+# What is edited in the metadata, the table (None: it has no file), the place and the fault, and the
+# lines.
 TABLES: list[tuple[Any, ...]] = [
     (
         {("tables", "t1", "url"): "no.csv"},
@@ -201,106 +204,108 @@ TABLES: list[tuple[Any, ...]] = [
         GROUPS,
         "cash,g\n1,gross\n",
         "1, 1 UnknownGroup (32)",
-        "r/t1.csv, line 2, cell 1",
-        '"1" in cash of row r_1',
-        "a cell names no property group of its column",
-        'r/t1.csv, line 2, cell 2: "gross"',
-        '"gross" in g: this column knows net',
+        *elsewhere(
+            'r/t1.csv, line 2, cell 2: "gross"',
+            "a cell names no property group of its column",
+            '"gross" in g: this column knows net',
+            fact='"1" in cash of row r_1',
+        ),
     ),
     (
         {(*CASH, "dimensions"): {}},
         TABLE,
         "1, 1 NoConcept (33)",
-        "r/t1.csv, line 2, cell 1",
-        '"100" in cash of row r_1',
-        "no concept is given",
-        f"{AT_CASH}/dimensions/concept: (nothing)",
+        *elsewhere(
+            f"{AT_CASH}/dimensions/concept: (nothing)",
+            "no concept is given",
+            fact='"100" in cash of row r_1',
+        ),
     ),
     (
         {**GROUPS, (*CASH, "dimensions"): {}},
         "cash,g\n1,net\n2,\n",
         "1, 1 NoConcept (33)",
-        "r/t1.csv, line 2, cell 1",
-        '"1" in cash of row r_1',
-        "no concept is given",
-        f"{AT_CASH}/dimensions/concept: (nothing)",
+        *elsewhere(
+            f"{AT_CASH}/dimensions/concept: (nothing)",
+            "no concept is given",
+            fact='"1" in cash of row r_1',
+        ),
     ),
     (
         {**GROUPS, (*CASH, "dimensions"): {}},
         "cash,g\n2,\n",
         "1, 1 NoConcept (33)",
-        "r/t1.csv, line 2, cell 1",
-        '"2" in cash of row r_1',
-        "no concept is given",
-        'r/t1.csv, line 2, cell 2: ""',
-        f"{AT_CASH}/dimensions/concept: (nothing)",
+        *elsewhere(
+            'r/t1.csv, line 2, cell 2: ""',
+            "no concept is given",
+            fact='"2" in cash of row r_1',
+            by=[f"{AT_CASH}/dimensions/concept: (nothing)"],
+        ),
     ),
     (
         {**GROUPS, (*CASH, "dimensions"): {}},
         "cash\n2\n",
         "1, 1 NoConcept (33)",
-        "r/t1.csv, line 2, cell 1",
-        '"2" in cash of row r_1',
-        "no concept is given",
-        'r/t1.csv, line 2: the header has no column "g"',
-        f"{AT_CASH}/dimensions/concept: (nothing)",
+        *elsewhere(
+            'r/t1.csv, line 2: the header has no column "g"',
+            "no concept is given",
+            fact='"2" in cash of row r_1',
+            by=[f"{AT_CASH}/dimensions/concept: (nothing)"],
+        ),
     ),
     (
         {(*CASH, "dimensions", "concept"): "eg:Chas"},
         TABLE,
         "1, 1 UnknownName (34)",
-        "r/t1.csv, line 2, cell 1",
-        '"100" in cash (eg:Chas) of row r_1',
-        NO_NAME,
-        f'{AT_CASH}/dimensions/concept: "eg:Chas"',
+        *elsewhere(
+            f'{AT_CASH}/dimensions/concept: "eg:Chas"',
+            NO_NAME,
+            fact='"100" in cash (eg:Chas) of row r_1',
+        ),
     ),
     (
         {(*CASH, "dimensions", "unit"): "$note"},
         "cash,note\n1,#nil\n",
         "1, 1 BadReference (35)",
-        "r/t1.csv, line 2, cell 1",
-        '"1" in cash (eg:Cash) of row r_1',
-        "a dimension that is not typed is nil or empty",
-        f'{AT_CASH}/dimensions/unit: "$note"',
-        'r/t1.csv, line 2, cell 2: "#nil"',
+        *elsewhere(
+            'r/t1.csv, line 2, cell 2: "#nil"',
+            "a dimension that is not typed is nil or empty",
+            by=[f'{AT_CASH}/dimensions/unit: "$note"'],
+        ),
     ),
     (
         {("dimensions", "entity"): "A1"},
         TABLE,
         "1, 1 BadValue (36)",
-        "r/t1.csv, line 2, cell 1",
-        '"100" in cash (eg:Cash) of row r_1',
-        MALFORMED,
-        '/dimensions/entity: "A1"',
+        *elsewhere('/dimensions/entity: "A1"', MALFORMED, fact=HUNDRED),
     ),
     (
         {("dimensions", "period"): "2021-13"},
         TABLE,
         "1, 1 BadPeriod (37)",
-        "r/t1.csv, line 2, cell 1",
-        '"100" in cash (eg:Cash) of row r_1',
-        "a period is not well-formed",
-        '/dimensions/period: "2021-13"',
+        *elsewhere('/dimensions/period: "2021-13"', NO_PERIOD, fact=HUNDRED),
     ),
     (
         {("dimensions", "period"): "$when@start", ("parameters",): {"when": "2021-01-01T00:00:00"}},
         TABLE,
         "1, 1 NotDuration (38)",
-        "r/t1.csv, line 2, cell 1",
-        '"100" in cash (eg:Cash) of row r_1',
-        "the start or end of an instant is asked for",
-        '/dimensions/period: "$when@start"',
-        '/parameters/when: "2021-01-01T00:00:00"',
+        *elsewhere(
+            '/parameters/when: "2021-01-01T00:00:00"',
+            "the start or end of an instant is asked for",
+            fact=HUNDRED,
+            by=['/dimensions/period: "$when@start"'],
+        ),
     ),
     (
         {(*CASH, "decimals"): "$note"},
         TABLE,
         "1, 1 BadDecimals (39)",
-        "r/t1.csv, line 2, cell 1",
-        '"100" in cash (eg:Cash) of row r_1',
-        "decimals are neither a whole number of 32 bits nor INF",
-        f'{AT_CASH}/decimals: "$note"',
-        'r/t1.csv, line 2, cell 2: "first"',
+        *elsewhere(
+            'r/t1.csv, line 2, cell 2: "first"',
+            "decimals are neither a whole number of 32 bits nor INF",
+            fact=HUNDRED,
+            by=[f'{AT_CASH}/decimals: "$note"'],
+        ),
     ),
     (
         {},

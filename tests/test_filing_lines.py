@@ -389,6 +389,21 @@ class TestRuns(FilingTest):
             ),
             ("a place below a table's fault", f"{apart}  {place}\n", f"{apart}  {other}\n"),
             (
+                "a place with its text",
+                f'{apart}    {place}: "n: /~x"\n',
+                f'{apart}    {other}: "n: /~x"\n',
+            ),
+            (
+                "a place on the way to a fact",
+                f'{apart}    by {place}: "\\$p"\n    for "1" in /x of row 1: f.csv\n',
+                f'{apart}    by {other}: "$p"\n    for "1" in /x of row 1: f.csv\n',
+            ),
+            (
+                "the place of an earlier table's cause",
+                f"{apart}    the same cause as in table t.1: {place}: (nothing)\n",
+                f"{apart}    the same cause as in table t.1: {other}: (nothing)\n",
+            ),
+            (
                 "a place that is none",
                 f"{fault}  /none\n  x {place}\n{place}\n",
                 f"{fault}  /none\n  x {place}\n{place}\n{files}",

@@ -345,12 +345,15 @@ class TestRefused(Case):
         text = (self.tables / "parameters.csv").read_text()
         self.edit("parameters.csv", text.replace("2025Q3", "2025Q9"))
         done = self.convert("--explain", "--out", "o.json", status=1)
-        causes = [it.strip() for it in done.stderr.split("\n")[4:] if it.startswith("    ")]
+        causes = [it.strip() for it in done.stderr.split("\n") if it.startswith("    ")]
         said = [it.text() for it in self.top().all("pre")]
         self.assertTrue(said)
         for it in said[0].split("\n"):
             self.assertIn(it, causes)
         self.assertIn("parameters.csv, line 3, cell 2", said[0])
+        same = [it for it in said if it.startswith("the same cause as in table ")]
+        self.assertEqual(len(said), 1 + len(same))
+        self.assertEqual(len({it.sentence for it in shown_faults(self.top())}), 1)
         self.assertNotIn(str(self.temporary), self.page.read_text())
 
     def test_of_the_metadata(self) -> None:

@@ -1,6 +1,6 @@
 -- The place that an explanation gives for a table's fault: its file as a whole, or a line and a
 -- cell.
-use Rattle.std.specs.Prelude.{◌≡◌, ◌⊎◌, ◌≤◌, ℕ, List, Option, IfSome, length}
+use Rattle.std.specs.Prelude.{◌≡◌, ◌⊎◌, ◌≤◌, ℕ, List, Option, length}
 use Rattle.oim_files.specs.Folders.{Files}
 use Rattle.oim_report.specs.ReportValue.{ReportValue}
 use Rattle.oim_rows.specs.declared.fault.TableFault.{TableFault}
@@ -8,7 +8,6 @@ use Rattle.oim_places.specs.FaultPlaces.{HasFaultIn, IsTablePath, column_place}
 use Rattle.oim_places.specs.FilePlaces.{place_text}
 use Rattle.oim_places.specs.LineNumbers.{IsLineOf}
 use Rattle.oim_places.specs.Shown.{shown}
-use Rattle.oim_explain.specs.Explanations.{explanation_of}
 use Rattle.oim_explain.specs.declared.explanation.Explanation.{Explanation}
 
 -- The text names the fault's cell by its column, and its row by the line at which it begins in
@@ -25,8 +24,3 @@ ExplainsAt files path report f e = (e.place ≡ shown path) ⊎ HasFaultIn files
 -- explained at the metadata.
 abbrev pub ExplainsTable : Files → List ℕ → ReportValue → TableFault → Explanation → Type 0
 ExplainsTable files meta report f e = ((length report.tables ≤ f.table) × (e.place ≡ shown meta)) ⊎ ((path : List ℕ) × IsTablePath meta report f.table path × ExplainsAt files path report f e)
-
--- The text is an explanation of the fault of such a table. Its place is right if the files are
--- known.
-abbrev pub SaysOfTable : Option Files → List ℕ → ReportValue → TableFault → List ℕ → Type 0
-SaysOfTable known meta report f text = (e : Explanation) × (text ≡ explanation_of e) × IfSome known (λ files. ExplainsTable files meta report f e)

@@ -39,18 +39,20 @@ fn of_record<R: Read + Drop, F: Folder<R>>(
     let fault = bad.fault;
     let line = line_again(alloc, folder, path, fault.number);
     let mut cause = wrong_entry(file, &fault, &bad.row);
-    let mut sources = Items::new(alloc);
+    let mut advice = Items::new(alloc);
     if fault.problem == EntryProblem::CellCount {
         if let Some(opened) = unclosed_quote(alloc, folder, path, line)? {
             cause = UNCLOSED;
-            sources.push(opened)?;
+            advice.push(opened)?;
         }
     }
     Ok(Explanation {
         place: Text::new(place_in_file(alloc, path, line, fault.column)?),
         found: Text::new(entry_found(alloc, &fault, &bad.row)?),
+        source: None,
         cause,
-        sources,
+        advice,
+        path: Items::new(alloc),
     })
 }
 

@@ -1,7 +1,7 @@
 //! An explanation of a fault, and its lines.
 
 ghost use Rattle.std.specs.Prelude.{◌≡◌, IfOk, string_bytes};
-ghost use Rattle.oim_explain.specs.Explanations.{explanation_of, source_lines};
+ghost use Rattle.oim_explain.specs.Explanations.{explanation_of, lines_with};
 
 use oim_names::{Items, Text};
 use std::alloc::{AllocError, Global};
@@ -13,36 +13,53 @@ pub struct Explanation {
     pub place: Text,
     /// What is there.
     pub found: Text,
-    /// What is wrong with it, as a sentence without capital and full stop.
+    /// The place to mend and what is there, if it is another one: a cell of another column, a
+    /// parameter, a property of the metadata.
+    pub source: Option<Text>,
+    /// What is wrong there, as a sentence without capital and full stop.
     pub cause: &'static str,
-    /// The sources of the fault elsewhere, each with what is there, in the order in which they lead
-    /// to it: a cell that names a property group, a property of the metadata, a cell or a parameter
-    /// that it refers to. The last one may say what could be meant. Empty if the fault is only at
-    /// its own place and nothing more is known.
-    pub sources: Items<Text>,
+    /// What could be meant, or where a text begins that has no end.
+    pub advice: Items<Text>,
+    /// The places by which the source came to the fault, each with what is there: a cell that names
+    /// a property group, a property of the metadata that refers to the source.
+    pub path: Items<Text>,
 }
 
-/// Returns the lines of the sources.
-fn sources_text(alloc: Global, sources: &[Text]) -> Result<String, AllocError>
-    ensures { IfOk result (λ s. string_bytes s ≡ source_lines sources.now) }
+/// Returns a line for each text, with this before it.
+fn lines_text(alloc: Global, before: &str, texts: &[Text]) -> Result<String, AllocError>
+    ensures { IfOk result (λ s. string_bytes s ≡ lines_with before.now texts.now) }
 {
     let mut lines = String::new(alloc);
-    for source in sources {
-        let text = source.as_str();
-        lines.push_str(format!(in alloc; "    {text}\n")?.as_str())?;
+    for text in texts {
+        let text = text.as_str();
+        lines.push_str(format!(in alloc; "{before}{text}\n")?.as_str())?;
     }
     Ok(lines)
 }
 
-/// Returns the lines of an explanation, indented by four blanks, each with a line feed.
+/// Returns the lines of an explanation, indented by four blanks, each with a line feed. The first
+/// one names the place to mend.
 pub fn explanation_text(alloc: Global, explanation: &Explanation) -> Result<String, AllocError>
     ensures { IfOk result (λ s. string_bytes s ≡ explanation_of explanation.now) }
 {
     let place = explanation.place.as_str();
     let found = explanation.found.as_str();
     let cause = explanation.cause;
-    let mut lines = format!(in alloc; "    {place}\n    {found}\n    {cause}\n")?;
-    let sources = sources_text(alloc, explanation.sources.as_slice())?;
-    lines.push_str(sources.as_str())?;
+    let (mut lines, fact) = match &explanation.source {
+        None => {
+            let own = format!(in alloc; "    {place}\n    {found}\n    {cause}\n")?;
+            (own, String::new(alloc))
+        }
+        Some(source) => {
+            let source = source.as_str();
+            let first = format!(in alloc; "    {source}\n    {cause}\n")?;
+            (first, format!(in alloc; "    for {found}: {place}\n")?)
+        }
+    };
+    let advice = lines_text(alloc, "    ", explanation.advice.as_slice())?;
+    lines.push_str(advice.as_str())?;
+    lines.push_str(fact.as_str())?;
+    let path = lines_text(alloc, "    by ", explanation.path.as_slice())?;
+    lines.push_str(path.as_str())?;
     Ok(lines)
 }

@@ -1,6 +1,6 @@
 //! What is wrong with the cell of a fact, and where that comes from.
 
-use crate::forms::{form_of, wrong_period};
+use crate::forms::{PERIOD, form_of};
 use crate::groups::known_groups;
 use crate::levels::RowOfFault;
 use crate::numbers::wrong_numeral;
@@ -17,10 +17,12 @@ use std::io::Read;
 /// What is told of a record of a table's file.
 #[derive(Drop)]
 pub(crate) struct Told {
-    /// What is wrong with it.
+    /// The places elsewhere that lead to the fault. The last one is to be mended.
+    pub(crate) sources: Vec<Text>,
+    /// What is wrong there.
     pub(crate) cause: &'static str,
-    /// The lines after that.
-    pub(crate) more: Items<Text>,
+    /// What could be meant, or where a text begins that has no end.
+    pub(crate) advice: Items<Text>,
 }
 
 /// Returns the text that has a fault, by what causes it.
@@ -46,7 +48,7 @@ fn wrong_text(row: &RowOfFault<'_>, fault: CellFault, text: &str) -> Option<&'st
     match fault {
         CellFault::BadNumber => wrong_numeral(text),
         CellFault::UnknownSpecial if is_spreadsheet_error(text) => Some(SPREADSHEET_ERROR),
-        CellFault::BadPeriod => wrong_period(text),
+        CellFault::BadPeriod => Some(PERIOD),
         CellFault::BadFactValue => match read_concept(&row.again.report, row.concept()) {
             Ok(kind) => form_of(kind),
             Err(_) => None,
@@ -79,16 +81,21 @@ pub(crate) fn of_fact<R: Read + Drop, F: Folder<R>>(
 ) -> Result<Told, AllocError> {
     let origin = origin_of(alloc, row, fault)?;
     let text = faulty_text(row, origin);
-    let mut more = sources(alloc, folder, row, origin)?;
+    let sources = sources(alloc, folder, row, origin)?;
+    let mut advice = Items::new(alloc);
     if let (CellFault::UnknownGroup, Some(Origin::Groups(place))) = (fault, origin) {
         if let Some(column) = row.columns.get(place) {
-            more.push(known_groups(alloc, column, text)?)?;
+            advice.push(known_groups(alloc, column, text)?)?;
         }
     }
     let mut cause = wrong_text(row, fault, text).unwrap_or(fault.explanation());
     if let Some(line) = swallowing_quote(alloc, folder, row, text)? {
         cause = UNCLOSED;
-        more.push(line)?;
+        advice.push(line)?;
     }
-    Ok(Told { cause, more })
+    Ok(Told {
+        sources,
+        cause,
+        advice,
+    })
 }

@@ -20,8 +20,10 @@ pub(crate) fn of_file(
     Ok(Explanation {
         place: shown(alloc, path)?,
         found: Text::from_str(alloc, "(the whole file)")?,
+        source: None,
         cause,
-        sources: Items::new(alloc),
+        advice: Items::new(alloc),
+        path: Items::new(alloc),
     })
 }
 

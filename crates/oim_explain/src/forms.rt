@@ -12,6 +12,10 @@ const DATE: &str = "a date is written 2025-09-30, by year, month and day, and mu
 /// How a name is written.
 const NAME: &str = "a name has a prefix that namespaces declares, as in eg:North";
 
+/// How a period is written.
+pub(crate) const PERIOD: &str =
+    "a period is written 2025Q3, 2025-09, 2025-09-30 or 2025-07-01..2025-09-30, and must exist";
+
 /// Returns how a date or a time of this form is written.
 fn of_date(form: DateForm) -> &'static str {
     match form {
@@ -58,35 +62,5 @@ pub(crate) fn form_of(kind: Kind) -> Option<&'static str> {
             },
         ) => Some(NAME),
         _ => None,
-    }
-}
-
-/// Returns whether a text has the digits and marks of a date in another form than that of the
-/// standard: `30.09.2025`, `9/30/2025`, `30-09-2025`.
-fn is_other_date(text: &str) -> bool {
-    let mut digits = 0u32;
-    let mut marks = 0u32;
-    let mut before = 0u32;
-    for c in text.chars() {
-        match c {
-            '0'..='9' => digits = digits.saturating_add(1),
-            '.' | '/' => marks = marks.saturating_add(1),
-            '-' if marks == 0 => {
-                before = digits;
-                marks = 1;
-            }
-            '-' | ' ' | ':' => {}
-            _ => return false,
-        }
-    }
-    digits > 3 && (marks > 1 || (marks == 1 && before < 3)) && text.split_once("..").is_none()
-}
-
-/// Returns what is wrong with the text of a period, or `None` if it is only known not to be one.
-pub(crate) fn wrong_period(text: &str) -> Option<&'static str> {
-    if is_other_date(text) {
-        Some("write a date as 2025-09-30, a period as 2025Q3, 2025-09 or 2025-07-01..2025-09-30")
-    } else {
-        None
     }
 }

@@ -6,17 +6,16 @@
 //! - `explain_metadata` names the place of the finding that it is given
 //!   (`specs/Explanations.antt`). That of a run is the first, by the contract of
 //!   `oim_files::report_of`;
-//! - over a folder whose files are known, `explain_table` and `explained_fault` name a place in a
-//!   table's file only if the file's first fault is that fault, by the definition of the table's
-//!   stream. They give the line of the fault's record, if that is known, and its column
-//!   (`specs/TablePlaces.antt`);
+//! - over a folder whose files are known, `explained_fault` names a place in a table's file only if
+//!   the file's first fault is that fault, by the definition of the table's stream. It gives the
+//!   line of the fault's record, if that is known, and its column (`specs/TablePlaces.antt`);
 //! - `explanation_text` gives all lines of an explanation.
 //!
 //! It exports what `oim_places` has for the place of a fault and for the file of faults.
 //!
 //! Not proved, but tested: the sentences, what an explanation shows at a place, the sources of a
-//! fault and what could be meant, explanations of a types table and a parameters file, and all of
-//! `explain_report` and `report_explanation`.
+//! fault and what could be meant, explanations of a types table and a parameters file, all of
+//! `explain_report` and `report_explanation`, and how a cause of several tables is told.
 //!
 //! A call, which returns whether the fault of a metadata without a document type is explained at
 //! the missing key:
@@ -51,6 +50,7 @@ mod nearest;
 mod numbers;
 mod quotes;
 mod rows;
+mod shared_causes;
 mod sources;
 mod spreadsheet;
 mod tables;
@@ -62,4 +62,5 @@ pub use oim_places::{
     FaultPlace, ReportAgain, fault_header, fault_place, fault_row, lines_are_of_records,
     report_again, report_fault_row, shown,
 };
-pub use tables::{ExplainedFault, explain_table, explained_fault};
+pub use shared_causes::{MOST_TABLES, explained_faults, lines_below};
+pub use tables::{ExplainedFault, explained_fault};

@@ -109,7 +109,9 @@ pub fn explain_metadata(
     Ok(Explanation {
         place,
         found: Text::new(found),
+        source: None,
         cause,
-        sources: Items::new(alloc),
+        advice: Items::new(alloc),
+        path: Items::new(alloc),
     })
 }

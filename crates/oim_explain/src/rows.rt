@@ -14,11 +14,16 @@ use std::io::Read;
 
 /// Returns this cause with a line after it, if there is one.
 fn told(alloc: Global, cause: &'static str, line: Option<Text>) -> Result<Told, AllocError> {
-    let mut more = Items::new(alloc);
+    let mut advice = Items::new(alloc);
     if let Some(line) = line {
-        more.push(line)?;
+        advice.push(line)?;
     }
-    Ok(Told { cause, more })
+    let sources = Vec::new(alloc);
+    Ok(Told {
+        sources,
+        cause,
+        advice,
+    })
 }
 
 /// Returns what is told of a fault of the header.

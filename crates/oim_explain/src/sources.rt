@@ -4,7 +4,7 @@
 use crate::levels::{RowOfFault, Writer, text_of};
 use oim_files::{Folder, path_in};
 use oim_meta::{Kind, Written, WrittenDecimals};
-use oim_names::{Items, Text};
+use oim_names::Text;
 use oim_places::{
     ReportAgain, cell_shown, first_record_with, line_again, place_in_file, pointer_to, quoted,
     standing,
@@ -97,7 +97,7 @@ pub(crate) fn origin_of<'r>(
 struct Lines<'r, 's> {
     alloc: Global,
     row: &'s RowOfFault<'r>,
-    lines: Items<Text>,
+    lines: Vec<Text>,
 }
 
 impl<'r, 's> Lines<'r, 's> {
@@ -135,7 +135,7 @@ impl<'r, 's> Lines<'r, 's> {
     /// could write what is missing.
     fn put_cells_without_group(&mut self) -> Result<(), AllocError> {
         let row = self.row;
-        for place in row.from() {
+        for place in row.from().iter().rev() {
             if row.names_no_group(*place) {
                 self.put_cell_or_none(row.column_id(*place))?;
             }
@@ -238,15 +238,15 @@ fn put_referred<R: Read + Drop, F: Folder<R>>(
 }
 
 /// Writes the places of a dimension's value. If nothing writes it, the cells that name no property
-/// group are first.
+/// group are last: the first of these is to be mended.
 fn put_dimension<R: Read + Drop, F: Folder<R>>(
     lines: &mut Lines<'_, '_>,
     folder: &mut F,
     name: &str,
 ) -> Result<(), AllocError> {
     let Some((writer, written)) = lines.row.written(name) else {
-        lines.put_cells_without_group()?;
-        return lines.put_property(Writer::Column, &["dimensions", name]);
+        lines.put_property(Writer::Column, &["dimensions", name])?;
+        return lines.put_cells_without_group();
     };
     lines.put_property(writer, &["dimensions", name])?;
     match written {
@@ -270,17 +270,18 @@ fn put_decimals<R: Read + Drop, F: Folder<R>>(
     }
 }
 
-/// Returns the sources of a cell's fault by what causes it, each with what is there.
+/// Returns the places elsewhere that lead to a cell's fault, each with what is there. The last one
+/// is to be mended.
 pub(crate) fn sources<R: Read + Drop, F: Folder<R>>(
     alloc: Global,
     folder: &mut F,
     row: &RowOfFault<'_>,
     origin: Option<Origin<'_>>,
-) -> Result<Items<Text>, AllocError> {
+) -> Result<Vec<Text>, AllocError> {
     let mut lines = Lines {
         alloc,
         row,
-        lines: Items::new(alloc),
+        lines: Vec::new(alloc),
     };
     match origin {
         None => {}

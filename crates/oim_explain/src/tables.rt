@@ -1,11 +1,11 @@
 //! The explanation of a table's fault.
 
-ghost use Rattle.std.specs.Prelude.{◌≡◌, ◌⊎◌, ◌<◌, IfOk, IfSome, length, string_bytes};
+ghost use Rattle.std.specs.Prelude.{◌≡◌, ◌⊎◌, ◌<◌, IfOk, IfSome, length};
 ghost use Rattle.oim_places.specs.FaultPlaces.{IsPlaceAt, IsPlaceOf, column_place, unknown_place};
 ghost use Rattle.oim_places.specs.FilePlaces.{place_text};
-ghost use Rattle.oim_explain.specs.TablePlaces.{ExplainsAt, ExplainsTable, SaysOfTable};
+ghost use Rattle.oim_explain.specs.TablePlaces.{ExplainsAt, ExplainsTable};
 
-use crate::explanation::{Explanation, explanation_text};
+use crate::explanation::Explanation;
 use crate::facts::{Told, of_fact};
 use crate::files::{changed, of_file};
 use crate::levels::{RowOfFault, place_of_text};
@@ -13,7 +13,7 @@ use crate::rows::of_record;
 use csv::ByteRecord;
 use oim_files::{Folder, folder_of};
 use oim_meta::{Level, Report, Written};
-use oim_names::{Text, find};
+use oim_names::{Items, Text, find};
 use oim_places::{
     FaultPlace, FaultRecord, ReportAgain, RowAgain, cell_shown, excerpt, fault_record,
     first_record_with, is_of_file, line_again, place_in_file, place_in_record, record_shown,
@@ -248,12 +248,19 @@ fn at_record<R: Read + Drop, F: Folder<R>>(
     let found = found_in(alloc, &table.again.report, fault, cells)?;
     let found = with_first_line(alloc, folder, table.path, fault, cells, found)?;
     let told = told_of(alloc, folder, table, fault, cells, line)?;
-    let Told { cause, more } = told;
+    let Told {
+        mut sources,
+        cause,
+        advice,
+    } = told;
+    let source = sources.pop();
     Ok(Explanation {
         place: Text::new(place_in_file(alloc, table.path, line, place_in_record(fault))?),
         found: Text::new(found),
+        source,
         cause,
-        sources: more,
+        advice,
+        path: Items::from_vec(sources),
     })
 }
 
@@ -345,23 +352,4 @@ pub fn explained_fault<R: Read + Drop, F: Folder<R>>(
         path: path.as_str(),
     };
     at_path(alloc, folder, table, fault)
-}
-
-/// Returns the lines that explain the fault of a table of this report, whose metadata is at `meta`.
-/// The table's file is read again.
-///
-/// There are three lines, indented by four blanks, each with a line feed, and a line for each
-/// source elsewhere. If the file no longer has the fault or cannot be read again, they are about
-/// that.
-pub fn explain_table<R: Read + Drop, F: Folder<R>>(
-    alloc: Global,
-    meta: &str,
-    folder: &mut F,
-    again: &ReportAgain,
-    fault: &TableFault,
-) -> Result<String, AllocError>
-    ensures { IfOk result (λ s. SaysOfTable (F.files folder.old) meta.now again.now.report fault.now (string_bytes s)) }
-{
-    let explained = explained_fault(alloc, meta, folder, again, fault)?;
-    explanation_text(alloc, &explained.explanation)
 }

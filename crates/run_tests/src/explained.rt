@@ -6,9 +6,9 @@ use oim_names::{Items, Text};
 use oim_rows::{TableFault, TableKind};
 use oim_run::{
     ExplainedFault, Explanation, FaultPlace, METADATA, ReportAgain, Source, TYPES, Texts,
-    explain_metadata, explain_table, explained_fault, explanation_text, fault_header, fault_place,
-    fault_row, lines_are_of_records, report_again, report_explanation, report_fault_row,
-    table_line,
+    explain_metadata, explained_fault, explained_faults, explanation_text, fault_header,
+    fault_place, fault_row, lines_are_of_records, lines_below, report_again, report_explanation,
+    report_fault_row, table_line,
 };
 use std::alloc::{AllocError, Global};
 
@@ -140,6 +140,21 @@ fn explains_at_once(alloc: Global, folder: &mut Texts<'_>, again: &ReportAgain) 
     }
 }
 
+/// Returns whether two tables with one cause have it told once.
+fn tells_once(alloc: Global, folder: &mut Texts<'_>, again: &ReportAgain) -> bool {
+    let (Ok(one), Ok(two)) = (Text::from_str(alloc, "t1"), Text::from_str(alloc, "t2")) else {
+        return false;
+    };
+    let tables = [(one, FAULT), (two, FAULT)];
+    let Ok(told) = explained_faults(alloc, "m.json", folder, again, &tables) else {
+        return false;
+    };
+    match lines_below(alloc, &tables, told.as_slice(), 1) {
+        Ok(line) => line.as_str() == "    the same cause as in table t1: t1.csv, line 2, cell 1\n",
+        Err(_) => false,
+    }
+}
+
 /// Returns whether it is explained over a folder, and has a record with its place.
 fn explains_a_table(alloc: Global) -> bool {
     let files = [
@@ -150,7 +165,7 @@ fn explains_a_table(alloc: Global) -> bool {
     let folder = &mut Texts { files: &files };
     match report_again(alloc, "m.json", "t.csv", folder) {
         Ok(again) => {
-            explain_table(alloc, "m.json", folder, &again, &FAULT).is_ok()
+            tells_once(alloc, folder, &again)
                 && is_written_with_its_place(alloc, folder, &again)
                 && explains_at_once(alloc, folder, &again)
         }

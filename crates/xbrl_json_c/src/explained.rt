@@ -6,14 +6,11 @@ use oim_meta::Finding;
 use oim_names::Text;
 use oim_rows::TableFault;
 use oim_run::{
-    EarlyFault, Explanation, FaultPlace, Outcome, ReportAgain, Source, explain_table,
-    explanation_text, fault_header, fault_place, fault_row, line, report_again, report_explanation,
-    report_fault_row, status, table_line,
+    EarlyFault, Explanation, FaultPlace, MOST_TABLES, Outcome, ReportAgain, Source,
+    explained_faults, explanation_text, fault_header, fault_place, fault_row, line, lines_below,
+    report_again, report_explanation, report_fault_row, status, table_line,
 };
 use std::alloc::{AllocError, Global};
-
-/// How many refused tables are explained.
-const MOST_TABLES: usize = 100;
 
 /// The line after a fault if the files give no report when they are read again.
 const CHANGED: &str = "    the report cannot be read again, or has changed\n";
@@ -42,36 +39,25 @@ fn put_record(to: &mut Vec<u8>, record: Result<Vec<u8>, AllocError>) -> Result<(
     }
 }
 
-/// Appends the explanation of the fault of a table.
-fn put_explanation(
-    alloc: Global,
-    mut files: Files<'_>,
-    meta: &str,
-    again: &Result<ReportAgain, EarlyFault>,
-    fault: &TableFault,
-    to: &mut Vec<u8>,
-) -> Result<(), AllocError> {
-    match again {
-        Ok(again) => put(to, explain_table(alloc, meta, &mut files, again, fault)),
-        Err(_) => to.extend_from_slice(CHANGED.as_bytes()),
-    }
-}
-
-/// Appends the line of each refused table, and after each of the first 100 its explanation.
+/// Appends the line of each refused table, and after each of the first 100 what is told of it.
 fn put_tables(
     alloc: Global,
-    files: Files<'_>,
+    mut files: Files<'_>,
     meta: &str,
     again: &Result<ReportAgain, EarlyFault>,
     tables: &[(Text, TableFault)],
     to: &mut Vec<u8>,
 ) -> Result<(), AllocError> {
-    let mut explained = 0;
-    for (id, fault) in tables {
+    let told = match again {
+        Ok(again) => explained_faults(alloc, meta, &mut files, again, tables)?,
+        Err(_) => Vec::new(alloc),
+    };
+    for (index, (id, fault)) in tables.iter().enumerate() {
         put(to, table_line(alloc, id.as_str(), fault))?;
-        if explained < MOST_TABLES {
-            put_explanation(alloc, files, meta, again, fault, to)?;
-            explained += 1;
+        if index < told.len() {
+            put(to, lines_below(alloc, tables, told.as_slice(), index))?;
+        } else if index < MOST_TABLES {
+            to.extend_from_slice(CHANGED.as_bytes())?;
         }
     }
     Ok(())

@@ -11,17 +11,18 @@ use oim_meta::{Finding, MetaFault};
 use oim_names::Text;
 use oim_rows::TableFault;
 use oim_run::{
-    EarlyFault, ExplainedFault, Explanation, FaultPlace, Outcome, ReportAgain, Settings, Source,
-    explained_fault, explanation_text, report_again, report_explanation, shown, table_line,
+    EarlyFault, ExplainedFault, Explanation, MOST_TABLES, Outcome, ReportAgain, Settings, Source,
+    explained_faults, explanation_text, lines_below, report_again, report_explanation, shown,
+    table_line,
 };
 use std::alloc::{AllocError, Global};
 use std::fs;
 
-/// The number of refused tables that are explained.
-const MOST_TABLES: usize = 100;
-
 /// What is printed below a metadata that is a folder.
 const OF_FOLDER: &str = "    if this folder is a filing, convert it with xbrl-filing\n";
+
+/// What is printed if the files give no report any more.
+const CHANGED: &str = "    the report cannot be read again, or has changed\n";
 
 /// What is printed if memory runs out for an explanation.
 const NO_MEMORY: &str = "    memory ran out for an explanation\n";
@@ -42,8 +43,8 @@ pub enum Known {
 pub struct KnownTables {
     /// The report, or why it cannot be read again.
     pub report: Result<ReportAgain, EarlyFault>,
-    /// The places of the faults of the first tables.
-    pub places: Vec<FaultPlace>,
+    /// What was found out about the faults of the first tables.
+    pub told: Vec<ExplainedFault>,
 }
 
 impl KnownTables {
@@ -52,14 +53,7 @@ impl KnownTables {
         let (meta, types) = (settings.meta.as_str(), settings.types.as_str());
         KnownTables {
             report: report_again(alloc, meta, types, files),
-            places: Vec::new(alloc),
-        }
-    }
-
-    /// Keeps the place of the fault of the table at this index, if those before it are kept.
-    fn keep(&mut self, index: usize, place: FaultPlace) {
-        if self.places.len() == index {
-            let _ = self.places.push(place);
+            told: Vec::new(alloc),
         }
     }
 }
@@ -175,37 +169,6 @@ impl<'a> Explainer<'a> {
         Known::Nothing
     }
 
-    /// Prints the explanation of a table's fault, given the report as read again. Returns the place
-    /// of the fault, unless memory runs out.
-    fn explain_again(
-        &self,
-        files: &mut FilesAgain<'_>,
-        report: &Result<ReportAgain, EarlyFault>,
-        fault: &TableFault,
-    ) -> Option<FaultPlace> {
-        let Ok(report) = report else {
-            let _ = self
-                .rt
-                .eprint("    the report cannot be read again, or has changed\n");
-            return None;
-        };
-        let meta = self.settings.meta.as_str();
-        match explained_fault(self.alloc, meta, files, report, fault) {
-            Ok(explained) => {
-                self.print(explanation_text(self.alloc, &explained.explanation));
-                let ExplainedFault {
-                    explanation: _,
-                    place,
-                } = explained;
-                Some(place)
-            }
-            Err(_) => {
-                let _ = self.rt.eprint(NO_MEMORY);
-                None
-            }
-        }
-    }
-
     /// Prints the line of a refused table, unless memory runs out for it.
     fn print_line(&self, id: &str, fault: &TableFault) {
         if let Ok(line) = table_line(self.alloc, id, fault) {
@@ -213,20 +176,28 @@ impl<'a> Explainer<'a> {
         }
     }
 
-    /// Prints the line of each refused table, with the explanation of each of the first
-    /// `MOST_TABLES`. Returns what it found out.
+    /// Prints the line of each refused table, with what is told of each of the first `MOST_TABLES`.
+    /// Returns what it found out.
     fn explain_each(
         &self,
         files: &mut FilesAgain<'_>,
         tables: &[(Text, TableFault)],
     ) -> KnownTables {
         let mut known = KnownTables::read(self.alloc, self.settings, files);
+        if let Ok(report) = &known.report {
+            let meta = self.settings.meta.as_str();
+            if let Ok(told) = explained_faults(self.alloc, meta, files, report, tables) {
+                known.told = told;
+            }
+        }
         for (index, (id, fault)) in tables.iter().enumerate() {
             self.print_line(id.as_str(), fault);
-            if index < MOST_TABLES {
-                if let Some(place) = self.explain_again(files, &known.report, fault) {
-                    known.keep(index, place);
-                }
+            let told = known.told.as_slice();
+            if index < told.len() {
+                self.print(lines_below(self.alloc, tables, told, index));
+            } else if index < MOST_TABLES {
+                let is_read = known.report.is_ok();
+                let _ = self.rt.eprint(if is_read { NO_MEMORY } else { CHANGED });
             }
         }
         known

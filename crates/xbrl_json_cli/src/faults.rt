@@ -84,8 +84,8 @@ fn write_each<W: Write>(
 ) -> io::Result<()> {
     for (index, (id, fault)) in tables.iter().enumerate() {
         let id = id.as_str();
-        let row = match known.places.get(index) {
-            Some(place) => fault_row(alloc, id, fault, place)?,
+        let row = match known.told.get(index) {
+            Some(told) => fault_row(alloc, id, fault, &told.place)?,
             None => row_again(alloc, meta, files, &known.report, id, fault)?,
         };
         to.write_all(row.as_slice())?;
