@@ -19,10 +19,10 @@ from .batch_words import Batch, read_batch
 from .converter_program import require_counts, version_of
 from .cache import digests_of_program
 from .digests import digest_of
-from .kept_module import hold
+from .kept_module import Holding
 from .many_summaries import ManySummaries
 from .marked_output import OTHER, PAGE, SUMMARY, check_inputs, check_place
-from .one_report import KEPT, Paths, Task, Told, begin, read_told
+from .one_report import KEPT, Convert, Paths, Task, Told, begin, read_told
 from .nested import open_taxonomies
 from .outcomes import (
     BUSY,
@@ -41,7 +41,7 @@ from .outcomes import (
     write_outcome,
 )
 from .outputs import same_file, stands_in
-from .packages import Package
+from .packages import Opened, Package
 from .page_index import Listed, write_index
 from .progress import Progress
 from .refusals import FILES, WORDS, Refusal, cannot_write, printable
@@ -51,7 +51,6 @@ from .sums import sum_of
 GRACE = 5.0  # seconds from the asking of a process to end until it is made to
 SHOWN_EVERY = 0.5  # seconds between two lines of progress
 OWN_CACHE = ".cache"
-Convert = Callable[[List[str]], int]
 Tell = Callable[[str], None]
 
 
@@ -70,13 +69,13 @@ class Running:
 def run_batch(
     words: List[str],
     program: str,
-    convert: Callable[[List[str], List[Package]], int],
+    convert: Callable[[List[str], Opened], int],
     progress: Progress,
     stopping: Stopping,
 ) -> int:
     """Convert all reports of a command line, and return the status of the run.
 
-    `convert` runs the command for one report, over the taxonomy that is open. Each report that is
+    `convert` runs the command for one report, over packages that are open. Each report that is
     not converted has a line on standard error, and the last line counts.
     """
     batch = read_batch(words)
@@ -92,9 +91,8 @@ def run_batch(
         place = temporary_folder(temporary_place(), "xbrl-filing-", stopping)
         folder = at_end.enter_context(place)
         outcomes = OutcomeFile(batch.outcomes)
-        crew = Crew(
-            batch, program, common, folder, lambda given: convert(given, taxonomy), progress, outcomes
-        )
+        over = lambda words, report: convert(words, Opened(report, taxonomy))  # noqa: E731
+        crew = Crew(batch, program, common, folder, over, progress, outcomes)
         gc.collect()
         gc.freeze()  # so that a report's process does not copy pages only to look for garbage
         with woken_by_signals() as woken:
@@ -186,6 +184,7 @@ class Crew:
         self.program = program
         self.summaries = ManySummaries(batch.summary)
         self.convert, self.progress, self.outcomes = convert, progress, outcomes
+        self.holding = Holding()  # modules, for all later reports
         self.running: Dict[int, Running] = {}
         self.words: Counted[str] = Counter()
         self.listed: List[Listed] = []
@@ -273,7 +272,7 @@ class Crew:
                 del self.running[running.process]
                 told = read_told(running.pipe)
                 if told.module and self.batch.memory_limit is None:
-                    hold(told.module)  # for all later reports; it would count for their limit
+                    self.holding.hold(told.module)  # it would count for a limit of each report
                 os.close(running.pipe)
                 shutil.rmtree(running.task.temporary, ignore_errors=True)
                 with suppress(OSError):

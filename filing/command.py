@@ -33,13 +33,13 @@ from .named_members import with_named_members
 from .nested import open_taxonomy
 from .origins import Origins
 from .outputs import claim_outputs, refuse_outputs
-from .packages import Package, open_package
+from .packages import Opened, Package, open_package
 from .page_lines import KeptLines
 from .page_run import ListPage, write_refusal_page, write_run_page
 from .parameter_list import parameter_list
 from .parameters import check_parameters, check_references, require_parameters
 from .prefixes import Renaming, lost_prefixes
-from .prepared import META, TYPES, Files, Written, move_into, write_files
+from .prepared import META, TYPES, Files, TypesTable, Written, move_into, write_files
 from .progress import Progress
 from .refusals import FILES, WRONG, Refusal, cannot_write, printable, wrong
 from .report import find_report, report_by_itself
@@ -70,7 +70,7 @@ DEBUG = "XBRL_FILING_DEBUG"  # 1 lets the traceback of a fault of this program t
 NO_MEMORY = "there is not enough memory"
 
 
-def main(words: List[str], program: str, taxonomy: Optional[List[Package]] = None) -> int:
+def main(words: List[str], program: str, opened: Optional[Opened] = None) -> int:
     """Run the command, and return the status. `program` is the path of xbrl-json.
 
     A run over many reports opens the packages of the taxonomy once, and gives them.
@@ -78,7 +78,7 @@ def main(words: List[str], program: str, taxonomy: Optional[List[Package]] = Non
     progress, stopping = Progress(), Stopping()
     try:
         stopping.heed()
-        status, line = attempt(words, program, progress, stopping, taxonomy)
+        status, line = attempt(words, program, progress, stopping, opened)
         progress.clear()
         if line:
             tell(f"{NAME}: {printable(line)}")
@@ -96,7 +96,7 @@ def attempt(
     program: str,
     progress: Progress,
     stopping: Stopping,
-    taxonomy: Optional[List[Package]] = None,
+    opened: Optional[Opened] = None,
 ) -> Tuple[int, str]:
     """Return the status of a run, and the line that says why it ended early, if it did."""
     try:
@@ -106,11 +106,11 @@ def attempt(
         if wanted is not None:
             return run_program([program, wanted], stopping), ""
         if is_of_many(words):
-            convert = lambda given, opened: main(given, program, opened)  # noqa: E731
+            convert = lambda given, packages: main(given, program, packages)  # noqa: E731
             return run_batch(words, program, convert, progress, stopping), ""
         settings, began = read_words(words), time.monotonic()
         try:
-            return run(settings, program, progress, stopping, taxonomy), ""
+            return run(settings, program, progress, stopping, opened), ""
         except Refusal as refusal:
             record_refusal(settings, refusal)
             write_refusal_page(settings, refusal)
@@ -161,7 +161,7 @@ class Run:
     progress: Progress
     stopping: Stopping
     began: float  # by the clock of time.monotonic
-    taxonomy: Optional[List[Package]]  # if it is open already
+    opened: Optional[Opened]
 
 
 def run(
@@ -169,13 +169,13 @@ def run(
     program: str,
     progress: Progress,
     stopping: Stopping,
-    taxonomy: Optional[List[Package]] = None,
+    opened: Optional[Opened] = None,
 ) -> int:
     """Make the two plain files and run xbrl-json over them, or print parameters or faults.
 
     With `--prepare` the files go into its folder, else into a temporary one. Return the status.
     """
-    here = Run(settings, program, progress, stopping, time.monotonic(), taxonomy)
+    here = Run(settings, program, progress, stopping, time.monotonic(), opened)
     check_asked(settings)
     if settings.summary is not None:
         require_counts(program)
@@ -194,10 +194,9 @@ def run(
 def run_opened(here: Run, open_packages: ExitStack) -> int:
     """Run over packages, which `open_packages` closes later."""
     settings, progress, stopping = here.settings, here.progress, here.stopping
-    report, packages = open_inputs(settings, here.taxonomy)
-    for package in packages:
-        if package not in (here.taxonomy or ()):
-            open_packages.callback(package.close)
+    report, packages = open_inputs(settings, here.opened)
+    for package in packages if here.opened is None else ():
+        open_packages.callback(package.close)
     refuse_outputs(settings, packages, None)
     with stopping.held():
         claim_outputs(settings, open_packages)
@@ -340,16 +339,17 @@ def tell_parameters(report: Found, packages: List[Package], progress: Progress) 
 
 
 def open_inputs(
-    settings: Settings, taxonomy: Optional[List[Package]] = None
+    settings: Settings, opened: Optional[Opened] = None
 ) -> Tuple[Found, List[Package]]:
-    """Return the report's own file, and all packages; those of the taxonomy may be open already.
+    """Return the report's own file, and all packages, which may be open already.
 
     The packages are in the order in which their catalogs count.
     """
-    package = open_package(settings.report, settings.limit)
-    packages = list(taxonomy or ())
-    if taxonomy is None:
+    if opened is None:
+        package = open_package(settings.report, settings.limit)
         packages = [package for label in settings.taxonomy for package in open_taxonomy(label, settings.limit)]
+    else:
+        package, packages = opened.report, list(opened.taxonomy)
     if package is None:
         return report_by_itself(settings.report), packages
     return find_report(package), [package, *packages]
@@ -418,7 +418,8 @@ def join_anew(
     places = member_places(merged.value, unread_prefixes(namespaces, kinds), kind)
     with_members = not takes_unread(places, merged, files)
     types = types_table(kinds, namespaces.values(), with_members)
-    return origins, files, with_types_of_dates(types, date_places(merged.value, kind), files)
+    chosen = with_types_of_dates(types, date_places(merged.value, kind), files)
+    return origins, files, TypesTable(chosen)
 
 
 def namespaces_of(chain: Chain) -> Dict[str, str]:

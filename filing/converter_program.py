@@ -13,6 +13,7 @@ EXPLAIN, NO_EXPLAIN = "--explain", "--no-explain"
 LONGEST_HELP = 60.0  # seconds; a program that prints no help by then has no options
 
 
+@lru_cache(maxsize=None)
 def version_of(program: str) -> str:
     """Return the version of xbrl-json. Refuse one that does not run."""
     try:

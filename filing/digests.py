@@ -6,7 +6,9 @@ They are BLAKE2b, block by block, on several threads.
 from __future__ import annotations
 
 import hashlib
+import mmap
 import os
+import resource
 import time
 from contextlib import suppress
 from itertools import count
@@ -104,11 +106,14 @@ class Blocks:
         """Work through all blocks, on this thread and on others.
 
         There is a thread for each processor, up to `MOST_THREADS`, or as many as the system gives.
+        With a limit of memory there is only this one: Python waits for ever for a thread that has
+        no memory to begin.
         """
         threads: List[Thread] = []
+        most = 1 if has_memory_limit() else MOST_THREADS
         try:
             with suppress(RuntimeError):  # the system gives no more threads
-                for _ in range(min(MOST_THREADS, processors(), len(self.places)) - 1):
+                for _ in range(min(most, processors(), len(self.places)) - 1):
                     thread = Thread(target=self.help)
                     thread.start()
                     threads.append(thread)
@@ -127,7 +132,7 @@ class Blocks:
 
     def work(self) -> None:
         """Digest one block after the other, until no more are left."""
-        room = memoryview(bytearray(BLOCK))
+        room = room_of_block()
         for turn in self.turns:
             if self.stopped or turn >= len(self.places):
                 return
@@ -149,6 +154,20 @@ class Blocks:
             return digest_of(room[:filled])
         finally:
             os.close(file)
+
+
+def room_of_block() -> memoryview:
+    """Return room for a block, of which only what is filled takes memory."""
+    try:
+        return memoryview(mmap.mmap(-1, BLOCK))
+    except OSError:
+        raise MemoryError from None
+
+
+def has_memory_limit() -> bool:
+    """Return whether the system refuses this run memory above a limit."""
+    limits = (resource.getrlimit(kind) for kind in (resource.RLIMIT_AS, resource.RLIMIT_DATA))
+    return any(soft != resource.RLIM_INFINITY for soft, _ in limits)
 
 
 def processors() -> int:

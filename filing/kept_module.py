@@ -11,10 +11,12 @@ that way has lines and refusals of its own.
 
 from __future__ import annotations
 
+import gc
 import json
 import os
 from contextlib import contextmanager, suppress
 from dataclasses import dataclass, field, replace
+from functools import lru_cache
 from typing import Any, Callable, Dict, Iterator, List, Mapping, NamedTuple, Optional, Set, Tuple
 
 from .cache import key_of
@@ -39,7 +41,7 @@ from .parameters import (
     require_parameters,
 )
 from .prefixes import Renaming
-from .prepared import Files
+from .prepared import Files, TypesTable
 from .refusals import Refusal
 from .strict_json import Json, Object, Values
 from .types_table import types_table
@@ -50,7 +52,7 @@ INFO_OF_THE_MODULE = ("namespaces", "taxonomy", "baseURL", "final")
 # What both may give.
 OF_BOTH = ("parameters", "parameterURL")
 TYPES_BLOCK = "types"
-Joined = Tuple[Origins, Files, bytes]
+Joined = Tuple[Origins, Files, TypesTable]
 
 
 class Block(NamedTuple):
@@ -90,16 +92,26 @@ class KeptMerged(Merged):
 
     texts: Mapping[str, bytes] = field(default_factory=dict)
 
-    def text(self) -> bytes:
-        """Return the bytes that the metadata would have if the templates were values."""
-        members = [b"%b:%b" % (compact(name), self.member(name)) for name in sorted(self.value)]
-        return b"{" + b",".join(members) + b"}\n"
+    def pieces(self) -> Iterator[bytes]:
+        """Yield the bytes that the metadata would have if the templates were values."""
+        yield from pieces_of_object({name: self.member(name) for name in sorted(self.value)})
+        yield b"\n"
 
-    def member(self, name: str) -> bytes:
-        if name != "tableTemplates":
-            return compact(self.value[name])
-        templates = sorted(self.value[name])
-        return b"{" + b",".join(b"%b:%b" % (compact(name), self.texts[name]) for name in templates) + b"}"
+    def member(self, name: str) -> Iterator[bytes]:
+        if name == "tableTemplates":
+            templates = sorted(self.value[name])
+            return pieces_of_object({name: iter([self.texts[name]]) for name in templates})
+        return iter([compact(self.value[name])])
+
+
+def pieces_of_object(members: Mapping[str, Iterator[bytes]]) -> Iterator[bytes]:
+    """Yield the bytes of an object, without a copy of those of its members."""
+    mark = b"{"
+    for name, pieces in members.items():
+        yield mark + compact(name) + b":"
+        yield from pieces
+        mark = b","
+    yield b"}" if members else b"{}"
 
 
 class KeptOrigins(Origins):
@@ -158,7 +170,7 @@ class ModuleCache:
         if self.key is None:
             return None
         try:
-            with entry_at(self.path()) as (module, text_of):
+            with entry_at(self.path()) as (module, text_of, types_file):
                 if any(part in module.final for part in OF_BOTH if part in self.own.value):
                     return None
                 files = Files.of(self.report, self.merged(module)).without_absent()
@@ -167,7 +179,9 @@ class ModuleCache:
                 used_templates = files.merged.value.get("tableTemplates", {})
                 blocks = {name: module.templates[name] for name in used_templates}
                 texts = {name: text_of(block) for name, block in blocks.items()}
-                types = with_types_of_dates(text_of(module.types), module.dates, files)
+                kept = text_of(module.types)
+                chosen = with_types_of_dates(kept, module.dates, files)
+                types = TypesTable(chosen, types_file if chosen == kept else None)
         except (OSError, ValueError, LookupError, TypeError, RecursionError, Refusal):
             return None
         used(self.path())
@@ -299,6 +313,7 @@ def faulty_templates(
     None if one is at the metadata's top, so that all reports would be refused.
     """
 
+    @lru_cache(maxsize=None)
     def kind(name: str) -> Optional[str]:
         return kind_of(name, namespaces, kinds)
 
@@ -332,7 +347,7 @@ def sketch_of_column(column: Json) -> Json:
         groups: Dict[str, Json] = {}
         for _, group in objects(column, "propertyGroups"):
             kept = level(group)
-            groups.setdefault(json.dumps(kept, sort_keys=True), kept)
+            groups.setdefault(repr(kept), kept)
         made["propertyGroups"] = {str(at): level for at, level in enumerate(groups.values())}
     return made
 
@@ -356,44 +371,72 @@ def looked_at(dimensions: Object) -> Iterator[Tuple[str, Json]]:
             yield key, text
 
 
-class HeldEntry(NamedTuple):
-    """An entry that is in memory."""
+class Entry(NamedTuple):
+    """An entry that is open or in memory."""
 
     module: Module
-    texts: Dict[Block, bytes]
+    text_of: Callable[[Block], bytes]
+    types_file: Optional[str]  # which has the types table, if it is in memory
 
 
 # By their paths: the entries that the run which started this process has read for all reports.
-held: Dict[str, HeldEntry] = {}
-MOST_HELD = 32 << 20  # bytes of an entry
+held: Dict[str, Entry] = {}
+MOST_HELD = 64 << 20  # bytes of all these entries
 
 
-def hold(path: str) -> None:
-    """Read an entry into memory, unless it is large, not whole, or held already."""
-    if path in held:
-        return
-    with suppress(OSError, ValueError, LookupError, TypeError, RecursionError, MemoryError):
-        with open(path, "rb") as file:
-            if os.fstat(file.fileno()).st_size > MOST_HELD:
-                return
-            module = read_index(file.readline())
-            start = file.tell()
-            blocks = [module.types, *module.templates.values()]
-            texts = {block: read_block(file, start, block) for block in blocks}
-        held.clear()  # the reports of a run are mostly of one module
-        held[path] = HeldEntry(module, texts)
+class Holding:
+    """Reads entries into memory for later processes, as many as there is room for."""
+
+    def __init__(self) -> None:
+        """Hold nothing so far."""
+        self.tried: Set[str] = set()
+        self.room = MOST_HELD
+
+    def hold(self, path: str) -> None:
+        """Read an entry, unless it was tried before, is not whole, or is larger than the room."""
+        if path in self.tried:
+            return
+        self.tried.add(path)
+        with suppress(OSError, ValueError, LookupError, TypeError, RecursionError, MemoryError):
+            with open(path, "rb") as file:
+                size = os.fstat(file.fileno()).st_size
+                if size > self.room:
+                    return
+                module = read_index(file.readline())
+                start = file.tell()
+                blocks = [module.types, *module.templates.values()]
+                texts = {block: read_block(file, start, block) for block in blocks}
+            self.room -= size
+            held[path] = Entry(module, texts.__getitem__, file_of(texts[module.types]))
+            gc.freeze()  # as the run does at its begin
+
+
+def file_of(text: bytes) -> Optional[str]:
+    """Return the path of a file with this text, which this process and those that it starts see.
+
+    It is in memory, so it ends with them. None if the system has no such files.
+    """
+    with suppress(OSError, AttributeError):
+        number = os.memfd_create("types.csv", 0)
+        with open(number, "wb", closefd=False) as file:
+            file.write(text)
+        path = f"/proc/self/fd/{number}"
+        if os.path.isfile(path):
+            return path
+        os.close(number)
+    return None
 
 
 @contextmanager
-def entry_at(path: str) -> Iterator[Tuple[Module, Callable[[Block], bytes]]]:
-    """Open an entry, and give its index and what returns the text of a block."""
+def entry_at(path: str) -> Iterator[Entry]:
+    """Open an entry, unless it is in memory."""
     if path in held:
-        yield held[path].module, held[path].texts.__getitem__
+        yield held[path]
         return
     with open(path, "rb") as file:
         module = read_index(file.readline())
         start = file.tell()
-        yield module, lambda block: read_block(file, start, block)
+        yield Entry(module, lambda block: read_block(file, start, block), None)
 
 
 def read_index(line: bytes) -> Module:

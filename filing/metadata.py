@@ -36,9 +36,10 @@ class Merged:
         """Return the file that gave a part, or the part around it."""
         return origin_of(self.origins, path)
 
-    def text(self) -> bytes:
-        """Return the file's bytes: compact, with members in the order of their names."""
-        return compact(self.value) + b"\n"
+    def pieces(self) -> Iterator[bytes]:
+        """Yield the file's bytes: compact, with members in the order of their names."""
+        yield compact(self.value)
+        yield b"\n"
 
     def without_tables(self: SomeMerged, names: Container[str]) -> SomeMerged:
         """Return the metadata without some tables, and without the templates that only they use."""

@@ -17,7 +17,7 @@ from .kept_module import ModuleCache
 from .locks import locked
 from .marked_output import PAGE, SUMMARY, Kind, is_of_kind
 from .outcomes import BUSY, FINAL, Outcome, read_outcome, write_outcome
-from .packages import open_package
+from .packages import Package, open_package
 from .page_run import write_refusal_page
 from .refusals import FILES, Refusal, cannot_write, printable
 from .summary import write_refusal_summary
@@ -27,7 +27,8 @@ LONGEST_PATH = 1000  # of an entry that the run is told of
 KEPT = "kept"  # the report was converted before
 BEGUN = "begun"  # the outcome word while a report is in hand
 PR_SET_PDEATHSIG = 1
-Convert = Callable[[List[str]], int]
+# Converts a report by the command line; its package is open, if it is in one.
+Convert = Callable[[List[str], Optional[Package]], int]
 
 
 @dataclass(frozen=True)
@@ -161,18 +162,20 @@ def attempt(task: Task, pipe: int, convert: Convert) -> int:
 
 def work(task: Task, told: Told, pipe: int, convert: Convert) -> int:
     """Convert the report if that was not done before, and return the status."""
-    take_streams(open_log(task.paths.log))
+    log = open_log(task.paths.log)
+    take_streams()
     if task.memory_limit is not None:
         resource.setrlimit(resource.RLIMIT_DATA, (task.memory_limit, task.memory_limit))
-    if not locked(2):  # the log, which the report's processes hold open to their end
+    if not locked(log):  # the report's processes hold it open to their end
         told.word = BUSY
         told.line = f"xbrl-filing: {task.report}: another run has it in hand"
         told.write(pipe)
         return FILES
     try:
-        told.digest = digest_of_report(task)
+        package = open_package(task.report, task.unpacked_limit)
+        told.digest = digest_of_report(task, package)
     except Refusal as refusal:
-        remove_earlier(task, "")
+        remove_earlier(task, "", log)
         os.write(2, f"xbrl-filing: {printable(refusal.line)}\n".encode())
         settings = settings_of_refusal(task)
         write_refusal_page(settings, refusal)
@@ -183,14 +186,14 @@ def work(task: Task, told: Told, pipe: int, convert: Convert) -> int:
         told.write(pipe)
         return 0
     told.write(pipe)
-    remove_earlier(task, told.digest)
+    remove_earlier(task, told.digest, log)
     os.mkdir(task.temporary, 0o700)
     os.environ["TMPDIR"] = task.temporary
     paths = task.paths
     files = ["--out", paths.document, "--whole", "--faults", paths.faults]
     files += ["--page", paths.page] if task.has_page else []
     files += ["--summary", paths.summary] if task.has_summary else []
-    status = convert([task.report, *task.words, *files])
+    status = convert([task.report, *task.words, *files], package)
     told.module = ModuleCache.last_used
     told.write(pipe)
     return status
@@ -214,21 +217,19 @@ def open_log(path: str) -> int:
         raise cannot_write(path, error) from None
 
 
-def take_streams(log: int) -> None:
-    """Make the log standard error, and give the process nothing to read or to print to."""
+def take_streams() -> None:
+    """Give the process nothing to read or to print to: the log is not yet its own."""
     nothing = os.open(os.devnull, os.O_RDWR)
-    os.dup2(nothing, 0)
-    os.dup2(nothing, 1)
-    os.dup2(log, 2)
+    for stream in (0, 1, 2):
+        os.dup2(nothing, stream)
     sys.stderr = open(2, "w", encoding="utf-8", errors="backslashreplace", closefd=False)
 
 
-def digest_of_report(task: Task) -> str:
+def digest_of_report(task: Task, package: Optional[Package]) -> str:
     """Return the digest of a report and of what it is converted with.
 
     It is empty for a metadata file without a package: what it reads is not all known before.
     """
-    package = open_package(task.report, task.unpacked_limit)
     if package is None:
         return ""
     said = [task.common, package.root, package.digest().hex()]
@@ -247,10 +248,10 @@ def is_kept(task: Task, digest: str) -> bool:
     return not outcome.document or os.path.isfile(task.paths.document)
 
 
-def remove_earlier(task: Task, digest: str) -> None:
+def remove_earlier(task: Task, digest: str, log: int) -> None:
     """Remove what an earlier run left of the report, and note that it is in hand.
 
-    Refuse files that no run has made: only a report that has an outcome has files of a run.
+    From then on the log, which is new, is standard error. Refuse files that no run has made: only a report that has an outcome has files of a run.
     `FILE.new` is what a conversion leaves that is ended by force.
     """
     paths = task.paths
@@ -262,7 +263,8 @@ def remove_earlier(task: Task, digest: str) -> None:
         if foreign:
             raise cannot_write(foreign[0], "it is there, and no run over many reports made it")
     write_outcome(paths.outcome, Outcome(task.report, digest, FILES, BEGUN))
-    os.ftruncate(2, 0)
+    os.dup2(log, 2)
+    os.ftruncate(log, 0)
     kinds = ((paths.page, PAGE), (paths.summary, SUMMARY))
     for path in [*made, *(path for path, kind in kinds if is_of_kind(path, kind))]:
         with suppress(FileNotFoundError):

@@ -16,7 +16,7 @@ import zipfile
 import zlib
 from abc import ABC, abstractmethod
 from contextlib import contextmanager
-from typing import IO, Any, Dict, Iterable, Iterator, List, Optional, Tuple
+from typing import IO, Any, Dict, Iterable, Iterator, List, NamedTuple, Optional, Sequence, Tuple
 
 from .digests import Contents, contents_of_disk, digest_of, digests_of, identity_of
 from .refusals import cannot_read, wrong
@@ -105,6 +105,13 @@ class Package(ABC):
         folders = [folder for folder in self.children("")[1] if folder != "__MACOSX"]
         if len(folders) == 1 and (folders[0] not in ("META-INF", "reports") or "META-INF" in self.children(folders[0])[1]):
             self.root = folders[0] + "/"
+
+
+class Opened(NamedTuple):
+    """Packages that are open already: that of a report, if it is in one, and the taxonomy's."""
+
+    report: Optional[Package]
+    taxonomy: Sequence[Package]
 
 
 class OwnPlace(io.RawIOBase):

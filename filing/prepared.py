@@ -203,7 +203,14 @@ class Written(NamedTuple):
     names: Dict[str, str]
 
 
-def write_files(folder: str, files: Files, types: bytes, copy: bool) -> Written:
+class TypesTable(NamedTuple):
+    """The bytes of a types table, and a file that xbrl-json finds them in, if there is one."""
+
+    text: bytes
+    file: Optional[str] = None
+
+
+def write_files(folder: str, files: Files, types: TypesTable, copy: bool) -> Written:
     """Fill a folder.
 
     Files that are on the disk are linked; with `copy` they are copied.
@@ -215,8 +222,11 @@ def write_files(folder: str, files: Files, types: bytes, copy: bool) -> Written:
         target, name = names.get(url, url), files.name(url)
         shown[target] = files.package.shown(name)
         put_file(os.path.join(folder, *target.split("/")), files.package, name, copy)
-    fill(os.path.join(folder, TYPES), iter([types]))
-    fill(os.path.join(folder, META), iter([merged.text()]))
+    if types.file is not None and not copy:
+        link(types.file, os.path.join(folder, TYPES))
+    else:
+        fill(os.path.join(folder, TYPES), iter([types.text]))
+    fill(os.path.join(folder, META), merged.pieces())
     return Written(merged, shown)
 
 
@@ -242,9 +252,7 @@ def put_file(target: str, package: Package, name: str, copy: bool) -> None:
     else:
         if stat.S_ISREG(mode) and not os.access(source, os.R_OK):
             raise cannot_read(package.shown(name), PermissionError(errno.EACCES, os.strerror(errno.EACCES)))
-        make_folder(os.path.dirname(target))
-        with writing(target):
-            os.symlink(source, target)
+        link(source, target)
 
 
 @contextmanager
@@ -259,6 +267,12 @@ def writing(target: str) -> Iterator[None]:
 def make_folder(target: str) -> None:
     with writing(target):
         os.makedirs(target, exist_ok=True)
+
+
+def link(source: str, target: str) -> None:
+    make_folder(os.path.dirname(target))
+    with writing(target):
+        os.symlink(source, target)
 
 
 def fill(target: str, pieces: Iterator[bytes]) -> None:

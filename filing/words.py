@@ -4,6 +4,7 @@ from __future__ import annotations
 
 from argparse import Action, ArgumentError, ArgumentParser, Namespace
 from dataclasses import dataclass
+from functools import lru_cache
 from typing import Any, FrozenSet, Iterator, List, Optional, Sequence, Set, Tuple
 
 from .refusals import WORDS, Refusal
@@ -236,8 +237,9 @@ class Limit(Action):
         namespace.limit = int(value)
 
 
+@lru_cache(maxsize=1)
 def parser_of_words() -> Parser:
-    """Return what reads the command line of one report."""
+    """Return what reads the command line of one report. A run over many reports needs one."""
     parser = Parser(WITH_VALUE)
     parser.add_argument("report", nargs="?")
     parser.option(TAXONOMY, nargs="*", action=Packages)

@@ -70,6 +70,11 @@ def packed(source: Path, target: Path, more: Optional[Dict[str, str]] = None) ->
     return str(target)
 
 
+def setUpModule() -> None:
+    """Heed SIGINT, which a shell has programs in the background ignore, with all that they start."""
+    signal.signal(signal.SIGINT, signal.default_int_handler)
+
+
 class Case(unittest.TestCase):
     """A scratch folder with a taxonomy, and runs of many reports into its folder `out`."""
 

@@ -3,6 +3,7 @@ from __future__ import annotations
 
 import json
 import os
+import resource
 import shutil
 import signal
 import subprocess
@@ -355,6 +356,7 @@ class TestRuns(FilingTest):
             for text in texts
         ]
         kept = digests.BLOCK, digests.processors, whole_digests.Thread, whole_digests.Blocks.digest
+        limit = resource.getrlimit(resource.RLIMIT_DATA)
         workers: set[int] = set()
 
         def together(blocks: digests.Blocks, *place: Any) -> bytes:
@@ -364,6 +366,16 @@ class TestRuns(FilingTest):
                 meeting.wait(PATIENCE)
             made: bytes = kept[3](blocks, *place)
             return made
+
+        begun: list[threading.Thread] = []
+
+        class Begun(threading.Thread):
+            """A thread that is counted."""
+
+            def start(self) -> None:
+                """Counts the thread, and starts it."""
+                begun.append(self)
+                super().start()
 
         class NoThread(threading.Thread):
             """A thread that does not start."""
@@ -398,9 +410,18 @@ class TestRuns(FilingTest):
             )
             workers.clear()
             meeting = threading.Barrier(1)
+            whole_digests.Thread = Begun
+            digests.digests_of(files)
+            self.case("threads without a limit of memory", len(begun) > 1, True)
+            begun.clear()
+            resource.setrlimit(resource.RLIMIT_DATA, (1 << 40, limit[1]))
+            seen = digests.digests_of(files), begun
+            self.case("no other thread with a limit of memory", seen, (wanted, []))
+            resource.setrlimit(resource.RLIMIT_DATA, limit)
             whole_digests.Thread = NoThread
             self.case("a system that gives no threads", digests.digests_of(files), wanted)
         finally:
+            resource.setrlimit(resource.RLIMIT_DATA, limit)
             digests.BLOCK, digests.processors, whole_digests.Thread, whole_digests.Blocks.digest = kept
         self.case("no files", digests.digests_of([]), [])
         self.case(
