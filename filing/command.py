@@ -225,7 +225,7 @@ def convert(here: Run, joined: Joined) -> int:
     With `--progress` xbrl-json writes to standard error itself, unless `--explain` is given too.
     """
     settings, (origins, files, types) = here.settings, joined
-    types = with_named_members(types, files)
+    types = types.with_text(with_named_members(types.text, files))
     with temporary_folder(temporary_place(), f"{NAME}-", here.stopping) as folder:
         notes = RunNotes(settings, folder, here.program)
         written = write_files(folder, files, types, copy=False)

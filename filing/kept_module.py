@@ -179,9 +179,8 @@ class ModuleCache:
                 used_templates = files.merged.value.get("tableTemplates", {})
                 blocks = {name: module.templates[name] for name in used_templates}
                 texts = {name: text_of(block) for name, block in blocks.items()}
-                kept = text_of(module.types)
-                chosen = with_types_of_dates(kept, module.dates, files)
-                types = TypesTable(chosen, types_file if chosen == kept else None)
+                types = TypesTable(text_of(module.types), types_file)
+                types = types.with_text(with_types_of_dates(types.text, module.dates, files))
         except (OSError, ValueError, LookupError, TypeError, RecursionError, Refusal):
             return None
         used(self.path())

@@ -31,7 +31,7 @@ def with_named_members(types: bytes, files: Files) -> bytes:
     """
     if len(types) < LARGE:
         return types
-    metadata = files.merged.text()
+    metadata = b"".join(files.merged.pieces())
     names = names_of_files(files, MOST - len(metadata))
     if names is None:
         return types

@@ -209,6 +209,10 @@ class TypesTable(NamedTuple):
     text: bytes
     file: Optional[str] = None
 
+    def with_text(self, text: bytes) -> "TypesTable":
+        """Return the table with this text, and with its file if that has the same text."""
+        return self if text == self.text else TypesTable(text)
+
 
 def write_files(folder: str, files: Files, types: TypesTable, copy: bool) -> Written:
     """Fill a folder.
