@@ -61,8 +61,8 @@ class KeptLines(ConverterLines):
         same = SAME.fullmatch(lines[0]) if lines else None
         if not same:
             return sorted_lines(lines)
-        first = next((said for key, said in self.said.items() if key[0] == same["table"]), [])
-        return ["", "", *sorted_lines(first)[2:3], lines[0]]
+        told = [said for key, said in self.said.items() if key[0] == same["table"]]
+        return ["", "", *(sorted_lines(told[0])[2:3] if told else []), lines[0]]
 
 
 def sorted_lines(lines: List[str]) -> List[str]:

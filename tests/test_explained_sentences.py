@@ -207,7 +207,7 @@ class TestQuotes(ExplainTest):
                 self.says({"r/t1.csv": text}, line, "r/t1.csv, line 2", found, why)
 
 
-# Texts that are no period: dates in other forms, and what does not exist.
+# Texts that are not periods: dates in other forms, and what does not exist.
 PERIODS = [
     *("30.09.2025", "9/30/2025", "30-9-2025", "2025/09/30", "3.2025"),
     *("2021-13", "2025-02-30", "2025Q5", "Q3 2025", "2025-09-30..2025-07-01", "september"),

@@ -20,7 +20,7 @@ from tests.harness import for_each
 
 # The cause of a fault of the cell `1` in the first row: what is edited in the metadata, the table,
 # the fault, the place to mend and what is there, why, and the places by which the fault comes to
-# the cell. Behind `why`, after a line end, stands what could be meant.
+# the cell. After `why` and a line end is what could be meant.
 KIND = ("tableTemplates", "p", "columns", "kind")
 NET: dict[Place, Any] = {
     (*KIND,): {
@@ -164,7 +164,7 @@ SOURCES: list[tuple[dict[Place, Any], str, str, str, str, list[str]]] = [
 
 
 def fact_in(report: dict[str, Any]) -> str:
-    """Returns the fact as it is shown: with its concept, if the column alone writes it."""
+    """Returns the fact as it is shown: with its concept, if only the column writes it."""
     (template,) = report["tableTemplates"].values()
     column = template["columns"]["cash"]
     concept = column["dimensions"]["concept"].replace("##", "#")
@@ -278,7 +278,7 @@ class TestShared(SharedTest):
         self.check_same(self.err("--explain"), wanted)
 
     def test_one_place_with_two_faults(self) -> None:
-        """Tells both: one parameter is no unit here, and no period there."""
+        """Tells both: one parameter is not a unit here, and not a period there."""
         edits: dict[Place, Any] = {
             ("parameters",): {"both": "x"},
             ("tableTemplates", "q"): {

@@ -64,7 +64,7 @@ bad_unit = record {
       ∷ [];
 }
 
--- A cell whose property group is unknown: the groups that are known stand before the fact.
+-- A cell whose property group is unknown: the groups that are known come before the fact.
 abbrev bad_group : Explanation
 bad_group = record {
   place = codes "t1.csv, line 2, cell 2";

@@ -1,4 +1,4 @@
-//! What stands below the lines of refused tables: a cause that several of them have is told once.
+//! The lines below those of refused tables: a cause that several of them have is told once.
 //!
 //! Not proved: all of this file.
 
