@@ -2,6 +2,7 @@
 
 use crate::counts::Counts;
 use crate::write_failure::WriteFailure;
+use oim_run::Outcome;
 
 /// What is noted during a run for what is told after it.
 #[derive(Drop)]
@@ -12,4 +13,14 @@ pub struct Noted<'a> {
     pub document: &'a WriteFailure,
     /// Why a write of the file of the faults or of the counts failed, if one did.
     pub beside: &'a WriteFailure,
+}
+
+impl<'a> Noted<'a> {
+    /// Returns why the write failed that this outcome of the run is about, if one did.
+    pub fn failure_of(&self, outcome: &Outcome) -> &'a WriteFailure {
+        match outcome {
+            Outcome::Output(_) => self.document,
+            _ => self.beside,
+        }
+    }
 }

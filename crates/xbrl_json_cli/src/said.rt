@@ -194,7 +194,8 @@ pub fn convert_and_tell<
     let alloc = rt.alloc();
     let outcome = convert_apart(rt, threads, alloc, request, folder, outputs);
     let files = &mut FilesAgain::new(rt, alloc);
-    let known = told_as_asked(rt, alloc, request, noted.document, &outcome, files, to);
+    let failure = noted.failure_of(&outcome);
+    let known = told_as_asked(rt, alloc, request, failure, &outcome, files, to);
     let left = left_out(rt, alloc, request, &outcome, files, &known, noted);
     last_told(rt, alloc, request, &outcome, left, noted.beside, to)
 }
