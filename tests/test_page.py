@@ -59,8 +59,8 @@ SHOWN = """[...document.querySelectorAll("article.fault")].map((it) =>
 # Picks the faults of one number, as a person does.
 PICKED = """(() => { const form = document.querySelector(".filters"); form.fault.value = "37";
     form.fault.dispatchEvent(new Event("change", {bubbles: true})); })()"""
-# How long the thread of a page of the most faults may work until it is drawn: 53 were seen at a load
-# of 40 on four processors.
+# How long the thread of a page of the most faults may work until it is drawn: 53 were seen at a
+# load of 40 on four processors.
 MOST_YARDSTICKS = 80
 REPORTS = "reports"
 VOID = ("meta",)
@@ -986,7 +986,7 @@ class TestBrowser(Case):
         return faults, tables
 
     def test_ten_thousand_faults(self) -> None:
-        """Opens a page of the most faults soon, shows each of them as the file, and filters them."""
+        """Opens a page of the most faults soon, shows each as the file has it, and filters them."""
         path, tables = self.file_of_faults()
         found, count = faults_of(str(path))
         content = filled(Content("Refused", "r", "", [], count), tables, found, {})
