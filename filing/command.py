@@ -241,6 +241,7 @@ def convert(here: Run, joined: Joined) -> int:
         hear = lines.hear if heard and (sys.stderr or any(asked_for(settings))) else None
         began = time.monotonic()
         status = run_program(words, here.stopping, hear)
+        refuse_unloaded(here.program, status)
         converting = time.monotonic() - began
         more = lines.end()
         if more:
@@ -248,6 +249,15 @@ def convert(here: Run, joined: Joined) -> int:
         if any(asked_for(settings)) and status <= WRONG:
             sum_up(here, Converted(status, converting, files, written, lines, notes))
         return status
+
+
+def refuse_unloaded(program: str, status: int) -> None:
+    """Refuse a program that did not run at all: the system's loader may end with status 1 too.
+
+    It does so if the C library is too old. The loader has said why.
+    """
+    if status == WRONG:
+        version_of(program)
 
 
 class Converted(NamedTuple):
@@ -301,6 +311,7 @@ def tell_faults(
     except Unread as unread:
         here.progress.clear()
         hand_on(unread.said, lines)
+        refuse_unloaded(here.program, unread.status)
         return unread.status
     here.progress.clear()
     if lines is not None:

@@ -251,8 +251,9 @@ def is_kept(task: Task, digest: str) -> bool:
 def remove_earlier(task: Task, digest: str, log: int) -> None:
     """Remove what an earlier run left of the report, and note that it is in hand.
 
-    From then on the log, which is new, is standard error. Refuse files that no run has made: only a report that has an outcome has files of a run.
-    `FILE.new` is what a conversion leaves that is ended by force.
+    From then on the log, which is emptied, is standard error. Refuse files that no run has made:
+    only a report that has an outcome has files of a run. `FILE.new` is what a conversion leaves
+    that is ended by force.
     """
     paths = task.paths
     made = [paths.document, f"{paths.document}.new", paths.faults]

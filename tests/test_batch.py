@@ -71,7 +71,7 @@ def packed(source: Path, target: Path, more: Optional[Dict[str, str]] = None) ->
 
 
 def setUpModule() -> None:
-    """Heed SIGINT, which a shell has programs in the background ignore, with all that they start."""
+    """Heed SIGINT, which a shell has programs in the background ignore."""
     signal.signal(signal.SIGINT, signal.default_int_handler)
 
 

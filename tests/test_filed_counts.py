@@ -64,7 +64,7 @@ GROUPS: dict[str, dict[str, Any]] = {
 
 
 class Made(NamedTuple):
-    """A filing: its module without `documentInfo`, its parameters, and the records of its tables."""
+    """A filing: its module without `documentInfo`, its parameters, the records of its tables."""
 
     module: dict[str, Any]
     parameters: dict[str, str]

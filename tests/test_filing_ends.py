@@ -398,7 +398,8 @@ class TestRuns(FilingTest):
         folder = self.folder
         temporary, fake, settings = with_fake(folder)
         for status, wanted in ((126, 3), (127, 3), (125, 125), (1, 1), (2, 2), (3, 3)):
-            fake.write_text(f"#!/bin/sh\necho said >&2\nexit {status}\n")
+            runs = '[ "$1" = --version ] && exit'
+            fake.write_text(f"#!/bin/sh\n{runs}\necho said >&2\nexit {status}\n")
             seen = start(["r", "--taxonomy", "t"], folder, env=settings)
             said = "said\n" + (
                 f"xbrl-filing: {fake}: cannot run (status {status})\n"
@@ -406,6 +407,12 @@ class TestRuns(FilingTest):
                 else ""
             )
             self.case(f"a program that ends with {status}", (seen[0], seen[2]), (wanted, said))
+        # As the system's loader does for a program that needs a newer C library.
+        fake.write_text("#!/bin/sh\necho too old >&2\nexit 1\n")
+        line = f"too old\nxbrl-filing: {fake}: cannot run (too old)\n"
+        for words in ([], ["--every-fault"], ["--progress"]):
+            seen = start(["r", "--taxonomy", "t", *words], folder, env=settings)
+            self.case(f"a program that does not load {words}", (seen[0], seen[2]), (3, line))
         copy = folder / "copy"
         shutil.copytree(
             TOP / "filing", copy / "filing", ignore=shutil.ignore_patterns("__pycache__")

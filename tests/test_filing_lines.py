@@ -44,6 +44,8 @@ whole_stopping: Any = stopping
 
 # Seconds that no run may take: one that waits for such a program fails.
 ENDLESS = 10 * PATIENCE
+# What each program does here that ends with status 1: it tells its version, so it is one that runs.
+RUNS = '[ "$1" = --version ] && exit'
 HEADER_OF_FAULTS = "table,row,column,number,name,line,header,cell,place\n"
 
 
@@ -182,7 +184,7 @@ def with_words(
     """
     fake = folder / "fake"
     fake.write_text(
-        '#!/bin/sh\nHOME=$(dirname "$1")\ncat >&2 <<END\n' + said + f"END\nexit {status}\n"
+        f'#!/bin/sh\n{RUNS}\nHOME=$(dirname "$1")\ncat >&2 <<END\n{said}END\nexit {status}\n'
     )
     fake.chmod(0o755)
     joined_of(folder, *(report or filed_in_parts()))
@@ -493,7 +495,7 @@ class TestRuns(FilingTest):
             (True, 3),
         )
         left = f"sleep {ENDLESS} & echo $! > left"
-        fake.write_text(f"#!/bin/sh\n{left}\necho said >&2\nexit 1\n")
+        fake.write_text(f"#!/bin/sh\n{RUNS}\n{left}\necho said >&2\nexit 1\n")
         done = begun()
         assert done.stderr is not None  # it is a pipe
         ended = done.stderr.readline(), done.wait(timeout=PATIENCE)
@@ -550,7 +552,7 @@ class TestRuns(FilingTest):
         folder = self.folder
         fake, _, _ = hearing(folder)
         fake.write_text(
-            "#!/bin/sh\nprintf 'xbrl-json: report: X (1)\\n  a\\033[2Jb\\n' >&2\nexit 1\n"
+            f"#!/bin/sh\n{RUNS}\nprintf 'xbrl-json: report: X (1)\\n  a\\033[2Jb\\n' >&2\nexit 1\n"
         )
         status, shown = on_a_terminal(["r", "--taxonomy", "t0"], folder, str(fake))
         self.case(

@@ -41,13 +41,27 @@ from filing.page_rows import WIDEST, Budget, Near, read_table  # noqa: E402
 from filing.page_style import MARK, SCRIPT, STYLE  # noqa: E402
 from filing.page_text import is_hidden, markup, plain  # noqa: E402
 from filing.outcomes import Outcome  # noqa: E402
+from tests.browser import PROGRAM as BROWSER  # noqa: E402
+from tests.browser import Browser  # noqa: E402
+from tests.filing_bounds import yardstick  # noqa: E402
 
 FILING = str(TOP / "xbrl-filing")
 EXAMPLE = TOP / "examples/filing"
 REFUSED = TOP / "examples/refused"
 PROGRAM = os.path.abspath(os.environ.get("XBRL_JSON") or TOP / "dist/xbrl-json")
 PATIENCE = 600
-BROWSER = shutil.which("chromium") or shutil.which("chromium-browser")
+# Cells of the many faults, of which a browser could make something else than text.
+ODD_CELLS = ("x", "<b>1</b>", "&lt;", "'\"", "1,5", "\u00e9\u6f22", "a  b", "{{1}}")
+# What a browser shows of each fault: its title, sentence and marked cell, and whether it is shown.
+SHOWN = """[...document.querySelectorAll("article.fault")].map((it) =>
+    [it.querySelector("h3").textContent, it.querySelector(".why").textContent,
+     it.querySelector("mark")?.textContent ?? null, !it.hidden])"""
+# Picks the faults of one number, as a person does.
+PICKED = """(() => { const form = document.querySelector(".filters"); form.fault.value = "37";
+    form.fault.dispatchEvent(new Event("change", {bubbles: true})); })()"""
+# How long the thread of a page of the most faults may work until it is drawn: 53 were seen at a
+# load of 40 on four processors.
+MOST_YARDSTICKS = 80
 REPORTS = "reports"
 VOID = ("meta",)
 TITLE = re.compile(
@@ -954,11 +968,53 @@ class TestBrowser(Case):
         self.assertEqual(after.all("title")[0].text(), "Converted: report")
         self.assertIn("Content Security Policy", console)
 
+    def file_of_faults(self) -> Tuple[Path, List[TableFile]]:
+        """Write a file of the most faults, a hundred of each table, and the tables."""
+        tables, records = [], []
+        for at in range(MOST // 100):
+            name, odd = f"t{at}<i>", ODD_CELLS[at % len(ODD_CELLS)]
+            path = self.tables / f"t{at}.csv"
+            with open(path, "w", newline="", encoding="utf-8") as file:
+                writer = csv.writer(file, lineterminator="\n")
+                writer.writerow(["a", "b & c"])
+                writer.writerows([f"{row}", f"{odd}{row}"] for row in range(1, 101))
+            tables.append(TableFile(name, f"t{at}.csv", str(path)))
+            number, kind = [(40, "BadNumber"), (37, "BadPeriod"), (36, "BadValue")][at % 3]
+            for row in range(1, 101):
+                cell = f"{odd}{row}"
+                records.append([name, row, 2, number, kind, row + 1, "b & c", cell, ""])
+        faults = self.folder / "f.csv"
+        with open(faults, "w", newline="", encoding="utf-8") as file:
+            csv.writer(file, lineterminator="\n").writerows([list(Fault._fields), *records])
+        return faults, tables
+
     def test_ten_thousand_faults(self) -> None:
-        """Opens a page of the most faults, and filters it."""
-        self.page.write_text(page(self.content(MOST)))
-        after, console = self.opened(f"file://{self.page}#fault=41")
-        self.assertEqual((after.all("output")[0].text(), console), ("10,000 of 10,000 shown", ""))
+        """Opens a page of the most faults soon, shows each as the file has it, and filters them."""
+        path, tables = self.file_of_faults()
+        found, count = faults_of(str(path))
+        content = filled(Content("Refused", "r", "", [], count), tables, found, {})
+        self.page.write_text(page(content), encoding="utf-8")
+        with Browser(self.folder) as browser:
+            seconds = browser.open(f"file://{self.page}")
+            shown = browser.value(SHOWN)
+            told = browser.value("document.querySelector('output').textContent")
+            browser.value(PICKED)
+            picked = browser.value("document.querySelector('output').textContent")
+            visible = browser.value(f"{SHOWN}.filter((it) => it[3]).map((it) => it[0])")
+            self.assertEqual(browser.console, [])
+        with open(path, newline="", encoding="utf-8") as file:
+            records = list(csv.DictReader(file))
+        titles = ["Table {table}, row {row}, column {column} {name} ({number})".format(**it) for it in records]
+        self.assertEqual([it[0] for it in shown], titles)
+        for (_, why, mark, _), record in zip(shown, records):
+            sentence = re.sub("[`]", "", REMEDIES[int(record["number"])][0])
+            cell = None if mark is None else read(markup(record["cell"], 60)).text()
+            self.assertEqual((why, mark), (sentence, cell))
+        self.assertGreater(sum(it[2] is not None for it in shown), 500)
+        periods = [it for it, record in zip(titles, records) if record["number"] == "37"]
+        self.assertEqual(visible, periods)
+        self.assertEqual((told, picked), ("10,000 of 10,000 shown", f"{len(periods):,} of 10,000 shown"))
+        self.assertLess(seconds, MOST_YARDSTICKS * yardstick())
 
 
 if __name__ == "__main__":
