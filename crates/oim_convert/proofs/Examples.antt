@@ -1,6 +1,6 @@
 -- The definitions of this crate, executed on worked cases (xBRL-CSV 1.0, xBRL-JSON 1.0).
 use Rattle.std.specs.Prelude.{◌≡◌, ℕ, Bool, true, false, List, [], ◌∷◌, ◌++◌, Option, Some, None, Ok, Err, map}
-use Rattle.std.proofs.Common.{arith, refl, sym, ◌∙◌, codes, inl, inr}
+use Rattle.std.proofs.Common.{arith, refl, subst, sym, ◌∙◌, codes, inl, inr}
 use Rattle.std.specs.Global.{Vec}
 use Rattle.std.specs.List.{IsDistinct}
 use Rattle.oim_json.specs.Document.{members, tail_text, text_after}
@@ -25,16 +25,18 @@ use Rattle.oim_rows.specs.declared.fault.TableFault.{TableFault}
 use Rattle.oim_rows.specs.declared.fault.TableKind.TheVariants as kind
 use Rattle.oim_convert.specs.Answer.{IsAnswer, histories_of, streams}
 use Rattle.oim_convert.specs.FaultNames.{name_of, number_of}
-use Rattle.oim_convert.specs.Histories.{AreUnserved, IsDecoded, IsStream}
+use Rattle.oim_convert.specs.Histories.{AreUnserved, IsDecoded, IsEndingOf, IsStream}
 use Rattle.oim_convert.specs.Identifiers.{WriteOwnIds}
 use Rattle.oim_convert.specs.Runs.{AreStreams, IsCut, early_fault}
 use Rattle.oim_convert.specs.state.Tasks.{Gives, placed}
-use Rattle.oim_convert.specs.ReadAlone.{AreRead, IsEndingOf, IsRead}
+use Rattle.oim_convert.specs.ReadAlone.{AreRead, IsRead}
 use Rattle.oim_convert.specs.Serial.{AreBelow, Leaves, WritesAlone}
+use Rattle.oim_convert.specs.Served.{IsServed}
 use Rattle.oim_convert.specs.Tasks.{IsKept}
 use Rattle.oim_convert.specs.declared.fault.ConvertFault.TheVariants as fault
 use Rattle.oim_convert.specs.declared.table_task.TableTask.{TableTask}
 use Rattle.oim_convert.specs.declared.table_task.TaskResult.{TaskResult}
+use Rattle.oim_convert.proofs.RunHistories.{same_end}
 
 -- Early faults: workers, the ring's size, readers, tables.
 
@@ -307,6 +309,30 @@ two_read = (no_file_read, (any_facts, tt))
 one_history_for_each_reader :
     (AreRead silent three_tables 10 0 (None ∷ []) [] → ⊥) × (AreRead silent three_tables 10 0 [] ((Ending Closed ∷ []) ∷ []) → ⊥)
 one_history_for_each_reader = (λ read. read, λ read. read)
+
+-- Tables that threads serve. The same facts and fault of the second table.
+served_with_its_fault : IsServed silent three_tables 10 true (None ∷ Some 7 ∷ []) 1 (Block (third ∷ []) ∷ Ending (Refused ragged) ∷ [])
+unfolding ragged
+served_with_its_fault = record {
+  reader = Some 7;
+  given = refl;
+  own = record {
+    facts = third ∷ [];
+    ending = Refused (fault_at 1 2 0 kind.Ragged);
+    is = record { before = Block (third ∷ []) ∷ []; blocks = refl; holds = refl; is = refl };
+    own = refl;
+  };
+  kept = untold 10 1 7 (Block (third ∷ []) ∷ Ending (Refused (fault_at 1 2 0 kind.Ragged)) ∷ []);
+}
+
+-- The first table does not end with the fault of the second, also if nothing is known of its
+-- reader.
+served_with_another_fault : IsServed silent three_tables 10 true (Some 7 ∷ Some 8 ∷ []) 0 (Ending (Refused ragged) ∷ []) → ⊥
+served_with_another_fault served =
+    let own = served.own in
+    let last : Ending (Refused ragged) ≡ Ending own.ending = same_end [] own.is.before (Ending (Refused ragged)) (Ending own.ending) own.is.is in
+    let same : own.ending ≡ Refused ragged = cc in
+    fault_of_another_table (subst (λ e. IsEndingOf 0 e) same own.own)
 
 -- Their document is only the head, and each has its fault.
 module _ (l : Layout) (old new : SinkView) (faults : Vec TableFault) where

@@ -9,8 +9,7 @@ use Rattle.oim_ring.specs.declared.item.Item.TheVariants.{Ending}
 use Rattle.oim_rows.specs.Streams.{Stream}
 use Rattle.oim_rows.specs.declared.fault.TableFault.{TableFault}
 use Rattle.oim_convert.specs.Answer.{ending_of}
-use Rattle.oim_convert.specs.Histories.{IsGiven}
-use Rattle.oim_convert.specs.ReadAlone.{IsEndingOf}
+use Rattle.oim_convert.specs.Histories.{IsEndingOf, IsGiven}
 use Rattle.oim_convert.specs.Serial.{AreBelow}
 use Rattle.oim_convert.proofs.OwnFaults.{IsOwn}
 

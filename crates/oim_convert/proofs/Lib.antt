@@ -13,6 +13,7 @@ pub mod RunHistories
 pub mod OwnFaults
 pub mod ResultCover
 pub mod FaultTables
+pub mod TableEndings
 pub mod WrittenIds
 mod Examples
 mod ExamplesPrepared

@@ -10,8 +10,8 @@ use Rattle.oim_ring.specs.Items.{blocks_only, EndsOnce}
 use Rattle.oim_ring.specs.declared.item.Ending.{Ending}
 use Rattle.oim_ring.specs.declared.item.Item.{Item}
 use Rattle.oim_ring.specs.declared.item.Item.TheVariants as items
-use Rattle.oim_convert.specs.Tasks.{Each, IsKept}
-use Rattle.oim_convert.specs.state.Tasks.{CanServe, Fulfills, Gives, IsEnded, IsLane, IsOpened}
+use Rattle.oim_convert.specs.Tasks.{Each}
+use Rattle.oim_convert.specs.state.Tasks.{CanServe, Fulfills, Gives, IsEnded, IsKeptOwn, IsLane, IsOpened}
 use Rattle.oim_crew.specs.Shifts.{CanServeAll, IsServed}
 use Rattle.oim_convert.specs.declared.table_task.TableTask.{TableTask}
 use Rattle.oim_convert.specs.declared.table_task.TaskResult.{TaskResult}
@@ -21,7 +21,7 @@ module _ {R : Type 0} (told : R → Option (List ℕ)) (report : ReportValue) (l
   token_fulfills number token (task, at, (table, kept)) = record {
     task = task;
     planned = subst (λ (n : ℕ). slice_get plan n ≡ Some task) (sym table) at;
-    kept = subst (λ (n : ℕ). IfSome token.closed (λ (closed : ClosedView). (closed.ring ≡ task.feed.ring) × IsKept told report limit served n task.reader closed.sent)) (sym table) kept;
+    kept = subst (λ (n : ℕ). IfSome token.closed (λ (closed : ClosedView). (closed.ring ≡ task.feed.ring) × IsKeptOwn told report limit served n task.reader closed.sent)) (sym table) kept;
   }
 
   pub results_fulfill : (numbers : List ℕ) (tokens : List TaskResult) → AllZip (IsServed (Gives told report limit served) plan) numbers tokens → All (Fulfills told report limit served plan) tokens

@@ -89,7 +89,7 @@ module _ {R : Type 0} (told : R → Option (List ℕ)) (report : ReportValue) (l
   decoded_from n (h ∷ hs) (r ∷ rs) [] are len fs each = absurd fs
   decoded_from n (h ∷ hs) (r ∷ rs) (f ∷ files) are len fs each =
       let e : suc n ≡ n + 1 = omega arith in (
-        each.0.kept f (subst (λ (x : Option R). IsFileOf told x f) (sym (reader_at n r rs each.0.task are each.0.planned)) fs.0),
+        each.0.kept.1 f (subst (λ (x : Option R). IsFileOf told x f) (sym (reader_at n r rs each.0.task are each.0.planned)) fs.0),
         decoded_from (n + 1) hs rs files (from_next n r rs are) (omega (arith, len)) fs.1 (subst (λ (m : ℕ). Each (IsTable told report limit true plan) m hs) e each.1),
       )
 
@@ -102,7 +102,7 @@ module _ {R : Type 0} (told : R → Option (List ℕ)) (report : ReportValue) (l
   unserved_from n (h ∷ hs) (r ∷ rs) [] len fs each = absurd fs
   unserved_from n (h ∷ hs) (r ∷ rs) (f ∷ files) len fs each =
       let e : suc n ≡ n + 1 = omega arith in (
-        each.0.kept,
+        each.0.kept.1,
         unserved_from (n + 1) hs rs files (omega (arith, len)) fs.1 (subst (λ (m : ℕ). Each (IsTable told report limit false plan) m hs) e each.1),
       )
 
@@ -128,7 +128,8 @@ module _ {R : Type 0} (told : R → Option (List ℕ)) (report : ReportValue) (l
     record {
       reader = each.0.task.reader;
       given = subst (λ (l : List (Option R)). slice_get l n ≡ Some each.0.task.reader) same (get_mapped (λ (j : TableTask R). j.reader) plan n each.0.task each.0.planned);
-      kept = each.0.kept;
+      own = each.0.kept.0;
+      kept = each.0.kept.1;
     },
     served_from served (suc n) hs each.1,
   )
@@ -173,7 +174,7 @@ unfolding last_or
 last_is d [] x = refl
 last_is d (y ∷ ys) x = last_is y ys x
 
-same_end : (before other : List Item) (x y : Item) → before ++ x ∷ [] ≡ other ++ y ∷ [] → x ≡ y
+pub same_end : (before other : List Item) (x y : Item) → before ++ x ∷ [] ≡ other ++ y ∷ [] → x ≡ y
 same_end before other x y e = sym (last_is x before x) ∙ (ap (last_or x) e ∙ last_is x other y)
 
 other_kind : (e f : Endings.Ending) (a b : TableFault) → e ≡ Refused a → f ≡ Refused b → Ending e ≡ Ending f → a ≡ b

@@ -23,8 +23,8 @@ use Rattle.oim_rows.specs.Streams.{Stream, facts_of}
 use Rattle.oim_rows.specs.declared.fault.TableFault.{TableFault}
 use Rattle.oim_convert.specs.Answer.{answer_text, ending_of, histories_of, streams, streams_from}
 use Rattle.oim_convert.specs.Files.{AreFilesOf}
-use Rattle.oim_convert.specs.Histories.{AreDecoded, IsGiven}
-use Rattle.oim_convert.specs.ReadAlone.{AreRead, IsEndingOf}
+use Rattle.oim_convert.specs.Histories.{AreDecoded, IsEndingOf, IsGiven}
+use Rattle.oim_convert.specs.ReadAlone.{AreRead}
 use Rattle.oim_convert.specs.Serial.{AreBelow, AreFew, Converts, IsOfTables, Leaves, WritesAlone}
 use Rattle.oim_convert.specs.declared.fault.ConvertFault.{ConvertFault}
 use Rattle.oim_convert.specs.declared.fault.ConvertFault.TheVariants as fault

@@ -27,8 +27,8 @@ use Rattle.oim_rows.specs.Header.{file_fault}
 use Rattle.oim_rows.specs.Streams.{facts_of, table_stream}
 use Rattle.oim_rows.specs.declared.fault.TableFault.{TableFault}
 use Rattle.oim_rows.specs.declared.fault.TableKind.TheVariants as kind
-use Rattle.oim_convert.specs.Histories.{IsGiven, IsHistory, facts_in}
-use Rattle.oim_convert.specs.ReadAlone.{AreRead, IsEndingOf, IsRead}
+use Rattle.oim_convert.specs.Histories.{IsEndingOf, IsGiven, IsHistory, facts_in}
+use Rattle.oim_convert.specs.ReadAlone.{AreRead, IsRead}
 use Rattle.oim_convert.specs.Serial.{WritesAlone}
 use Rattle.oim_convert.specs.WrittenHistories.{WritesHistories}
 use Rattle.oim_convert.specs.declared.fault.ConvertFault.TheVariants as fault

@@ -5,7 +5,7 @@ use mathlib.Core.List.{IsPrefix}
 use Rattle.oim_resolve.specs.FactParts.{FactParts as Fact}
 use Rattle.oim_ring.specs.Items.{blocks_only}
 use Rattle.oim_ring.specs.declared.item.Ending as Endings
-use Rattle.oim_ring.specs.declared.item.Ending.TheVariants.{Refused}
+use Rattle.oim_ring.specs.declared.item.Ending.TheVariants.{Closed, Refused}
 use Rattle.oim_ring.specs.declared.item.Item.{Item}
 use Rattle.oim_ring.specs.declared.item.Item.TheVariants.{Block, Ending}
 use Rattle.oim_rows.specs.Header.{file_fault}
@@ -25,6 +25,18 @@ pub record IsHistory (facts : List Fact) (ending : Endings.Ending) (history : Li
   pub blocks : blocks_only before ≡ true
   pub holds : facts_in before ≡ facts
   pub is : history ≡ before ++ Ending ending ∷ []
+
+-- The fault of the ending, if it has one, is of this table.
+abbrev pub IsEndingOf : ℕ → Endings.Ending → Type 0
+IsEndingOf table Closed = ⊤
+IsEndingOf table (Refused fault) = fault.table ≡ table
+
+-- Blocks, and then one ending of this table.
+pub record IsOfTable (table : ℕ) (history : List Item) : Type 0 where
+  pub facts : List Fact
+  pub ending : Endings.Ending
+  pub is : IsHistory facts ending history
+  pub own : IsEndingOf table ending
 
 -- The history is the stream of a table: all its facts, followed by its own ending.
 abbrev pub IsStream : Stream → List Item → Type 0

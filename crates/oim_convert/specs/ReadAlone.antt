@@ -1,17 +1,11 @@
 -- The histories of a report's tables on one thread, by the readers of their files.
-use Rattle.std.specs.Prelude.{⊤, ◌≡◌, ℕ, ◌+◌, true, List, [], ◌∷◌, Option}
+use Rattle.std.specs.Prelude.{⊤, ℕ, ◌+◌, true, List, [], ◌∷◌, Option}
 use Rattle.oim_report.specs.ReportValue.{ReportValue}
 use Rattle.oim_resolve.specs.FactParts.{FactParts as Fact}
 use Rattle.oim_ring.specs.declared.item.Ending as Endings
-use Rattle.oim_ring.specs.declared.item.Ending.TheVariants.{Closed, Refused}
 use Rattle.oim_ring.specs.declared.item.Item.{Item}
-use Rattle.oim_convert.specs.Histories.{IsHistory}
+use Rattle.oim_convert.specs.Histories.{IsEndingOf, IsHistory}
 use Rattle.oim_convert.specs.Tasks.{IsKept}
-
--- The fault of the ending, if it has one, is of this table.
-abbrev pub IsEndingOf : ℕ → Endings.Ending → Type 0
-IsEndingOf table Closed = ⊤
-IsEndingOf table (Refused fault) = fault.table ≡ table
 
 module _ {R : Type 0} where
   -- The history of a table that was read: blocks, then one ending of this table. It is decoded from

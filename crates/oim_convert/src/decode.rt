@@ -2,6 +2,7 @@
 
 ghost use Rattle.std.specs.Prelude.{◌≡◌, ◌≤◌, ◌<◌, ℕ, [], length, None, IfSome, true};
 ghost use Rattle.oim_convert.specs.Answer.{ending_of};
+ghost use Rattle.oim_convert.specs.Histories.{IsEndingOf, IsOfTable};
 ghost use Rattle.oim_convert.specs.Tasks.{IsKept};
 ghost use Rattle.oim_ring.specs.declared.item.Ending.TheVariants.{Refused};
 ghost use Rattle.oim_rows.specs.Header.{file_fault};
@@ -14,7 +15,7 @@ use crate::table_file::TableFile;
 use crate::table_task::TableTask;
 use oim_report::{Limits, Report};
 use oim_ring::{Closed, Ending};
-use oim_rows::{TableKind, whole_fault};
+use oim_rows::{TableFault, TableKind, whole_fault};
 use std::alloc::Global;
 use std::io::Read;
 use std::sync::Wait;
@@ -25,6 +26,18 @@ pub(crate) fn refused(table: usize, kind: TableKind) -> Ending
     ensures { result ≡ Refused (file_fault table kind) }
 {
     Ending::Refused(whole_fault(table, kind))
+}
+
+/// Returns the ending with this table's number in its fault. The contracts of decoding give that
+/// number only if they see the reader's bytes.
+pub(crate) fn numbered(table: usize, ending: Ending) -> Ending
+    ensures own { IsEndingOf table result }
+    ensures same { IsEndingOf table ending → result ≡ ending }
+{
+    match ending {
+        Ending::Closed => ending,
+        Ending::Refused(fault) => Ending::Refused(TableFault { table, ..fault }),
+    }
 }
 
 /// Decodes a table: sends its facts, and closes its feed with its ending. Returns `None` if the
@@ -40,6 +53,7 @@ pub(crate) fn decode<R: Read + Drop, T: Threads + Wait>(
     requires rows { limits.rows ≤ 4294967294 }
     requires fresh { task.feed.sent ≡ [] }
     ensures ring { IfSome result (λ closed. closed.ring ≡ task.feed.ring) }
+    ensures own { IfSome result (λ closed. IsOfTable task.table closed.sent) }
     ensures history { IfSome result (λ closed. IsKept R.remaining report.now limits.rows true task.table task.reader closed.sent) }
 {
     let TableTask {
@@ -62,7 +76,7 @@ pub(crate) fn decode<R: Read + Drop, T: Threads + Wait>(
         }
     };
     at_work.rest();
-    close_waiting(rt, feed, ending)
+    close_waiting(rt, feed, numbered(table, ending))
 }
 
 /// Returns the ending of a table without a file.

@@ -22,7 +22,8 @@
 //! - the history of each table is the table's stream, or a prefix of it that a failed read or
 //!   running out of memory ended. `NoThread` ends all tables or none (`specs/Histories.antt`).
 //!   There is one history for each reader, in table order. The clause for a table requires only
-//!   that contracts see the bytes of its own reader (`specs/Served.antt`);
+//!   that contracts see the bytes of its own reader. Over any readers each history has one ending,
+//!   which is that table's own (`specs/Served.antt`);
 //! - the faults and the end are those of the histories, each of which has one ending. Their
 //!   document is written: whole, unfinished up to and including the first refused table, or after a
 //!   failed write a prefix of it;
@@ -46,9 +47,7 @@
 //! - that memory or a read failed if `Memory` or `Read` is the fault; either may also replace a
 //!   table's own fault or its end, and rows that were read before it may be missing;
 //! - that `NoThread` occurs only if no thread started: `under_way` of `start_crew` has it, and no
-//!   clause of `convert` can;
-//! - for `convert`, that a fault has its table's number, if contracts do not see the reader's
-//!   bytes.
+//!   clause of `convert` can.
 //!
 //! Not proved, only tested: that workers are started and run in parallel, that each started worker
 //! is joined, and that memory, threads and tokens are given. `tests/refused.py` counts the threads

@@ -7,13 +7,12 @@ ghost use Rattle.oim_merge.specs.Writers.{IsBroken};
 ghost use Rattle.oim_merge.specs.state.Writers.{Continues};
 ghost use Rattle.oim_convert.specs.Answer.{streams};
 ghost use Rattle.oim_convert.specs.Files.{AreFilesOf};
-ghost use Rattle.oim_convert.specs.ReadAlone.{IsEndingOf};
 ghost use Rattle.oim_convert.specs.Serial.{AreFew, Converts, IsOfTables, Leaves, WritesAlone};
 ghost use Rattle.oim_convert.specs.state.Serial.{HasBegun};
 ghost use Rattle.oim_convert.specs.state.Steps.{Gave, GaveFile, GaveTable, ReadsTables, TookBlocks};
 ghost use Rattle.oim_convert.specs.declared.fault.ConvertFault.TheVariants as fault;
 
-use crate::decode::{refused, without_file};
+use crate::decode::{numbered, refused, without_file};
 use crate::fault::ConvertFault;
 use oim_decode::TableBlocks;
 use oim_json::{Layout, Sink, WriteFault, head};
@@ -103,18 +102,6 @@ fn convert_table<R: Read + Drop, W: Sink>(
     match reader {
         None => Ok(without_file(report, table)),
         Some(reader) => convert_file(alloc, report, table, reader, limits, writer, sink),
-    }
-}
-
-/// Returns the ending with this table's number in its fault. The contracts of decoding give that
-/// number only if they see the reader's bytes.
-fn numbered(table: usize, ending: Ending) -> Ending
-    ensures own { IsEndingOf table result }
-    ensures same { IsEndingOf table ending → result ≡ ending }
-{
-    match ending {
-        Ending::Closed => ending,
-        Ending::Refused(fault) => Ending::Refused(TableFault { table, ..fault }),
     }
 }
 

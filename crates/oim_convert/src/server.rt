@@ -1,7 +1,7 @@
 //! The server, which decodes the tables that workers draw.
 
 ghost use Rattle.std.specs.Prelude.{◌≡◌, [], IfSome};
-ghost use Rattle.oim_convert.specs.Histories.{IsUnserved};
+ghost use Rattle.oim_convert.specs.Histories.{IsOfTable, IsUnserved};
 
 use crate::decode::{decode, refused};
 use crate::sending::close_waiting;
@@ -48,6 +48,7 @@ impl<R: Read + Drop, T: Threads + Wait> Serve<TableTask<R>, TaskResult, T, Repor
 fn refuse<R: Drop, T: Wait>(rt: &T, task: TableTask<R>) -> Option<Closed>
     requires { task.feed.sent ≡ [] }
     ensures ring { IfSome result (λ closed. closed.ring ≡ task.feed.ring) }
+    ensures own { IfSome result (λ closed. IsOfTable task.table closed.sent) }
     ensures sent { IfSome result (λ closed. IsUnserved task.table closed.sent) }
 {
     let TableTask {

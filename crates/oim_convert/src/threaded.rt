@@ -141,9 +141,10 @@ fn run_ready<R: Read + Drop + Send, T: Threads + Wait + Sync, W: Sink>(
 ///
 /// Returns a run in which each history is its table's stream, or a prefix of it that a failed read
 /// (`Read`) or running out of memory (`Memory`) ended; or every table is refused with `NoThread`,
-/// never only some. This holds of each table if contracts see the bytes of its own reader.
-/// `NoThread` occurs only if no worker could be started. No clause of this call can have that,
-/// because it does not know which threads the system gave.
+/// never only some. This holds of each table if contracts see the bytes of its own reader. Over any
+/// reader, a fault in a table's history has that table's number. `NoThread` occurs only if no
+/// worker could be started. No clause of this call can have that, because it does not know which
+/// threads the system gave.
 ///
 /// The run has the fault of each refused table, in table order. Its end is `Complete` if no table
 /// is refused; `Refused` if one is, and then the document ends after the facts of the first refused

@@ -9,6 +9,7 @@ use Rattle.oim_convert.specs.declared.table_task.TableTask.{TableTask}
 use Rattle.oim_convert.specs.declared.table_task.TaskResult.{TaskResult}
 use Rattle.oim_convert.specs.declared.server.Serving.{Serving}
 use Rattle.oim_crew.specs.declared.worker.Shift.{Shift}
+use Rattle.oim_convert.specs.Histories.{IsOfTable}
 use Rattle.oim_convert.specs.Tasks.{Each, IsKept}
 
 -- The closed feeds after the tokens of these results were put into their tables' places, in order.
@@ -17,6 +18,10 @@ placed [] closed_feeds = closed_feeds
 placed (task_result ∷ task_results) closed_feeds = placed task_results (slice_set closed_feeds task_result.table task_result.closed)
 
 module _ {R : Type 0} where
+  -- The history of a table, which ends with one ending of that table.
+  abbrev pub IsKeptOwn : (R → Option (List ℕ)) → ReportValue → ℕ → Bool → ℕ → Option R → List Item → Type 0
+  IsKeptOwn told report limit served table reader history = IsOfTable table history × IsKept told report limit served table reader history
+
   -- All results of the workers, shift after shift.
   abbrev pub results_of : List (Shift (TableTask R) TaskResult) → List TaskResult
   results_of shifts = flat_map (λ (shift : Shift (TableTask R) TaskResult). shift.done.items) shifts
@@ -34,7 +39,7 @@ module _ {R : Type 0} where
   -- the task's ring and has the table's history.
   abbrev pub Gives : (R → Option (List ℕ)) → ReportValue → ℕ → Bool → ℕ → TableTask R → TaskResult → Type 0
   Gives told report limit served table task task_result =
-      (task_result.table ≡ table) × IfSome task_result.closed (λ closed. (closed.ring ≡ task.feed.ring) × IsKept told report limit served table task.reader closed.sent)
+      (task_result.table ≡ table) × IfSome task_result.closed (λ closed. (closed.ring ≡ task.feed.ring) × IsKeptOwn told report limit served table task.reader closed.sent)
 
   -- A new task for this table.
   pub record IsOpened (table : ℕ) (task : TableTask R) : Type 0 where
@@ -59,14 +64,14 @@ module _ {R : Type 0} where
   pub record Fulfills (told : R → Option (List ℕ)) (report : ReportValue) (limit : ℕ) (served : Bool) (plan : List (TableTask R)) (task_result : TaskResult) : Type 0 where
     pub task : TableTask R
     pub planned : slice_get plan task_result.table ≡ Some task
-    pub kept : IfSome task_result.closed (λ closed. (closed.ring ≡ task.feed.ring) × IsKept told report limit served task_result.table task.reader closed.sent)
+    pub kept : IfSome task_result.closed (λ closed. (closed.ring ≡ task.feed.ring) × IsKeptOwn told report limit served task_result.table task.reader closed.sent)
 
   -- The token has everything that was sent into the ring of this table of the plan.
   pub record IsSentOf (told : R → Option (List ℕ)) (report : ReportValue) (limit : ℕ) (served : Bool) (plan : List (TableTask R)) (table : ℕ) (closed : ClosedView) : Type 0 where
     pub task : TableTask R
     pub planned : slice_get plan table ≡ Some task
     pub ring : closed.ring ≡ task.feed.ring
-    pub kept : IsKept told report limit served table task.reader closed.sent
+    pub kept : IsKeptOwn told report limit served table task.reader closed.sent
 
   -- Each token is in its table's place.
   abbrev pub EachClosedFeed : (R → Option (List ℕ)) → ReportValue → ℕ → Bool → List (TableTask R) → List (Option ClosedView) → Type 0
@@ -76,7 +81,7 @@ module _ {R : Type 0} where
   pub record IsTable (told : R → Option (List ℕ)) (report : ReportValue) (limit : ℕ) (served : Bool) (plan : List (TableTask R)) (table : ℕ) (history : List Item) : Type 0 where
     pub task : TableTask R
     pub planned : slice_get plan table ≡ Some task
-    pub kept : IsKept told report limit served table task.reader history
+    pub kept : IsKeptOwn told report limit served table task.reader history
 
   -- The histories of all tables of the plan, in their order.
   abbrev pub AreTables : (R → Option (List ℕ)) → ReportValue → ℕ → Bool → List (TableTask R) → List (List Item) → Type 0

@@ -4,8 +4,8 @@ use Rattle.std.proofs.Math.ListN.{length-set}
 use Rattle.std.proofs.lemmas.List.{get_or_default}
 use Rattle.std.specs.Vec.Iter.{into_iter_items}
 use Rattle.oim_ring.specs.declared.item.Item.{Item}
-use Rattle.oim_convert.specs.Tasks.{Each, IsKept}
-use Rattle.oim_convert.specs.state.Tasks.{IsEnded, IsSentOf, IsTable}
+use Rattle.oim_convert.specs.Tasks.{Each}
+use Rattle.oim_convert.specs.state.Tasks.{IsEnded, IsKeptOwn, IsSentOf, IsTable}
 use Rattle.oim_convert.specs.declared.table_task.TableTask.{TableTask}
 use Rattle.oim_convert.proofs.ClosedFeeds.{closed_kept, closed_read, each_first, each_more, map_one}
 use Rattle.oim_convert.proofs.closed_feeds.settle_all.Given as given
@@ -50,8 +50,8 @@ loop-drain-preserved g c =
     let steps = c.in-Some.ensures.steps in
     let pushed = c.push_reserved.ensures.items in
     let len : length c.push_reserved.new.self.items ≡ suc (length done) = omega (arith, ap length pushed, length-append done (c.settle.result ∷ [])) in
-    let kept : IsKept told report limit served (length done) s.task.reader c.settle.result =
-    subst (λ (l : List Item). IsKept told report limit served (length done) s.task.reader l) (sym c.settle.ensures.sent) s.kept in
+    let kept : IsKeptOwn told report limit served (length done) s.task.reader c.settle.result =
+    subst (λ (l : List Item). IsKeptOwn told report limit served (length done) s.task.reader l) (sym c.settle.ensures.sent) s.kept in
     let table : IsTable told report limit served plan (length done) c.settle.result = record { task = s.task; planned = s.planned; kept = kept } in
     let zero_more : length done ≡ 0 + length done = omega arith in (
       omega arith,
