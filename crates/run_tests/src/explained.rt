@@ -5,8 +5,8 @@ use oim_meta::{Finding, MetaFault};
 use oim_names::{Items, Text};
 use oim_rows::{TableFault, TableKind};
 use oim_run::{
-    ExplainedFault, Explanation, FaultPlace, METADATA, ReportAgain, Source, TYPES, Texts,
-    explain_metadata, explained_fault, explained_faults, explanation_text, fault_header,
+    ExplainedFault, Explanation, FaultPlace, METADATA, MOST_TABLES, ReportAgain, Source, TYPES,
+    Texts, explain_metadata, explained_fault, explained_faults, explanation_text, fault_header,
     fault_place, fault_row, lines_are_of_records, lines_below, report_again, report_explanation,
     report_fault_row, table_line,
 };
@@ -149,6 +149,9 @@ fn tells_once(alloc: Global, folder: &mut Texts<'_>, again: &ReportAgain) -> boo
     let Ok(told) = explained_faults(alloc, "m.json", folder, again, &tables) else {
         return false;
     };
+    if told.len() != tables.len().min(MOST_TABLES) {
+        return false;
+    }
     match lines_below(alloc, &tables, told.as_slice(), 1) {
         Ok(line) => line.as_str() == "    the same cause as in table t1: t1.csv, line 2, cell 1\n",
         Err(_) => false,
