@@ -12,7 +12,7 @@ from .locks import locked, write_aside
 from .refusals import cannot_write
 
 LIMIT = 2 << 30  # bytes; a large module takes 70 MB
-LONGEST_WAIT = 60.0  # seconds for another run to make an entry
+LONGEST_WAIT = 600.0  # seconds for another run to make an entry, many of them on a loaded machine
 LOOKS_EVERY = 0.05
 OLD = 86400.0  # seconds after which a file that never became an entry is removed
 ENTRY = re.compile(r"[0-9a-f]{64}\.(?:kinds|module)")

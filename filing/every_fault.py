@@ -70,12 +70,12 @@ class Converter:
     def run(self, meta: str) -> List[Fault]:
         """Return the first fault of each refused table, or the fault of another file.
 
-        Raise `Unread` if the status is above 1.
+        Raise `Unread` if the status is above 1, or there is no file of faults at status 1.
         """
         said: List[bytes] = []
         words = [self.program, f"--types={self.types}", "--out", os.devnull, "--faults", self.faults, "--", meta]
         status = run_program(words, self.stopping, said.append)
-        if status > 1:
+        if status > 1 or (status and not os.path.lexists(self.faults)):
             raise Unread(status, b"".join(said))
         return read_faults(self.faults)
 

@@ -410,9 +410,9 @@ class TestRuns(FilingTest):
         # As the system's loader does for a program that needs a newer C library.
         fake.write_text("#!/bin/sh\necho too old >&2\nexit 1\n")
         line = f"too old\nxbrl-filing: {fake}: cannot run (too old)\n"
-        for words in ([], ["--every-fault"], ["--progress"]):
-            seen = start(["r", "--taxonomy", "t", *words], folder, env=settings)
-            self.case(f"a program that does not load {words}", (seen[0], seen[2]), (3, line))
+        for word in ("--explain", "--every-fault", "--progress"):
+            seen = start(["r", "--taxonomy", "t", word], folder, env=settings)
+            self.case(f"a program that does not load, {word}", (seen[0], seen[2]), (3, line))
         copy = folder / "copy"
         shutil.copytree(
             TOP / "filing", copy / "filing", ignore=shutil.ignore_patterns("__pycache__")
