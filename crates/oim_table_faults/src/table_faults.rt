@@ -22,7 +22,7 @@ use std::marker::Model;
 ///
 /// Of the rows it keeps only their identifiers. Contracts see the table's place and limit, how many
 /// rows were read, and the end or the failure once it was found. For a reader whose bytes are known
-/// they also see the bad rows that are left.
+/// they also see the bad rows that are left and the unread records.
 pub struct TableFaults<'a, R: Read + Drop> {
     rows: RowFaults<'a>,
     records: RecordReader<R>,
@@ -58,6 +58,7 @@ impl<'a, R: Read + Drop> Model for TableFaults<'a, R> {
       given = a.given;
       answered = a.settled;
       left = left_of a.settled a.rows (a.given + 1) a.records.left;
+      unread = a.records.left;
     } };
 
     ghost invariant = { λ a. (a.rows.header.limit ≡ a.limit) × (a.given ≤ a.limit) × (a.limit < 2 ^ 32 - 1) };
