@@ -38,7 +38,7 @@ the_end = refl
 early_end : GivesBadRow 0 ((a ∷ []) ∷ []) (Ok None) (Some []) → ⊥
 early_end h = absurd (cc h)
 
--- A failure may come at any row, and is no fault of the table.
+-- A failure may come at any row. A fault of the table is not a failure.
 failed_read : GivesBadRow 0 ((a ∷ []) ∷ []) (Err failed) None
 failed_read = inl refl
 
@@ -75,8 +75,8 @@ turns = (refl, refl)
 abbrev no_report : ReportValue
 no_report = record { info = record { base_url = None; taxonomy = [] }; namespaces = []; types = []; level = record { dimensions = []; decimals = None }; templates = []; tables = []; parameters = [] }
 
--- `left_of`: the bad rows of the records that are left, here of a ragged row 5 under a header of one
--- empty cell; none after the end; and after a failure nothing is known.
+-- `left_of`: the bad rows of the records that are left, here of a ragged row 5 under a header of
+-- one empty cell; none after the end; and after a failure nothing is known.
 abbrev reading : EarlierRows
 reading = record { header = record { report = no_report; table = 0; limit = 9; columns = None ∷ [] }; ids = [] }
 

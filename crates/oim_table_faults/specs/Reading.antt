@@ -1,7 +1,7 @@
 -- What a reader of the bad rows of a table answers: each with its faults, in row order, and then
 -- the end.
 use Rattle.std.specs.Prelude.{⊤, ◌≡◌, ◌⊎◌, List, [], ◌∷◌, ◌++◌, ℕ, Option, Some, None, Result, Ok, Err}
-use Rattle.oim_records.specs.Grids.{grid}
+use Rattle.oim_records.specs.Grids.{Record, grid}
 use Rattle.oim_report.specs.ReportValue.{ReportValue}
 use Rattle.oim_rows.specs.Header.{file_header_fault}
 use Rattle.oim_rows.specs.Streams.{IsOutside}
@@ -10,13 +10,14 @@ use Rattle.oim_table_faults.specs.TableFaults.{bad_rows_of, faults_of_rows, tabl
 
 -- What is left of a table. `given` counts the rows that were read. `answered` is the end, or the
 -- failure of the reader or of memory, once it was found. `left` are the bad rows that are left, if
--- the reader's bytes are known and nothing failed.
+-- the reader's bytes are known and nothing failed. `unread` are the records left in the reader.
 pub record FaultsLeft : Type 0 where
   pub table : ℕ
   pub limit : ℕ
   pub given : ℕ
   pub answered : Option (Option TableFault)
   pub left : Option (List (List TableFault))
+  pub unread : Option (List Record)
 
 -- An answer if these bad rows are left: the first one, and the others remain; or the end, if none
 -- is left. Or the reader failed or memory ran out.

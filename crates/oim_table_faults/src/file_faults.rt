@@ -44,12 +44,12 @@ fn rest_of<R: Read + Drop>(
     Err(AllocError)
 }
 
-/// Returns all faults of the table at place `table` of the report: its header's alone, or else those
-/// of its rows, in their order.
+/// Returns all faults of the table at place `table` of the report: only its header's, or else
+/// those of its rows, in their order.
 ///
-/// The first row past `limits.rows` is the last that is read. If the reader fails or memory runs out,
-/// the list has the faults of the rows before and ends with Read or Memory. Fails if memory runs out
-/// for the list.
+/// The first row past `limits.rows` is the last that is read. If the reader fails or memory runs
+/// out, the list has the faults of the rows before and ends with Read or Memory. Fails if memory
+/// runs out for the list.
 pub fn faults_of_file<R: Read + Drop>(
     alloc: Global,
     report: &Report,

@@ -10,8 +10,8 @@
 //! each call answers the same and takes no record. `faults_of_file` lists all faults at once.
 //!
 //! A row goes one of two ways. What the fast way (`oim_fast`) writes has no fault, and is thrown
-//! away. For the others each cell is resolved in header order (`oim_resolve`). Of the rows only
-//! their identifiers are kept.
+//! away. For the others each cell is resolved in header order (`oim_resolve`). Only the identifiers
+//! of the rows are kept.
 //!
 //! Not proved: which good rows go the fast way.
 //!

@@ -20,9 +20,9 @@ use std::marker::Model;
 /// The bad rows of a table that are not read yet (xBRL-CSV 1.0, table files: the first record is
 /// the header, and each record after it a row).
 ///
-/// Of the rows it keeps only their identifiers. Contracts see the table's place and limit, how many
+/// It keeps only the identifiers of the rows. Contracts see the table's place and limit, how many
 /// rows were read, and the end or the failure once it was found. For a reader whose bytes are known
-/// they also see the bad rows that are left.
+/// they also see the bad rows that are left and the unread records.
 pub struct TableFaults<'a, R: Read + Drop> {
     rows: RowFaults<'a>,
     records: RecordReader<R>,
@@ -58,6 +58,7 @@ impl<'a, R: Read + Drop> Model for TableFaults<'a, R> {
       given = a.given;
       answered = a.settled;
       left = left_of a.settled a.rows (a.given + 1) a.records.left;
+      unread = a.records.left;
     } };
 
     ghost invariant = { λ a. (a.rows.header.limit ≡ a.limit) × (a.given ≤ a.limit) × (a.limit < 2 ^ 32 - 1) };
@@ -79,8 +80,8 @@ impl<'a, R: Read + Drop> TableFaults<'a, R> {
     /// byte-order mark.
     ///
     /// The first row past `limits.rows` is the last that is read. Fails with the header's first
-    /// fault, in this order: NoHeader, UnknownHeader, RepeatedHeader, NoRowIdColumn. Fails with Read
-    /// if the reader failed, and with Memory if memory runs out.
+    /// fault, in this order: NoHeader, UnknownHeader, RepeatedHeader, NoRowIdColumn. Fails with
+    /// Read if the reader failed, and with Memory if memory runs out.
     pub fn open(
         alloc: Global,
         report: &'a Report,
@@ -124,11 +125,11 @@ impl<'a, R: Read + Drop> TableFaults<'a, R> {
 ghost use Rattle.std.specs.Prelude.{IsSome, is_some};
 
 impl<R: Read + Drop> TableFaults<'_, R> {
-    /// Returns the faults of the next bad row, one at least, or None at the end of the table. The
-    /// fault of the row itself is alone; else they are those of its cells, in header order.
+    /// Returns the faults of the next bad row, one at least, or None at the end of the table: only
+    /// the fault of the row itself, or else those of its cells, in header order.
     ///
-    /// After the end or a failure each call answers the same and takes no record. Fails with Read if
-    /// the reader failed, and with Memory if memory runs out.
+    /// After the end or a failure each call answers the same and takes no record. Fails with Read
+    /// if the reader failed, and with Memory if memory runs out.
     pub fn next_row(&mut self) -> Result<Option<Items<TableFault>>, TableFault>
         ensures next { IfSome self.old.left (λ rows. GivesBadRow self.old.table rows result self.new.left) }
         ensures kept { KeepsEnd result self.new.answered }

@@ -8,8 +8,8 @@ use oim_table_faults::{
 };
 use std::alloc::Global;
 
-/// Returns the number of faults of the first bad row of a report's first table, whose file has these
-/// bytes.
+/// Returns the number of faults of the first bad row of a report's first table, whose file has
+/// these bytes.
 fn first_bad_row(alloc: Global, report: &Report, file: &[u8]) -> Result<usize, TableFault> {
     if report.tables() == 0 {
         return Ok(0);

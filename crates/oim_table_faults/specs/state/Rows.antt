@@ -39,8 +39,8 @@ StillLeft table rows None left = left ≡ Some rows
 StillLeft table rows (Some None) left = rows ≡ []
 StillLeft table rows (Some (Some e)) left = IsOutside table e
 
--- One record was read: that of the first of these bad rows, with its faults, or of a row that has
--- none, or there was none.
+-- One record was read: that of the first of these bad rows, with its faults, or that of a row
+-- without a fault; or the end was found, or there was a failure.
 abbrev pub Steps : List (List TableFault) → Option (List TableFault) → FaultsLeft → Type 0
 Steps rows None new = StillLeft new.table rows new.answered new.left
 Steps rows (Some faults) new = (later : List (List TableFault)) × (rows ≡ faults ∷ later) × (new.left ≡ Some later)
