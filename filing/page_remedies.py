@@ -244,11 +244,11 @@ FORMS: Dict[int, List[Tuple[str, str, str]]] = {
             "correct the name, or add the column",
         ),
         (
-            '`.../concept: "$what"`, `cell 3: ""`',
+            '`cell 3: ""`, then by `"$what"`',
             "the cell that names the concept is empty",
             "fill it, or empty the value's cell",
         ),
-        ('`cell 1: ""`, then `(nothing)`', "the row names no property group", "name one, as `dp1`"),
+        ('`cell 1: ""`, then by `(nothing)`', "the row names no property group", "name one, as `dp1`"),
         (
             '`the header has no column "dp"`',
             "the column of group names is missing",

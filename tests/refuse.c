@@ -6,6 +6,9 @@
  * write, zero (a write that takes nothing), open, stat, thread, cut (a file is made shorter), sync,
  * rename, permit (a file's permissions are set), unlink, path (links are resolved) and close.
  *
+ * The count of running threads is never given, so that a run has the workers of its command line
+ * however busy the machine is.
+ *
  * At the end the number of calls of each kind is written to the file that REFUSE_COUNT names. After
  * them follow the number of requests for LARGE bytes of memory or more (large), the number of
  * threads that made BUSY requests of any size or more (busy), and the permissions that regular files
@@ -97,6 +100,7 @@ int open(const char *path, int flags, ...) {
     va_start(more, flags);
     int mode = va_arg(more, int);
     va_end(more);
+    if (!strcmp(path, "/proc/loadavg")) return fails(ENOENT);
     if (refuses(OPEN)) return fails(EMFILE);
     int file = syscall(SYS_openat, AT_FDCWD, path, flags, mode);
     if (flags & O_CREAT) note_permissions(file);
