@@ -248,7 +248,11 @@ FORMS: Dict[int, List[Tuple[str, str, str]]] = {
             "the cell that names the concept is empty",
             "fill it, or empty the value's cell",
         ),
-        ('`cell 1: ""`, then by `(nothing)`', "the row names no property group", "name one, as `dp1`"),
+        (
+            '`cell 1: ""`, then by `(nothing)`',
+            "the row names no property group",
+            "name one, as `dp1`",
+        ),
         (
             '`the header has no column "dp"`',
             "the column of group names is missing",
