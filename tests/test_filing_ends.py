@@ -52,7 +52,8 @@ class TestRuns(FilingTest):
         folder = self.folder
         temporary, fake, settings = with_fake(folder)
         pack(folder / "r.zip", REPORT)
-        fake.write_text(f"#!/bin/sh\n{SHOWS}\necho said >&2\nexit ${{END:-0}}\n")
+        version = '[ "$1" = --version ] && exit'
+        fake.write_text(f"#!/bin/sh\n{version}\n{SHOWS}\necho said >&2\nexit ${{END:-0}}\n")
         for report, links in (("r", "1"), ("r.zip", "0"), ("r/reports/report.json", "1")):
             for end in ("0", "1", "2", "3", "77"):
                 status, out, err = start(

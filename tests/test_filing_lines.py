@@ -269,7 +269,7 @@ class TestRuns(FilingTest):
             except refusals.Refusal as refusal:
                 seen = refusal.status, line in refusal.line
             self.case(f"a call that is refused: {line}", seen, (status, True))
-        self.case("nothing is left open", len(os.listdir("/proc/self/fd")), len(before))
+        self.case("nothing is left open", len(os.listdir("/proc/self/fd")) <= len(before), True)
 
     def test_refusals_in_the_faults(self) -> None:
         """The file of --faults has a refusal of this program, and nothing of an earlier run."""

@@ -91,7 +91,8 @@ class TestProgress(EdgeTest):
         """Prints a line after ten seconds, and not before."""
         ends = threading.Event()
         self.feed(ends)
-        command = [PROGRAM, *WORDS, "--progress", "--out", "o.json"]
+        # More workers than processors, so that a busy machine has not fewer.
+        command = [PROGRAM, *WORDS, "--workers=64", "--progress", "--out", "o.json"]
         since = time.monotonic()
         with subprocess.Popen(command, cwd=self.folder, stderr=subprocess.PIPE) as run:
             assert run.stderr is not None
