@@ -18,7 +18,7 @@ from .table_cells import is_pipe, pieces_of
 from .types_table import quoted
 
 MEMBER_END = f",{MEMBER}\n".encode()
-LARGE = 2 << 20  # bytes of a types table: xbrl-json reads a smaller one as fast as this is done
+LARGE = 8 << 20  # bytes of a types table: xbrl-json reads a smaller one as fast as this is done
 MOST = 2 << 20  # bytes that are searched: in less time than xbrl-json takes for a large dictionary
 TEXT = re.compile(rb'"((?:[^"\\]|\\.)*)"')  # of JSON
 WORD = re.compile(rb"[^\s,:]+:[^\s,]+")  # of a CSV file without quotes
