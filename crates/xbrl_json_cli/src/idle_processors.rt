@@ -1,4 +1,4 @@
-//! How many of the system's processors are idle.
+//! Whether the system's other processors are busy.
 //!
 //! Not proved: all of this file.
 
@@ -76,11 +76,22 @@ fn processors_in(list: &SmallFile) -> usize {
     count
 }
 
-/// Returns how many of the system's processors are idle, this thread's own counted as idle, or None
-/// if the system does not tell.
-pub fn idle_processors(rt: &HostRuntime) -> Option<usize> {
-    let load = small_file(rt, "/proc/loadavg")?;
-    let list = small_file(rt, "/sys/devices/system/cpu/online")?;
-    let others = running_in(&load)?.saturating_sub(1);
-    Some(processors_in(&list).saturating_sub(others))
+/// How many processors a system has at least if its count of running threads says how many are idle.
+/// On fewer, the program that starts a run often counts as one that keeps the other busy.
+const SEVERAL: usize = 3;
+
+/// Returns whether at most one of the system's processors is idle, that of this thread counted as
+/// idle. Returns false if the system does not tell, or has few processors.
+pub fn are_others_busy(rt: &HostRuntime) -> bool {
+    let Some(load) = small_file(rt, "/proc/loadavg") else {
+        return false;
+    };
+    let Some(list) = small_file(rt, "/sys/devices/system/cpu/online") else {
+        return false;
+    };
+    let processors = processors_in(&list);
+    match running_in(&load) {
+        Some(running) => processors >= SEVERAL && running >= processors,
+        None => false,
+    }
 }

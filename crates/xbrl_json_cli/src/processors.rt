@@ -1,17 +1,17 @@
 //! How many workers a run gets.
 //!
-//! Not proved: how many processors the system offers, and how many of them are idle.
+//! Not proved: how many processors the system offers, and whether they are busy.
 
 ghost use Rattle.std.specs.Prelude.{◌≡◌, ◌≤◌};
 ghost use Rattle.oim_convert.specs.Limits.{IsWorkerCount};
 
-use crate::idle_processors::idle_processors;
+use crate::idle_processors::are_others_busy;
 use oim_run::Request;
 use std::thread::{Threads, available_parallelism};
 
 /// Returns how many workers are of use where `asked` are asked for: one if the system offers one
-/// processor, else one for each processor that is idle. More workers than processors are all of
-/// use, because then it is the open tables that are asked for.
+/// processor, or all others are busy. More workers than processors are all of use, because then it
+/// is the open tables that are asked for.
 fn useful_workers<T: Threads>(rt: &HostRuntime, threads: &T, asked: usize) -> usize
     ensures { 1 ≤ result }
 {
@@ -19,16 +19,10 @@ fn useful_workers<T: Threads>(rt: &HostRuntime, threads: &T, asked: usize) -> us
         Ok(count) => count.get(),
         Err(_) => return asked.max(1),
     };
-    if offered == 1 {
+    if offered == 1 || (asked <= offered && are_others_busy(rt)) {
         return 1;
     }
-    if asked > offered {
-        return asked;
-    }
-    match idle_processors(rt) {
-        Some(idle) => idle.max(1),
-        None => asked.max(1),
-    }
+    asked.max(1)
 }
 
 /// Returns the request with fewer workers if more would only take time. A run ends as the request
