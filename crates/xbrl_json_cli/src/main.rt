@@ -33,6 +33,7 @@
 //! - the line of `--progress`, and what the file of `--counts` has.
 #![tactic(auto)]
 
+mod busy_processors;
 mod colours;
 mod counts;
 mod counts_file;
@@ -42,7 +43,6 @@ mod document_marks;
 mod explain;
 mod faults;
 mod files_again;
-mod idle_processors;
 mod json_place;
 mod new_file;
 mod noted;

@@ -5,7 +5,7 @@
 ghost use Rattle.std.specs.Prelude.{◌≡◌, ◌≤◌};
 ghost use Rattle.oim_convert.specs.Limits.{IsWorkerCount};
 
-use crate::idle_processors::are_others_busy;
+use crate::busy_processors::are_others_busy;
 use oim_run::Request;
 use std::thread::{Threads, available_parallelism};
 

@@ -76,8 +76,8 @@ fn processors_in(list: &SmallFile) -> usize {
     count
 }
 
-/// How many processors a system has at least if its count of running threads says how many are idle.
-/// On fewer, the program that starts a run often counts as one that keeps the other busy.
+/// How many processors a system has at least if its count of running threads says enough. On fewer,
+/// the program that starts a run often counts as one that keeps the other busy.
 const SEVERAL: usize = 3;
 
 /// Returns whether at most one of the system's processors is idle, that of this thread counted as
