@@ -56,14 +56,20 @@ class Library:
     path = ""
 
 
+def library_in(folder: str) -> str:
+    """Builds the library in a folder, and returns its path."""
+    path = f"{folder}/refuse.so"
+    source = str(TOP / "tests/refuse.c")
+    command = ["cc", "-shared", "-fPIC", "-O1", "-o", path, source, "-ldl"]
+    subprocess.run(command, check=True)
+    return path
+
+
 def build_library() -> None:
     """Builds the library, and removes it when the tests of the module have ended."""
     folder = tempfile.TemporaryDirectory()
     unittest.addModuleCleanup(folder.cleanup)
-    Library.path = f"{folder.name}/refuse.so"
-    source = str(TOP / "tests/refuse.c")
-    command = ["cc", "-shared", "-fPIC", "-O1", "-o", Library.path, source, "-ldl"]
-    subprocess.run(command, check=True)
+    Library.path = library_in(folder.name)
 
 
 def in_parallel(call: Callable[[T], Done], todo: Sequence[T]) -> list[tuple[T, Done]]:

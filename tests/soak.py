@@ -11,7 +11,8 @@ or one; some outputs are read slowly, and some tables are pipes that are fed slo
 Each output must be the document by the own reading of these tests, or with a fault what one worker
 writes and says. A run that takes longer than ten minutes hangs: its threads are shown as the system
 knows them, and it is stopped. The last line counts the runs, those that hung and those that were
-wrong. Without `--runs` there are 10,000. Needs Linux and Python 3.9 or later.
+wrong. Without `--runs` there are 10,000. Needs Linux, Python 3.9 or later and `cc`, for
+`refuse.c`: without it a run of few workers would take one on a machine as busy as this one.
 """
 from __future__ import annotations
 
@@ -184,6 +185,8 @@ def main() -> int:
     options = parser.parse_args()
     os.environ["XBRL_JSON"] = os.path.abspath(options.program)
     sys.path.insert(0, str(TOP))
+    from tests.refusing import library_in
+
     counts: Counter[str] = Counter()
     starts = range(0, options.runs, RUNS_EACH)
 
@@ -191,7 +194,8 @@ def main() -> int:
         """Converts one report as often as its runs say."""
         return list(convert_often(options.seed, first, min(first + RUNS_EACH, options.runs)))
 
-    with ThreadPoolExecutor(options.jobs) as pool:
+    with tempfile.TemporaryDirectory() as folder, ThreadPoolExecutor(options.jobs) as pool:
+        os.environ["LD_PRELOAD"] = library_in(folder)
         for found in pool.map(all_of, starts):
             counts.update(found)
             if sum(counts.values()) % 1_024 == 0:
