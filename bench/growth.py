@@ -398,6 +398,33 @@ def hash_ids(n: int) -> Report:
     return identified(colliding(n))
 
 
+def crowding(n: int) -> list[str]:
+    """n names of 8 bytes that the kit's table seeks first in groups side by side, 16 in each.
+
+    A group has 12 places.
+    """
+    multiplier, start = 0x9E3779B97F4A7C15 ^ 16, 0x243F6A8885A308D3
+    groups = 1 << (n // 4 - 1).bit_length()
+    rooms: list[list[str]] = [[] for _ in range(n // 16)]
+    left = 16 * len(rooms)
+    for i in itertools.count():
+        name = f"{i:08}"
+        number = folded(start ^ int.from_bytes(name.encode(), "little"), multiplier)
+        group = (number ^ number >> 32) % groups
+        if group < len(rooms) and len(rooms[group]) < 16:
+            rooms[group].append(name)
+            left -= 1
+            if not left:
+                break
+    return [name for room in rooms for name in room]
+
+
+@kind(16_000, hostile=True)
+def crowded_ids(n: int) -> Report:
+    """n rows whose identifiers are sought first in places side by side."""
+    return identified(crowding(n))
+
+
 @kind(16_000, hostile=True)
 def hash_types(n: int) -> Report:
     """n records of the types table whose names have one hash."""

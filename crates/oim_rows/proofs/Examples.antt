@@ -5,7 +5,6 @@ use Rattle.oim_report.specs.Readers.{holds_facts, no_level}
 use Rattle.oim_report.specs.ReportValue.{ReportValue}
 use Rattle.oim_report.specs.declared.data.Column.{Column}
 use Rattle.oim_report.specs.declared.data.ColumnKind.TheVariants as content
-use Rattle.std.specs.Hash.FoldHasher.{folded_multiply, initial, mix_blocks, read_short, read_u32, read_u64, write}
 use Rattle.std.specs.Str.{chars, is_utf8}
 use Rattle.csv.specs.Machine.{next_record}
 use Rattle.csv.specs.Reading.{records_from, strip_bom}
@@ -28,7 +27,6 @@ use Rattle.oim_rows.specs.state.Progressing.{left_of}
 use Rattle.oim_rows.specs.RowFacts.{TableHeaderValue, cell_at, fact_at, facts_from, id_kind, is_fact_column, row_fault, row_id_text, row_result, source_of_column}
 use Rattle.oim_rows.specs.state.RowFacts.{early_fact_at}
 use Rattle.oim_rows.specs.Streams.{answer_of, ending, facts_of, fault_of_read, kept_answer, stream_from, stream_of, table_stream}
-use Rattle.oim_rows.specs.state.Hashes.{hash_of}
 use Rattle.oim_rows.specs.state.Streams.{early_header_fault, early_row_answer, row_answer}
 use Rattle.oim_rows.specs.WholeTable.{ids_of, row_after, row_at}
 use Rattle.oim_rows.specs.declared.fault.TableKind.TheVariants as kind
@@ -209,12 +207,6 @@ early_fault_of_a_concept = refl
 late_fact : (early_fact_at (report false) 0 (cell_four (codes "x")) 2 (Some 0) ≡ None) × (fact_at (report false) 0 (cell_four (codes "x")) 2 (Some 0) ≡ Ok (Some (note (codes "a") (codes "x"))))
 unfolding early_result cell_result rest_faults fact_of meaning_of chars is_ncname is_name_char is_name_start qname_of is_utf8 lib.Utf8.encode
 late_fact = (refl, refl)
-
--- HASHES of identifiers of three bytes, of eight, and of more than sixteen, computed by a program
--- in another language.
-hashes : map hash_of (codes "r12" ∷ codes "row-0012" ∷ codes "identifier-000001" ∷ []) ≡ 13954843398969203645 ∷ 3660796589564607624 ∷ 12505539127986117002 ∷ []
-unfolding hash_of write initial folded_multiply read_u32 read_u64 read_short mix_blocks
-hashes = refl
 
 -- What a failed reader gives, and a result that takes no memory.
 faults_of_reads : (fault_of_read 2 read.Read ≡ file_fault 2 kind.Read) × (fault_of_read 2 read.Memory ≡ file_fault 2 kind.Memory)

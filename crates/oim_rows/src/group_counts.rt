@@ -1,27 +1,31 @@
-//! How many row identifiers begin in each group of a hash set's table.
+//! How many row identifiers begin in each stretch of a hash set's table.
 
 ghost use Rattle.std.specs.Prelude.{◌≡◌};
 
 use crate::row_id::RowId;
 use indexmap::IndexSet;
 use std::alloc::{AllocError, Global};
-use std::hash::{FoldHasher, Hasher};
+use std::hash::{FoldHasher, Hash, Hasher};
 
 /// The groups of the table with the first identifier.
 const FIRST: usize = 256;
 
-/// The places of a group, of which a full table uses `USED`.
-const PLACES: u8 = 16;
+/// The groups of a stretch, which lie side by side.
+const STRETCH: usize = 16;
+
+/// The most identifiers that begin in a stretch. Its groups have 192 places. So all that begin in
+/// one group, and do not fit there, find a place within some thirty groups.
+const MOST: u8 = 176;
 
 /// The identifiers for which the table has memory, for each group.
 const USED: usize = 9;
 
-/// The most identifiers, for each group, before the table grows. With so few, a group of the table
-/// of a good report is hardly ever full.
-const LOAD: usize = 4;
+/// The most identifiers, for each group, before the table grows. With so few, a stretch of the
+/// table of a good report is hardly ever full.
+const LOAD: usize = 7;
 
-/// How many of the identifiers in a hash set begin in each group of its table, so that none begins
-/// in a group that is full. A wrong count costs only time.
+/// How many of the identifiers in a hash set begin in each stretch of its table, so that none
+/// begins in a stretch that is full. A wrong count costs only time.
 #[derive(Drop)]
 pub(crate) struct GroupCounts {
     counts: Vec<u8>,
@@ -31,7 +35,7 @@ pub(crate) struct GroupCounts {
 #[inline(always)]
 fn group_of(id: &RowId) -> usize {
     let mut state = FoldHasher::default();
-    state.write_u64(id.hash());
+    id.hash(&mut state);
     let hash = state.finish();
     (hash ^ (hash >> 32)) as usize
 }
@@ -44,13 +48,13 @@ impl GroupCounts {
         }
     }
 
-    /// Counts an identifier that is to be added, unless its group is full. Returns whether it is.
+    /// Counts an identifier that is to be added, unless its stretch is full. Returns whether it is.
     #[inline(always)]
     pub(crate) fn is_full(&mut self, id: &RowId) -> bool {
-        let group = group_of(id) & self.counts.len().saturating_sub(1);
-        match self.counts.get_mut(group) {
+        let stretch = group_of(id) / STRETCH & self.counts.len().saturating_sub(1);
+        match self.counts.get_mut(stretch) {
             Some(count) => {
-                if *count >= PLACES {
+                if *count >= MOST {
                     return true;
                 }
                 *count += 1;
@@ -65,7 +69,7 @@ impl GroupCounts {
     pub(crate) fn make_room(&mut self, ids: &mut IndexSet<RowId>)
         ensures { ids.new.keys ≡ ids.old.keys }
     {
-        if ids.len() / LOAD >= self.counts.len() {
+        if ids.len() / LOAD >= self.groups() {
             let _ = self.grow(ids);
         }
     }
@@ -75,10 +79,10 @@ impl GroupCounts {
     fn grow(&mut self, ids: &mut IndexSet<RowId>) -> Result<(), AllocError>
         ensures { ids.new.keys ≡ ids.old.keys }
     {
-        let groups = FIRST.max(self.counts.len().saturating_mul(2));
+        let groups = FIRST.max(self.groups().saturating_mul(2));
         ids.reserve(groups.saturating_mul(USED).saturating_sub(ids.len()))?;
         self.counts.clear();
-        self.counts.resize(groups, 0)?;
+        self.counts.resize(groups / STRETCH, 0)?;
         self.count_all(ids);
         Ok(())
     }
@@ -97,6 +101,6 @@ impl GroupCounts {
 
     /// Returns the count of groups.
     pub(crate) fn groups(&self) -> usize {
-        self.counts.len()
+        self.counts.len().saturating_mul(STRETCH)
     }
 }

@@ -18,9 +18,9 @@ use std::collections::BTreeSet;
 
 /// Row identifiers.
 ///
-/// A search among `hashed` looks at one group of its table, since no more identifiers begin there
-/// than the group has places. The identifiers past these are in `ordered`. So those of one hash,
-/// which a stranger can choose, cost no more than a search in an ordered set.
+/// A search among `hashed` looks at few groups of its table, since fewer identifiers begin in a
+/// stretch of groups than these have places. The identifiers past these are in `ordered`. So those
+/// whose hashes a stranger chose cost little more than a search in an ordered set.
 #[derive(Drop)]
 pub(crate) struct KeptIds {
     alloc: Global,

@@ -6,12 +6,12 @@ use std::marker::Model;
 use std::str;
 
 /// The most bytes of a short text.
-const MOST: usize = 23;
+const MOST: usize = 30;
 
-/// A text of up to 23 bytes, in 24. A contract sees its bytes.
+/// A text of up to 30 bytes, in 31. A contract sees its bytes.
 #[derive(Drop)]
 pub(crate) struct ShortText {
-    bytes: [u8; 23],
+    bytes: [u8; 30],
     len: u8,
 }
 
@@ -22,21 +22,21 @@ impl Model for ShortText {
 
     ghost view = { λ a. take a.len a.bytes };
 
-    ghost invariant = { λ a. (a.len ≤ 23) × ∥ IsUtf8 (take a.len a.bytes) ∥₁ };
+    ghost invariant = { λ a. (a.len ≤ 30) × ∥ IsUtf8 (take a.len a.bytes) ∥₁ };
 }
 
 impl ShortText {
-    /// Copies a text, if it has up to 23 bytes.
+    /// Copies a text, if it has up to 30 bytes.
     #[inline(always)]
     pub(crate) fn of(text: &str) -> Option<ShortText>
         ensures text { IfSome result (λ short. short ≡ text.now) }
-        ensures none { IfNone result (23 < length text.now) }
+        ensures none { IfNone result (30 < length text.now) }
     {
         let len = text.len();
         if len > MOST {
             return None;
         }
-        let mut bytes = [0; 23];
+        let mut bytes = [0; 30];
         bytes[..len].copy_from_slice(text.as_bytes());
         Some(ShortText {
             bytes,

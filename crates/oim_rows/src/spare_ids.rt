@@ -10,8 +10,8 @@ use std::marker::Model;
 /// The fewest groups of a table that is kept.
 const FEWEST: usize = 512;
 
-/// The most groups of a table that is kept. With its identifiers, at most about 65,000, it takes
-/// about 5 MB.
+/// The most groups of a table that is kept. With its identifiers, at most about 115,000, it takes
+/// about 6 MB.
 const MOST: usize = 16_384;
 
 /// Memory for the row identifiers of a table. None of them is in it.
