@@ -79,12 +79,6 @@ DIALECT: List[Tuple[str, str]] = [
     (r"\bas it was\b(?= at\b|[.;,]|$)", "unchanged"),
 ]
 PATTERNS = [(re.compile(pattern), better) for pattern, better in DIALECT]
-# Comments of proved sources whose words wait for the next proof of their crate.
-WAITING = {
-    ("crates/oim_fast/src/frame/same_kind.rt", "are no concepts"),
-    ("crates/oim_fast/src/frame/value.rt", "beside"),
-    ("crates/oim_row/proofs/Examples.antt", "is no instant"),
-}
 
 
 class Line(NamedTuple):
@@ -241,8 +235,7 @@ def in_dialect(name: str, text: str, top: Path) -> Iterator[Finding]:
         for pattern, better in PATTERNS:
             for match in pattern.finditer(joined):
                 said = match.group().strip(" .:;,(")
-                if (name, said) not in WAITING:
-                    yield Finding(name, numbers[match.start()], f"'{said}': write {better}")
+                yield Finding(name, numbers[match.start()], f"'{said}': write {better}")
 
 
 def slug(heading: str) -> str:

@@ -100,7 +100,7 @@ no_unit_of_a_number r = refl
 no_text_of_a_wanted_unit : (r : ReportValue) → json_for r (WantedUnit item.Shares) (Text (codes "xbrli:shares")) ≡ []
 no_text_of_a_wanted_unit r = refl
 
--- No period means for ever, which is no instant.
+-- No period means for ever, which is not an instant.
 no_instant : (r : ReportValue) → is_sound_for r (WantedPeriod Instant side.Whole) Absent ≡ false
 no_instant r = refl
 

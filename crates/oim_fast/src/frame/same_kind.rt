@@ -41,7 +41,7 @@ fn is_same_concept(first: Concept, second: Concept) -> bool
     is_same_value(first.value, second.value) && is_same_period(first.period, second.period)
 }
 
-/// Returns true only if two kinds are the same. Kinds that are no concepts are not compared.
+/// Returns true only if two kinds are the same. Kinds that no concept has are not compared.
 #[inline(always)]
 fn is_same(first: Kind, second: Kind) -> bool
     ensures { result ≡ true → first ≡ second }

@@ -126,7 +126,7 @@ fn number<'r>(
     Some(plain(bytes, end, Some(accuracy)))
 }
 
-/// What is known of a value beside its text.
+/// What is known of a value, except its text.
 #[derive(Clone, Copy)]
 struct ReadValue {
     accuracy: Option<Accuracy>,
