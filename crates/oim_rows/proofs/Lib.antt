@@ -1,6 +1,5 @@
 mod Places
 mod Repeats
-mod Sources
 mod FactLists
 pub mod StreamLaws
 mod ReadCells

@@ -1,81 +1,109 @@
--- Header cells that name a column, and columns that occur in a prefix of a header.
-use Rattle.std.proofs.Common.{◌≡◌, ℕ, ◌+◌, ◌<◌, zero, suc, List, [], ◌∷◌, ◌++◌, length, take, drop, get_or, set, replicate, Option, Some, None, Bool, true, false, refl, sym, ap, ◌∙◌, arith, ◌≢◌}
-use Rattle.std.specs.Prelude.{IfSome, ◌||◌, ◌==◌, if◌then◌else◌}
-use Rattle.std.specs.List.{All, list_any}
-use Rattle.std.specs.Str.{bytes_eq}
-use Rattle.std.proofs.lemmas.List.Folds.{list_any-append}
-use Rattle.std.proofs.lemmas.List.Quantifiers.{position-Some}
+-- The index of a prefix of a header, and columns that occur in one.
+use Rattle.std.proofs.Common.{◌≡◌, ℕ, ◌+◌, ◌<◌, suc, [], ◌∷◌, ◌++◌, length, take, drop, get_or, Option, Some, None, Bool, true, false, refl, sym, ap, ◌∙◌, arith, ◌≢◌, true≢false, is_some}
+use Rattle.std.specs.Prelude.{◌==◌, if◌then◌else◌, nat_eq}
+use Rattle.std.specs.List.{list_any, position_from}
 use Rattle.std.proofs.lemmas.Bool.{eqb-true, eqb-false}
-use Rattle.std.proofs.lemmas.Grind.{get_or-set_at}
 use Rattle.std.proofs.Math.Seq.{drop-cons}
-use Rattle.std.proofs.lemmas.List.{get_or_default, get_or-replicate, get_or-set_other, length-replicate, length-set, take_more}
-use Rattle.oim_records.specs.Grids.{Field, Record}
-use Rattle.oim_report.specs.Readers.{no_column, place_of_name}
-use Rattle.oim_report.specs.declared.data.Column.{Column}
-use Rattle.oim_rows.specs.Header.{Header, header_of, is_column, named_column, repeat_from, repeats}
+use Rattle.std.proofs.lemmas.List.{length-take-le, take_more}
+use Rattle.indexmap.specs.IndexMap.{IndexMap, get}
+use Rattle.oim_rows.specs.Header.{Header, is_column, repeat_from, repeats}
+use Rattle.oim_rows.specs.RowFacts.{source_of_column}
+use Rattle.oim_rows.specs.state.Decoding.{IsIndexOf}
 
--- A CELL NAMES A COLUMN THAT EXISTS
+-- EQUAL NUMBERS
 
-IsBelow : ℕ → Option ℕ → Type 0
-IsBelow n o = IfSome o (λ c. c < n)
-
-cell_below : (columns : List Column) (f : Field) → IfSome (named_column columns f) (λ c. c < length columns)
-cell_below columns [] = tt
-cell_below columns (b ∷ bs) = by (place_of_name columns (b ∷ bs)) refl
+is_other : (c x : ℕ) → c ≢ x → (c == x) ≡ false
+is_other c x apart = by (c == x) refl
   where
-    by : (o : Option ℕ) → place_of_name columns (b ∷ bs) ≡ o → IfSome o (λ c. c < length columns)
-    by None e = tt
-    by (Some c) e = (position-Some (λ (k : Column). bytes_eq k.id (b ∷ bs)) columns c no_column e).0
+    by : (b : Bool) → (c == x) ≡ b → (c == x) ≡ false
+    by true e = absurd (apart (eqb-true c x e))
+    by false e = e
 
-pub header_below : (columns : List Column) (r : Record) → All (λ o. IfSome o (λ c. c < length columns)) (header_of columns r)
-header_below columns [] k d lt = absurd (omega (arith, lt))
-header_below columns (f ∷ fs) zero d lt = cell_below columns f
-header_below columns (f ∷ fs) (suc k) d lt = header_below columns fs k d (omega (arith, lt))
-
--- FLAGS OF THE COLUMNS IN A PREFIX
-
--- Each column has a flag, set if the column occurs in the prefix.
-abbrev pub AreFlags : List Bool → ℕ → Header → Type 0
-AreFlags seen count front = (length seen ≡ count) × ((c : ℕ) → c < count → get_or seen c false ≡ list_any (is_column c) front)
-
--- No column occurs in an empty prefix.
-pub flags_none : (seen : List Bool) (count : ℕ) → seen ≡ replicate count false → AreFlags seen count []
-flags_none seen count e = (ap length e ∙ length-replicate count false, λ c lt. ap (λ s. get_or s c false) e ∙ get_or-replicate count c false false lt)
-
-more_in_front : (header : Header) (i : ℕ) (o d : Option ℕ) → i < length header → get_or header i d ≡ o → (c : ℕ)
-    → list_any (is_column c) (take (i + 1) header) ≡ (list_any (is_column c) (take i header) || (is_column c o || false))
-more_in_front header i o d lt at c = ap (list_any (is_column c)) (take_more header i d lt ∙ ap (λ p. take i header ++ p ∷ []) at) ∙ list_any-append (is_column c) (take i header) (o ∷ [])
-
-or_true : (b : Bool) → (b || (true || false)) ≡ true
-or_true true = refl
-or_true false = refl
-
-or_false : (b : Bool) → (b || false) ≡ b
-or_false true = refl
-or_false false = refl
-
--- A cell that names no column sets no flag.
-pub flags_stay : (seen : List Bool) (count : ℕ) (header : Header) (i : ℕ) (d : Option ℕ) → i < length header → get_or header i d ≡ None
-    → AreFlags seen count (take i header) → AreFlags seen count (take (i + 1) header)
-flags_stay seen count header i d lt at flags =
-    (flags.0, λ c within. flags.1 c within ∙ sym (more_in_front header i None d lt at c ∙ or_false (list_any (is_column c) (take i header))))
-
--- A cell that names a column sets its flag.
-pub flags_set : (seen : List Bool) (count : ℕ) (header : Header) (i x : ℕ) (d : Option ℕ) → i < length header → get_or header i d ≡ Some x → x < count
-    → AreFlags seen count (take i header) → AreFlags (set seen x true) count (take (i + 1) header)
-flags_set seen count header i x d lt at inside flags = (length-set seen x true ∙ flags.0, λ c within. one c within (c == x) refl ∙ sym (more_in_front header i (Some x) d lt at c))
+itself : (n : ℕ) → (n == n) ≡ true
+itself n = by (n == n) refl
   where
-    one : (c : ℕ) → c < count → (b : Bool) → (c == x) ≡ b → get_or (set seen x true) c false ≡ (list_any (is_column c) (take i header) || (c == x || false))
-    one c within true h =
-        let same : c ≡ x = eqb-true c x h in
-        rw (h, or_true (list_any (is_column c) (take i header))) (get_or-set_at seen x c true false same (omega (arith, flags.0)))
-    one c within false h =
-        let apart : c ≢ x = eqb-false c x h in
-        rw (h, or_false (list_any (is_column c) (take i header))) (get_or-set_other seen x c true false apart ∙ flags.1 c within)
+    by : (b : Bool) → (n == n) ≡ b → (n == n) ≡ true
+    by true e = e
+    by false e = absurd (eqb-false n n e refl)
 
--- The flag of a cell's column is whether it occurs in the prefix.
-pub flag_is : (seen : List Bool) (count : ℕ) (front : Header) (x : ℕ) (b : Bool) → AreFlags seen count front → x < count → b ≡ get_or seen x b → b ≡ repeats front (Some x)
-flag_is seen count front x b flags inside at = at ∙ get_or_default seen x b false (omega (arith, flags.0)) ∙ flags.1 x inside
+-- THE INDEX OF A PREFIX
+
+-- The first answer, or the second if it does not exist.
+abbrev or_last : Option ℕ → Option ℕ → Option ℕ
+or_last None last = last
+or_last (Some k) last = Some k
+
+-- Where the first item that passes is, once one more item is last.
+with_last : (p : Option ℕ → Bool) (n : ℕ) (front : Header) (o : Option ℕ)
+    → position_from p n (front ++ o ∷ []) ≡ or_last (position_from p n front) (if p o then Some (n + length front) else None)
+with_last p n [] o = rw (zero_last n) refl
+  where
+    zero_last : (m : ℕ) → m + 0 ≡ m
+    zero_last m = omega arith
+with_last p n (x ∷ xs) o = by (p x) refl (rw moved at (with_last p (n + 1) xs o))
+  where
+    moved : n + 1 + length xs ≡ n + suc (length xs)
+    moved = omega arith
+
+    last : Option ℕ
+    last = if p o then Some (n + suc (length xs)) else None
+
+    by : (b : Bool) → p x ≡ b → position_from p (n + 1) (xs ++ o ∷ []) ≡ or_last (position_from p (n + 1) xs) last
+        → position_from p n (x ∷ xs ++ o ∷ []) ≡ or_last (position_from p n (x ∷ xs)) last
+    by true e rest = rw e refl
+    by false e rest = rw e rest
+
+-- Whether an item passes, and where.
+occurs : (p : Option ℕ → Bool) (n : ℕ) (xs : Header) → is_some (position_from p n xs) ≡ list_any p xs
+occurs p n [] = refl
+occurs p n (x ∷ xs) = by (p x) refl (occurs p (n + 1) xs)
+  where
+    by : (b : Bool) → p x ≡ b → is_some (position_from p (n + 1) xs) ≡ list_any p xs → is_some (position_from p n (x ∷ xs)) ≡ list_any p (x ∷ xs)
+    by true e rest = rw e refl
+    by false e rest = rw e rest
+
+-- A header has a column if the column has a place in it.
+pub named_if_placed : (h : Header) (c : ℕ) → is_some (source_of_column h c) ≡ list_any (is_column c) h
+named_if_placed h c = occurs (is_column c) 0 h
+
+more_placed : (header : Header) (i : ℕ) (o d : Option ℕ) → i < length header → get_or header i d ≡ o → (c : ℕ)
+    → source_of_column (take (i + 1) header) c ≡ or_last (source_of_column (take i header) c) (if is_column c o then Some i else None)
+more_placed header i o d lt at c =
+    let longer : take (i + 1) header ≡ take i header ++ o ∷ [] = take_more header i d lt ∙ ap (λ p. take i header ++ p ∷ []) at in
+    let size : length (take i header) ≡ i = length-take-le i header (omega (arith, lt)) in
+    let last : 0 + length (take i header) ≡ i = omega (arith, size) in
+    ap (position_from (is_column c) 0) longer ∙ rw last at (with_last (is_column c) 0 (take i header) o)
+
+none_last : (o : Option ℕ) → or_last o None ≡ o
+none_last None = refl
+none_last (Some x) = refl
+
+-- A cell that names no column changes nothing.
+pub index_stays : {S : Type 0} (index : IndexMap ℕ ℕ S) (header : Header) (i : ℕ) (d : Option ℕ) → i < length header → get_or header i d ≡ None
+    → IsIndexOf (take i header) index → IsIndexOf (take (i + 1) header) index
+index_stays index header i d lt at are c = are c ∙ sym (more_placed header i None d lt at c ∙ none_last (source_of_column (take i header) c))
+
+-- A cell that names a column for the first time is its place.
+pub index_more : {S : Type 0} (old new : IndexMap ℕ ℕ S) (header : Header) (i x : ℕ) (d : Option ℕ) → i < length header → get_or header i d ≡ Some x
+    → is_some (get nat_eq old x) ≡ false → ((c : ℕ) → get nat_eq new c ≡ (if nat_eq x c then Some i else get nat_eq old c))
+    → IsIndexOf (take i header) old → IsIndexOf (take (i + 1) header) new
+index_more old new header i x d lt at fresh adds are c = adds c ∙ one (nat_eq x c) refl ∙ sym (more_placed header i (Some x) d lt at c)
+  where
+    none : (o : Option ℕ) → is_some o ≡ false → o ≡ None
+    none None e = refl
+    none (Some k) e = absurd (true≢false e)
+
+    one : (b : Bool) → nat_eq x c ≡ b → (if b then Some i else get nat_eq old c) ≡ or_last (source_of_column (take i header) c) (if c == x then Some i else None)
+    one true h =
+        let same : x ≡ c = eqb-true x c h in
+        rw (← are c, ← same, none (get nat_eq old x) fresh, itself x) refl
+    one false h =
+        let apart : (c == x) ≡ false = is_other c x (λ e. eqb-false x c h (sym e)) in
+        rw (apart, none_last (source_of_column (take i header) c)) (are c)
+
+-- A column that the index has occurs in the prefix.
+pub was_there : {S : Type 0} (index : IndexMap ℕ ℕ S) (front : Header) (x : ℕ) → IsIndexOf front index → is_some (get nat_eq index x) ≡ repeats front (Some x)
+was_there index front x are = ap is_some (are x) ∙ named_if_placed front x
 
 -- ONE STEP OF THE SEARCH
 

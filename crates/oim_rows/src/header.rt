@@ -1,15 +1,15 @@
 //! Reads the header of a table file.
 
-ghost use Rattle.std.specs.Prelude.{◌≡◌, ◌<◌, ◌⊎◌, [], IfOk, IfErr, IfSome, OnOk, None, Some, Ok, Err, true, take, length};
-ghost use Rattle.std.specs.List.{All, list_any, position_from};
+ghost use Rattle.std.specs.Prelude.{◌≡◌, ◌<◌, ◌⊎◌, IfOk, IfErr, IfSome, OnOk, None, Some, Ok, Err, true, length};
+ghost use Rattle.std.specs.List.{position_from};
 ghost use Rattle.oim_report.specs.Readers.{column_named, columns_of as columns_in, template_of};
-ghost use Rattle.oim_rows.specs.Header.{named_column, file_fault, file_header_fault, header_fault, header_of, is_column, is_unknown, names_row_id, repeat_from};
-ghost use Rattle.oim_rows.specs.state.Decoding.{AreSources};
+ghost use Rattle.oim_rows.specs.Header.{named_column, file_fault, file_header_fault, header_fault, header_of, is_unknown, names_row_id};
 ghost use Rattle.oim_rows.specs.state.Streams.{columns_fault, early_header_fault};
 ghost use Rattle.oim_rows.specs.Streams.{IsOutside, TakesHeader};
 
 use crate::cells::field;
 use crate::fault::{TableFault, TableKind, fault_at_place, fault_of_read, whole_fault};
+use crate::header_columns::{HeaderColumns, NoIndex};
 use oim_records::{Fields, ReadFault, RecordReader};
 use oim_report::Report;
 use std::alloc::{AllocError, Global};
@@ -72,98 +72,42 @@ fn columns_of(
     Ok(header)
 }
 
-fn is_place(place: Option<usize>, column: usize) -> bool
-    ensures { result ≡ is_column column place }
-{
-    match place {
-        Some(c) => column == c,
-        None => false,
-    }
-}
-
-/// Returns the index of a column in a header, or in a prefix of one.
-pub(crate) fn source_of(header: &[Option<usize>], column: usize) -> Option<usize>
-    ensures { result ≡ position_from (is_column column) 0 header.now }
-{
-    header.iter().position(|place| is_place(*place, column))
-}
-
-/// Returns the index in a header of each of `count` columns, in one pass over its cells.
-pub(crate) fn sources_of(
-    alloc: Global,
-    header: &[Option<usize>],
-    count: usize,
-) -> Result<Vec<Option<usize>>, AllocError>
-    ensures { IfOk result (λ sources. AreSources header.now sources.items) }
-{
-    let mut sources = vec![in alloc; None; count]?;
-    for step in 0..header.len() {
-        let place = header.len() - 1 - step;
-        if let Some(column) = header[place] {
-            if column < sources.len() {
-                sources[column] = Some(place);
-            }
-        }
-    }
-    Ok(sources)
-}
-
-fn has_column(header: &[Option<usize>], column: usize) -> bool
-    ensures { result ≡ list_any (is_column column) header.now }
-{
-    header.iter().any(|place| is_place(*place, column))
-}
-
-/// Returns the first index whose column also occurs at an earlier one.
-///
-/// The header names columns of a template of `count` columns.
-fn first_repeated(
-    alloc: Global,
-    count: usize,
-    header: &[Option<usize>],
-) -> Result<Option<usize>, AllocError>
-    requires { All (λ o. IfSome o (λ c. c < count)) header.now }
-    ensures { IfOk result (λ r. r ≡ repeat_from 0 [] header.now) }
-{
-    let mut seen = vec![in alloc; false; count]?;
-    for i in 0..header.len() {
-        if let Some(column) = header[i] {
-            if seen[column] {
-                return Ok(Some(i));
-            }
-            seen[column] = true;
-        }
-    }
-    Ok(None)
-}
-
-fn names_row_id_column(column: Option<usize>, header: &[Option<usize>]) -> bool
+/// Returns whether a header has the column of row identifiers, if the template has one.
+fn names_row_id_column(column: Option<usize>, header: &HeaderColumns) -> bool
     ensures { result ≡ names_row_id column header.now }
 {
     match column {
-        Some(column) => has_column(header, column),
+        Some(column) => header.place_of(column).is_some(),
         None => true,
     }
 }
 
-/// Returns the first fault of a header record's columns.
-fn columns_fault(
+/// Returns the columns of a header with their index, unless one occurs twice or that of row
+/// identifiers is missing.
+fn checked_columns(
     alloc: Global,
     report: &Report,
     table: usize,
-    header: &[Option<usize>],
-) -> Result<Option<TableFault>, AllocError>
-    requires table { table < length report.now.tables }
-    requires columns { All (λ o. IfSome o (λ c. c < length (columns_in report.now table))) header.now }
-    ensures { IfOk result (λ fault. fault ≡ columns_fault report.now table header.now) }
+    columns: Vec<Option<usize>>,
+) -> Result<HeaderColumns, TableFault>
+    requires { table < length report.now.tables }
+    ensures header { IfOk result (λ h. h ≡ columns.items) }
+    ensures sound { OnOk result (columns_fault report.now table columns.items ≡ None) }
+    ensures fault { IfErr result (λ e. (e ≡ file_fault table TableKind.Memory) ⊎ (columns_fault report.now table columns.items ≡ Some e)) }
 {
-    if let Some(place) = first_repeated(alloc, report.columns(table), header)? {
-        return Ok(Some(fault_at_place(table, 0, place, TableKind::RepeatedHeader)));
+    match HeaderColumns::new(alloc, columns) {
+        Ok(header) => {
+            if names_row_id_column(report.row_id_column(table), &header) {
+                Ok(header)
+            } else {
+                Err(whole_fault(table, TableKind::NoRowIdColumn))
+            }
+        }
+        Err(NoIndex::Repeated(place)) => {
+            Err(fault_at_place(table, 0, place, TableKind::RepeatedHeader))
+        }
+        Err(NoIndex::Memory) => Err(whole_fault(table, TableKind::Memory)),
     }
-    if !names_row_id_column(report.row_id_column(table), header) {
-        return Ok(Some(whole_fault(table, TableKind::NoRowIdColumn)));
-    }
-    Ok(None)
 }
 
 /// Returns the columns of a table's header. `found` is the reader's result for it, and `row` the
@@ -176,12 +120,12 @@ fn take_header(
     table: usize,
     found: Result<bool, ReadFault>,
     row: &Fields<'_>,
-) -> Result<Vec<Option<usize>>, TableFault>
+) -> Result<HeaderColumns, TableFault>
     requires { table < length report.now.tables }
     ensures early { IfSome (early_header_fault report.now table found row.now) (λ e. result ≡ Err e) }
     ensures read { OnOk result (found ≡ Ok true) }
     ensures sound { OnOk result (header_fault report.now table row.now ≡ None) }
-    ensures header { IfOk result (λ h. h.items ≡ header_of (columns_in report.now table) row.now) }
+    ensures header { IfOk result (λ h. h ≡ header_of (columns_in report.now table) row.now) }
     ensures fault { found ≡ Ok true → IfErr result (λ e. (e ≡ file_fault table TableKind.Memory) ⊎ (header_fault report.now table row.now ≡ Some e)) }
 {
     match found {
@@ -192,14 +136,10 @@ fn take_header(
     if let Some(place) = first_unknown(report, table, row) {
         return Err(fault_at_place(table, 0, place, TableKind::UnknownHeader));
     }
-    let Ok(header) = columns_of(alloc, report, table, row) else {
+    let Ok(columns) = columns_of(alloc, report, table, row) else {
         return Err(whole_fault(table, TableKind::Memory));
     };
-    match columns_fault(alloc, report, table, header.as_slice()) {
-        Ok(Some(fault)) => Err(fault),
-        Ok(None) => Ok(header),
-        Err(_) => Err(whole_fault(table, TableKind::Memory)),
-    }
+    checked_columns(alloc, report, table, columns)
 }
 
 /// Reads the first record and returns the columns of a table's header.
@@ -208,9 +148,9 @@ pub(crate) fn read_header<R: Read + Drop>(
     report: &Report,
     table: usize,
     records: &mut RecordReader<R>,
-) -> Result<Vec<Option<usize>>, TableFault>
+) -> Result<HeaderColumns, TableFault>
     requires { table < length report.now.tables }
-    ensures header { IfOk result (λ h. TakesHeader report.now table records.old.left h.items records.new.left) }
+    ensures header { IfOk result (λ h. TakesHeader report.now table records.old.left h records.new.left) }
     ensures fault { IfErr result (λ e. IsOutside table e ⊎ IfSome records.old.left (λ rs. file_header_fault report.now table rs ≡ Some e)) }
 {
     let found = records.read();

@@ -29,6 +29,7 @@ mod decoder;
 mod fault;
 mod group_counts;
 mod header;
+mod header_columns;
 mod ids;
 mod kept_ids;
 mod laws;

@@ -7,8 +7,9 @@ ghost use Rattle.oim_rows.specs.RowFacts.{id_place_of, row_fault, row_id_place, 
 ghost use Rattle.oim_rows.specs.Streams.{IsOutside, TakesHeader};
 
 use crate::cells::{count_of_texts, known_text_at, text_at};
-use crate::fault::{TableFault, TableKind, fault_at_place, fault_of_whole_row, whole_fault};
-use crate::header::{read_header, source_of, sources_of};
+use crate::fault::{TableFault, TableKind, fault_at_place, fault_of_whole_row};
+use crate::header::read_header;
+use crate::header_columns::HeaderColumns;
 use crate::ids::RowIds;
 use itoa::Buffer;
 use oim_records::{Fields, RecordReader, TextFields};
@@ -26,9 +27,7 @@ pub struct TableHeader<'a> {
     report: &'a Report,
     table: usize,
     limit: u32,
-    columns: Vec<Option<usize>>,
-    // the index in the header of each column of the template
-    sources: Vec<Option<usize>>,
+    columns: HeaderColumns,
     // the index in the header of the row identifier
     id_place: Option<usize>,
 }
@@ -37,23 +36,21 @@ impl<'a> Model for TableHeader<'a> {
     ghost use Rattle.std.specs.Prelude.{◌≡◌, ◌<◌, length};
     ghost use Rattle.oim_report.specs.Readers.{template_of};
     ghost use Rattle.oim_rows.specs.RowFacts.{TableHeaderValue, row_id_place};
-    ghost use Rattle.oim_rows.specs.state.Decoding.{AreSources};
 
     ghost Value = { TableHeaderValue };
 
-    ghost view = { λ a. record { report = a.report.now; table = a.table; limit = a.limit; columns = a.columns.items } };
+    ghost view = { λ a. record { report = a.report.now; table = a.table; limit = a.limit; columns = a.columns } };
 
     ghost invariant = { λ a. (a.table < length a.report.now.tables)
-        × AreSources a.columns.items a.sources.items
-        × (a.id_place ≡ row_id_place (template_of a.report.now a.table).row_id_column a.columns.items) };
+        × (a.id_place ≡ row_id_place (template_of a.report.now a.table).row_id_column a.columns) };
 }
 
 /// Returns the index in a header of the row identifier, if the template has a column for it.
-fn place_of_id(header: &[Option<usize>], column: Option<usize>) -> Option<usize>
+fn place_of_id(header: &HeaderColumns, column: Option<usize>) -> Option<usize>
     ensures { result ≡ row_id_place column header.now }
 {
     match column {
-        Some(column) => source_of(header, column),
+        Some(column) => header.place_of(column),
         None => None,
     }
 }
@@ -81,16 +78,12 @@ impl<'a> TableHeader<'a> {
             Ok(columns) => columns,
             Err(fault) => return Err(fault),
         };
-        let Ok(sources) = sources_of(alloc, columns.as_slice(), report.columns(table)) else {
-            return Err(whole_fault(table, TableKind::Memory));
-        };
-        let id_place = place_of_id(columns.as_slice(), report.row_id_column(table));
+        let id_place = place_of_id(&columns, report.row_id_column(table));
         Ok(TableHeader {
             report,
             table,
             limit,
             columns,
-            sources,
             id_place,
         })
     }
@@ -131,10 +124,7 @@ impl<'a> TableHeader<'a> {
     pub fn source(&self, column: usize) -> Option<usize>
         ensures { result ≡ source_of_column (self.now).columns column }
     {
-        match self.sources.get(column) {
-            Some(source) => *source,
-            None => source_of(self.columns.as_slice(), column),
-        }
+        self.columns.place_of(column)
     }
 
     /// Returns the first fault of row `number` apart from those of its cells.
@@ -144,7 +134,7 @@ impl<'a> TableHeader<'a> {
     pub fn fault_of_row(&self, number: u32, ids: &RowIds, row: &Fields<'_>) -> Option<TableFault>
         ensures { result ≡ row_fault self.now number ids.now row.now }
     {
-        if row.len() != self.columns.len() {
+        if row.len() != self.columns().len() {
             return Some(fault_of_whole_row(self.table, number, TableKind::Ragged));
         }
         if let Some(place) = row.first_not_text() {
@@ -169,7 +159,7 @@ impl<'a> TableHeader<'a> {
     ) -> Option<TableFault>
         ensures { result ≡ row_fault self.now number ids.now row.now }
     {
-        if count_of_texts(row) != self.columns.len() {
+        if count_of_texts(row) != self.columns().len() {
             return Some(fault_of_whole_row(self.table, number, TableKind::Ragged));
         }
         if self.limit < number {
