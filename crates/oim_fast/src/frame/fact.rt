@@ -209,9 +209,12 @@ fn room_for(frame: &FrameText, most: u32, start: usize, value: usize) -> Option<
 {
     let count = frame.runs.len();
     let size = frame.text.len();
-    let given = count.saturating_mul(most as usize);
     // `MOST_BYTES` is a power of two, so this tests all three numbers at once.
-    if start | size | given >= MOST_BYTES {
+    if start | size | count >= MOST_BYTES {
+        return None;
+    }
+    let given = count * (most as usize);
+    if given >= MOST_BYTES {
         return None;
     }
     Some(start + size + given + 6 * value + 128)

@@ -1,6 +1,4 @@
-use Rattle.std.proofs.Common.{◌≡◌, ◌*◌, ◌≤◌, length, sym, ap, ◌∙◌, arith}
-use Rattle.std.proofs.lemmas.Nat.{le_or_r}
-use Rattle.std.specs.Int.Bits.{bit_or}
+use Rattle.std.proofs.Common.{◌≡◌, ◌*◌, length, sym, ap, ◌∙◌, arith}
 use Rattle.oim_fast.specs.state.FactTexts.{frame_length}
 use Rattle.oim_fast.specs.state.FrameTexts.{FrameValue}
 use Rattle.oim_fast.proofs.FactTextLaws.{frame_length_is, segments_length}
@@ -14,6 +12,4 @@ returns c =
     let segments : length t.segments ≡ length a.runs.items = ap (λ (q : FrameValue). length q.segments) (sym c.frame.view_is) ∙ segments_length a.text.items a.body a.runs.items in
     let count : c.len-count.result ≡ length t.segments = omega (arith, segments, c.len-count.ensures) in
     let products : c.len-count.result * c.args.most ≡ length t.segments * c.args.most = ap (λ n. n * c.args.most) count in
-    let least : c.saturating_mul-given.result ≤ bit_or (bit_or c.args.start c.len-size.result) c.saturating_mul-given.result =
-    le_or_r (bit_or c.args.start c.len-size.result) c.saturating_mul-given.result in
-    omega (arith, all, products, c.len-size.ensures, least)
+    omega (arith, all, products, c.len-size.ensures)
