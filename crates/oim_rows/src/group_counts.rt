@@ -1,4 +1,4 @@
-//! How many row identifiers begin in each stretch of a hash set's table.
+//! How many row identifiers begin in each group and each stretch of a hash set's table.
 
 ghost use Rattle.std.specs.Prelude.{◌≡◌};
 
@@ -10,24 +10,30 @@ use std::hash::{FoldHasher, Hash, Hasher};
 /// The groups of the table with the first identifier.
 const FIRST: usize = 256;
 
-/// The groups of a stretch, which lie side by side.
-const STRETCH: usize = 16;
+/// The most identifiers that begin in a group, which has 12 places. If they are of one hash, a
+/// search compares all of them.
+const MOST_OF_GROUP: u8 = 28;
 
-/// The most identifiers that begin in a stretch. Its groups have 192 places. So all that begin in
-/// one group, and do not fit there, find a place within some thirty groups.
-const MOST: u8 = 176;
+/// The last place of a stretch: two places for each of its 16 groups.
+const LAST: usize = 31;
+
+/// The most identifiers that begin in a stretch, which has 192 places. So those that do not fit
+/// into their group find a place within some thirty groups.
+const MOST_OF_STRETCH: u8 = 176;
 
 /// The identifiers for which the table has memory, for each group.
 const USED: usize = 9;
 
-/// The most identifiers, for each group, before the table grows. With so few, a stretch of the
-/// table of a good report is hardly ever full.
+/// The most identifiers, for each group, before the table grows. With so few, a group or a stretch
+/// of a good report is hardly ever full.
 const LOAD: usize = 7;
 
-/// How many of the identifiers in a hash set begin in each stretch of its table, so that none
-/// begins in a stretch that is full. A wrong count costs only time.
+/// How many of the identifiers in a hash set begin in each group and each stretch of its table, so
+/// that none begins in one that is full. A wrong count costs only time.
 #[derive(Drop)]
 pub(crate) struct GroupCounts {
+    /// Two places for each group: its own count and, for the last group of a stretch, that of the
+    /// stretch.
     counts: Vec<u8>,
 }
 
@@ -48,20 +54,36 @@ impl GroupCounts {
         }
     }
 
-    /// Counts an identifier that is to be added, unless its stretch is full. Returns whether it is.
+    /// Returns whether the count at a place is this large.
     #[inline(always)]
-    pub(crate) fn is_full(&mut self, id: &RowId) -> bool {
-        let stretch = group_of(id) / STRETCH & self.counts.len().saturating_sub(1);
-        match self.counts.get_mut(stretch) {
-            Some(count) => {
-                if *count >= MOST {
-                    return true;
-                }
-                *count += 1;
-                false
-            }
+    fn has_reached(&self, place: usize, most: u8) -> bool {
+        match self.counts.get(place) {
+            Some(count) => *count >= most,
             None => false,
         }
+    }
+
+    /// Adds one to the count at a place.
+    #[inline(always)]
+    fn count_at(&mut self, place: usize) {
+        if let Some(count) = self.counts.get_mut(place) {
+            *count = count.saturating_add(1);
+        }
+    }
+
+    /// Counts an identifier that is to be added, unless its group or its stretch is full. Returns
+    /// whether one is.
+    #[inline(always)]
+    pub(crate) fn is_full(&mut self, id: &RowId) -> bool {
+        let group = group_of(id) & self.groups().saturating_sub(1);
+        let own = group.saturating_mul(2);
+        let near = own | LAST;
+        if self.has_reached(own, MOST_OF_GROUP) || self.has_reached(near, MOST_OF_STRETCH) {
+            return true;
+        }
+        self.count_at(own);
+        self.count_at(near);
+        false
     }
 
     /// Makes room for one more identifier, if memory allows.
@@ -82,7 +104,7 @@ impl GroupCounts {
         let groups = FIRST.max(self.groups().saturating_mul(2));
         ids.reserve(groups.saturating_mul(USED).saturating_sub(ids.len()))?;
         self.counts.clear();
-        self.counts.resize(groups / STRETCH, 0)?;
+        self.counts.resize(groups.saturating_mul(2), 0)?;
         self.count_all(ids);
         Ok(())
     }
@@ -101,6 +123,6 @@ impl GroupCounts {
 
     /// Returns the count of groups.
     pub(crate) fn groups(&self) -> usize {
-        self.counts.len().saturating_mul(STRETCH)
+        self.counts.len() / 2
     }
 }
