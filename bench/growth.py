@@ -24,7 +24,9 @@ of n, and 3 times that of plain Rust. Where a report grows in two directions, it
 
 A hostile kind is also converted with four workers at 4 n. The column `MB` has the most memory that
 this took, and the goal `memory` is 64 MB and 20 times the metadata's bytes, or as many times as the
-kind says. This needs GNU time.
+kind says. This needs GNU time. If all processors are busy, a run takes only one worker: then give
+--workers more than there are processors. A kind whose rows have no facts is also timed so, and its
+goal `workers` is 3 times the time of one worker.
 
 With --fault each report has a fault at its end: a row with one cell too many in the last table, or
 a dimension that no taxonomy has in the metadata. Then the run ends with that fault and explains it
@@ -66,7 +68,8 @@ class Kind(NamedTuple):
 
     `hostile` tells whether a stranger would make such a report to cost us time or memory, and
     `work` how many times the facts or cells of the smaller one it has at the greater size. `memory`
-    is how many times the metadata's bytes it may take, and `words` are further arguments.
+    is how many times the metadata's bytes it may take, and `words` are further arguments. `apart`
+    tells whether several workers are timed too.
     """
 
     make: Callable[[int], Report]
@@ -76,6 +79,7 @@ class Kind(NamedTuple):
     work: int
     memory: int
     words: list[str]
+    apart: bool
 
 
 KINDS: dict[str, Kind] = {}
@@ -85,12 +89,18 @@ LEVEL = {"entity": "e:BANK-1", "period": "2025"}
 
 
 def kind(
-    size: int, hostile: bool = False, status: int = 0, work: int = TIMES, memory: int = 20, words: Iterable[str] = ()
+    size: int,
+    hostile: bool = False,
+    status: int = 0,
+    work: int = TIMES,
+    memory: int = 20,
+    words: Iterable[str] = (),
+    apart: bool = False,
 ) -> Callable[[Callable[[int], Report]], Callable[[int], Report]]:
     """Makes a kind of the function below it, with the smaller size."""
 
     def keep(make: Callable[[int], Report]) -> Callable[[int], Report]:
-        KINDS[make.__name__] = Kind(make, size, hostile, status, work, memory, list(words))
+        KINDS[make.__name__] = Kind(make, size, hostile, status, work, memory, list(words), apart)
         return make
 
     return keep
@@ -553,6 +563,44 @@ def group_frames(n: int) -> Report:
     return report(columns, (f"{g}," + line(n) for g in groups))
 
 
+@kind(200, hostile=True, work=16)
+def frame_tables(n: int) -> Report:
+    """Four tables of one file, with n columns of facts under one column of n property groups."""
+    tables = {t: {"url": "t.csv", "template": "p"} for t in names("t", 3)}
+    made = group_frames(n)
+    made.metadata["tables"].update(tables)
+    return made
+
+
+@kind(65_536, hostile=True, work=16)
+def waiting_copied_rows(n: int) -> Report:
+    """Four rows with a cell of n bytes that each of n / 260 facts of the row refers to."""
+    columns: dict[str, Any] = {"key": {}}
+    columns.update({c: counts(**{"b:Key": "$key"}) for c in names("c", n // 260)})
+    return report(columns, ["x" * n + "," + line(n // 260)] * 4)
+
+
+@kind(250_000, hostile=True, apart=True)
+def empty_rows(n: int) -> Report:
+    """n rows without facts, of two bytes, under a literal of 1,000,000 bytes."""
+    level = {**LEVEL, "b:Long": "x" * 1_000_000}
+    return report({"key": {}, "count": counts()}, [","] * n, ["Long,typed"], dimensions=level)
+
+
+@kind(250_000, hostile=True, apart=True)
+def none_rows(n: int) -> Report:
+    """n rows of one cell `#none` under a literal of 1,000,000 bytes."""
+    return report({"count": counts()}, ["#none"] * n, ["Long,typed"], dimensions={**LEVEL, "b:Long": "x" * 1_000_000})
+
+
+@kind(250_000, hostile=True)
+def header_rows(n: int) -> Report:
+    """A header of n empty cells and n / 250 columns, and four rows of as many empty cells."""
+    made = empty_header(n)
+    row = "," * (n + n // 250 - 1) + "\n"
+    return made._replace(files={"t.csv": made.files["t.csv"] + row * 4})
+
+
 @kind(100_000, hostile=True, memory=130)
 def small_objects(n: int) -> Report:
     """n objects of the metadata that mean nothing, with one member each."""
@@ -672,9 +720,14 @@ def missed(mine: list[Optional[float]], plain: list[Optional[float]], hostile: b
     return ", ".join(name for name, is_missed in [("growth", grows), ("plain", behind)] if is_missed)
 
 
+def missed_by_several(one: Optional[float], several: Optional[float]) -> list[str]:
+    """The goal of a kind that several workers could take long for."""
+    return ["workers"] if several is None or (one is not None and several > max(0.1, 3 * one)) else []
+
+
 def measured(name: str, programs: list[str], folder: Path, options: argparse.Namespace) -> str:
     """A kind's line."""
-    make, n, hostile, status, work, times, more = KINDS[name]
+    make, n, hostile, status, work, times, more, apart = KINDS[name]
     wanted = 1 if options.fault else status
     reports = [make(size) for size in (n, TIMES * n)]
     if options.fault:
@@ -694,10 +747,13 @@ def measured(name: str, programs: list[str], folder: Path, options: argparse.Nam
     cells += [f"{mine[1] / plain[1]:.2f}" if plain and mine[1] is not None and plain[1] else ""] if plain else []
     misses = [missed(mine, plain, hostile, work)]
     if options.hostile:
-        megabytes = peak([programs[0], *written[1], "--workers", "4", *more], wanted)
+        several = [programs[0], *written[1], "--workers", str(options.workers), *more]
+        megabytes = peak(several, wanted)
         bound = 64 + times * (folder / "1/meta.json").stat().st_size / 1e6
         cells.append(f"{megabytes:.0f} of {bound:.0f}")
         misses += ["memory"] if megabytes > bound else []
+        if apart:
+            misses += missed_by_several(mine[1], least([several], options.runs, options.limit, wanted)[0])
     return "| " + " | ".join([*cells, ", ".join(filter(None, misses))]) + " |"
 
 
@@ -709,6 +765,7 @@ def words() -> argparse.Namespace:
     parser.add_argument("--hostile", action="store_true", help="only the kinds that a stranger would make to cost us time")
     parser.add_argument("--runs", type=int, default=3)
     parser.add_argument("--limit", type=int, default=60)
+    parser.add_argument("--workers", type=int, default=4, help="how many workers measure memory")
     parser.add_argument("--list", action="store_true", help="only names the kinds")
     options = parser.parse_args()
     if options.program is None and not options.list:
