@@ -27,6 +27,7 @@ from .nested import open_taxonomies
 from .outcomes import (
     BUSY,
     DONE,
+    FAILED,
     FIRST_BYTES,
     REFUSED,
     TO_RETRY,
@@ -148,7 +149,7 @@ def make_folder(batch: Batch) -> None:
 def check_marked(batch: Batch) -> None:
     """Refuse an index or a summary that cannot be written, or that another file of the run is."""
     folder = os.path.realpath(batch.into)
-    taken = {path for name in batch.names for path in Paths.of(folder, name).all()}
+    taken = {path for name in batch.names for path in Paths.of(folder, name.text).all()}
     if batch.outcomes is not None:
         taken.add(os.path.realpath(batch.outcomes))
     for path, kind in ((batch.page, PAGE), (batch.summary, SUMMARY)):
@@ -218,7 +219,8 @@ class Crew:
         for number, (report, name) in enumerate(zip(self.batch.reports, self.batch.names)):
             yield Task(
                 report=report,
-                paths=Paths.of(self.batch.into, name),
+                why_not=name.why,
+                paths=Paths.none() if name.why else Paths.of(self.batch.into, name.text),
                 words=tuple(words),
                 common=self.common,
                 unpacked_limit=self.batch.settings.limit,
@@ -232,7 +234,11 @@ class Crew:
             )
 
     def begin(self, task: Task) -> None:
-        """Start the process of a report. If the system refuses one, wait for another to end."""
+        """Start the process of a report. Take the outcome of one that cannot start."""
+        if task.why_not:
+            line = f"xbrl-filing: {task.report}: cannot write ({task.why_not})"
+            self.take(task, Outcome(task.report, "", FILES, FAILED, line=line))
+            return
         reader, writer = os.pipe()
         os.set_blocking(reader, False)
         try:

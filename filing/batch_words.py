@@ -6,10 +6,9 @@ import os
 from argparse import Action, ArgumentParser, Namespace
 from dataclasses import dataclass
 from itertools import takewhile
-from typing import Any, Dict, List, Optional, Tuple
+from typing import Any, Dict, List, NamedTuple, Optional, Tuple
 
 from .digests import processors
-from .refusals import WORDS, Refusal
 from .words import RUNS, Once, Parser, Settings, dest_of, misuse, read_words
 
 INTO = "--into"
@@ -26,12 +25,19 @@ LONGEST_TIME = 10**9  # seconds
 ENDINGS = (".zip", ".xbr", ".xbri", ".json")
 
 
+class Name(NamedTuple):
+    """The name of a report's document, or why it has none: its files would be another report's."""
+
+    text: str
+    why: str = ""
+
+
 @dataclass(frozen=True)
 class Batch:
     """What the command line of a run over many reports asks for."""
 
     reports: Tuple[str, ...]
-    names: Tuple[str, ...]  # of their documents, without the ending
+    names: Tuple[Name, ...]  # of their documents, without the ending
     words: Tuple[str, ...]  # all others, which are the same for each report
     settings: Settings  # the same words, read with the first report
     into: str
@@ -141,23 +147,28 @@ def seconds(name: str, values: Dict[str, str]) -> Optional[float]:
     return float(text)
 
 
-def names_of(reports: List[str], has_summaries: bool) -> Tuple[str, ...]:
-    """Return the name of each report's document; refuse two reports that have the same.
+def names_of(reports: List[str], has_summaries: bool) -> Tuple[Name, ...]:
+    """Return the name of each report's document.
 
-    A summary is called NAME.summary.json, so `a.summary` is a name of both if `a` has one.
+    Only the first report of a name has files. A summary is called NAME.summary.json, so with
+    summaries `a.summary` has none next to `a`, in whichever order: the name of a stranger's report
+    then stops no other one.
     """
-    first: Dict[str, str] = {}
-    summaries = {f"{name_of(report)}.summary": report for report in reports if has_summaries}
-    for report in reports:
-        name = name_of(report)
+    names = list(map(name_of, reports))
+    first: Dict[str, int] = {}
+    for at, (report, name) in enumerate(zip(reports, names)):
         if name in ("", ".", ".."):
             raise misuse(f"'{report}' has no name for its document")
-        other = first.get(name) or summaries.get(name)
-        if other is not None:
-            why = f"would both be written as {name}.json: rename one, or take another {INTO}"
-            raise Refusal(WORDS, "", f"{other} and {report} {why}")
-        first[name] = report
-    return tuple(first)
+        first.setdefault(name, at)
+    found: List[Name] = []
+    for at, name in enumerate(names):
+        other = first[name]
+        stem, _, ending = name.rpartition(".")
+        if other == at and has_summaries and ending == "summary":
+            other = first.get(stem, at)
+        why = f"{name}.json would be written for {reports[other]} too: rename one of them"
+        found.append(Name(name, "" if other == at else why))
+    return tuple(found)
 
 
 def name_of(report: str) -> str:

@@ -1,12 +1,17 @@
-"""Records of CSV files that this program writes and reads (RFC 4180, each with an LF).
+"""Records of CSV files: those that this program writes and reads, and those of reports.
 
-Python's own writer leaves CR without quotes, and its reader refuses NUL, up to 3.10.
+Its own are of RFC 4180, each with an LF. Python's own writer leaves CR without quotes, and its
+reader refuses NUL, up to 3.10.
 """
 
 from __future__ import annotations
 
+import csv
 import re
-from typing import Iterable, Iterator, List
+from io import TextIOWrapper
+from typing import BinaryIO, Iterable, Iterator, List
+
+from .packages import LARGEST_TEXT
 
 QUOTED = re.compile(r'[",\r\n]')
 FIELD = re.compile(r'(?:"((?:[^"]+|"")*)"|([^,\n]*))([,\n])')
@@ -31,3 +36,12 @@ def records(text: str) -> Iterator[List[str]]:
         if found[3] == "\n":
             yield fields
             fields = []
+
+
+def records_of_report(file: BinaryIO) -> Iterator[List[str]]:
+    """Yield the records of a CSV file of a report that are not empty. Raise csv.Error at a fault.
+
+    The limit of Python's reader is one for the process. So it is only ever raised.
+    """
+    csv.field_size_limit(max(csv.field_size_limit(), LARGEST_TEXT))
+    yield from filter(None, csv.reader(TextIOWrapper(file, "utf-8-sig", "replace", newline="")))

@@ -107,8 +107,9 @@ def date_column(
     groups: List[Tuple[str, Dict[str, str]]] = []
     for giver in givers:
         given = concepts_of_groups(columns.get(giver, {}))
-        groups.append((giver, {name: it for name, it in given if all_count or is_sought(it)}))
-    sought = is_sought(outer) or any(is_sought(it) for _, given in groups for it in given.values())
+        groups.append((giver, {name: concept for name, concept in given if all_count or is_sought(concept)}))
+    inner = (concept for _, given in groups for concept in given.values())
+    sought = is_sought(outer) or any(map(is_sought, inner))
     return DateColumn(outer, groups) if sought else None
 
 
@@ -228,7 +229,7 @@ class SeenDates:
         """Return the types table with the types that the cells choose."""
         pieces: List[bytes] = []
         done = 0
-        for record, forms in sorted(self.forms.items(), key=lambda it: self.places[it[0]]):
+        for record, forms in sorted(self.forms.items(), key=lambda item: self.places[item[0]]):
             word = chosen(forms)
             if word != DATE_TIME:
                 at = self.places[record]

@@ -69,7 +69,7 @@ def mentions(files: Files, url: str, prefixes: Collection[str]) -> bool:
     end = b""
     for piece in pieces_of(files, url):
         text = end + piece
-        if many.search(text) if many else any(it in text for it in sought):
+        if many.search(text) if many else any(start in text for start in sought):
             return True
         end = (end + piece)[-longest:]
     return False

@@ -39,8 +39,8 @@ def with_named_members(types: bytes, files: Files) -> bytes:
     info: Object = files.merged.value["documentInfo"]
     records = set(records_of(names, info.get("namespaces", {})))
     lines = types.splitlines(keepends=True)
-    records.update(islice((it for it in lines if it.endswith(MEMBER_END)), 1))
-    return b"".join([it for it in lines if not it.endswith(MEMBER_END) or it in records])
+    records.update(islice((line for line in lines if line.endswith(MEMBER_END)), 1))
+    return b"".join([line for line in lines if not line.endswith(MEMBER_END) or line in records])
 
 
 def names_of_files(files: Files, most: int) -> Optional[Set[bytes]]:

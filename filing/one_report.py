@@ -49,6 +49,11 @@ class Paths:
         endings = (".json", ".faults.csv", ".log", ".outcome", ".html", ".summary.json")
         return Paths(*(front + ending for ending in endings))
 
+    @staticmethod
+    def none() -> Paths:
+        """Return the paths for a report that has no files of its own."""
+        return Paths("", "", "", "", "", "")
+
     def all(self) -> Tuple[str, ...]:
         """Return all of them."""
         return self.document, self.faults, self.log, self.outcome, self.page, self.summary
@@ -59,6 +64,7 @@ class Task:
     """What the process of a report is to do."""
 
     report: str
+    why_not: str  # why it is not converted: its files would be another report's
     paths: Paths
     words: Tuple[str, ...]
     common: str  # the digest of all that the reports have in common

@@ -6,14 +6,10 @@ capitals, and a missing value from which all facts take their entity or period.
 
 from __future__ import annotations
 
-import csv
-import io
-from itertools import islice
-from typing import Dict, Iterator, List, Optional, Tuple
+from typing import Dict, Iterator, Optional, Tuple
 
 from .metadata import Merged, objects
 from .named import Places, reference
-from .packages import LARGEST_TEXT
 from .prefixes import Renaming
 from .prepared import Files
 from .refusals import wrong
@@ -21,7 +17,6 @@ from .strict_json import Json, Object
 
 OF_EACH_FACT = ("entity", "period")  # what no fact of a filing does without
 ROW_NUMBER = "rowNumber"  # a reference that needs no parameter
-MOST_RECORDS = 65536  # of a parameters file that xbrl-json takes
 
 
 def check_parameters(merged: Merged, renaming: Renaming, files: Files) -> None:
@@ -143,7 +138,7 @@ def parameters_of_file(files: Files) -> Iterator[Tuple[str, str, str]]:
 
     What is wrong with the file is left to xbrl-json.
     """
-    for record in islice(records_of_file(files), 1, None):
+    for record in files.parameter_records[1:]:
         if len(record) == 2:
             yield record[0], record[1], files.package.shown(files.name(files.parameters or ""))
 
@@ -153,21 +148,7 @@ def is_faulty(files: Files) -> bool:
 
     That is another header, or a record that does not have two fields.
     """
-    records = list(records_of_file(files))
-    return files.parameters is not None and (records[:1] != [["name", "value"]] or any(len(record) != 2 for record in records))
-
-
-def records_of_file(files: Files) -> Iterator[List[str]]:
-    """Yield the records of the parameters file, its header first.
-
-    An empty record means that the file is not CSV.
-    """
-    data = files.parameter_text()
-    if data is None:
-        return
-    csv.field_size_limit(LARGEST_TEXT)
-    try:
-        lines = io.TextIOWrapper(io.BytesIO(data), "utf-8-sig", "replace", newline="")
-        yield from islice((record for record in csv.reader(lines) if record), MOST_RECORDS + 1)
-    except csv.Error:
-        yield []
+    if files.parameters is None:
+        return False
+    records = files.parameter_records
+    return records[:1] != (["name", "value"],) or any(len(record) != 2 for record in records)

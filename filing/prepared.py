@@ -5,6 +5,7 @@ They are the merged metadata, the types table, and the report's tables and param
 
 from __future__ import annotations
 
+import csv
 import errno
 import os
 import re
@@ -12,9 +13,12 @@ import shutil
 import stat
 from contextlib import contextmanager
 from dataclasses import dataclass, replace
-from itertools import groupby
+from functools import cached_property
+from io import BytesIO
+from itertools import groupby, islice
 from typing import Dict, FrozenSet, Iterable, Iterator, List, NamedTuple, Optional, Tuple
 
+from .csv_text import records_of_report
 from .finding import Found
 from .metadata import Merged, objects
 from .packages import Package, mode_of, pieces_of_disk
@@ -23,6 +27,7 @@ from .report import REPORTS, reports_in
 from .strict_json import Json
 
 META, TYPES = "meta.json", "types.csv"
+MOST_RECORDS = 65536  # of a parameters file that xbrl-json takes
 LONGEST_NAME, LONGEST_PATH = 255, 4000  # bytes that a file system takes, with a folder before it
 # What xbrl-json takes as the path of a table; the segments are looked at besides.
 PLAIN = re.compile(r"[^\\:?#%\x00-\x1f]+")
@@ -180,8 +185,21 @@ class Files:
         """
         return self.folder == REPORTS and folder != REPORTS and bool(reports_in(self.package, folder, []))
 
-    def parameter_text(self) -> Optional[bytes]:
-        return None if self.parameters is None else self.package.text(self.name(self.parameters))
+    @cached_property
+    def parameter_records(self) -> Tuple[List[str], ...]:
+        """Return the records of the parameters file, its header first, as many as xbrl-json takes.
+
+        An empty record means that the file is not CSV.
+        """
+        if self.parameters is None:
+            return ()
+        found: List[List[str]] = []
+        try:
+            text = BytesIO(self.package.text(self.name(self.parameters)))
+            found.extend(islice(records_of_report(text), MOST_RECORDS + 1))
+        except csv.Error:
+            found.append([])
+        return tuple(found)
 
     def new_names(self) -> Dict[str, str]:
         """Return a new name for each file that has the name of the metadata or the types table."""

@@ -8,7 +8,7 @@ import os
 from contextlib import suppress
 from typing import Container, Iterator, List, Tuple
 
-from .packages import LARGEST_TEXT
+from .csv_text import records_of_report
 from .prepared import Files
 
 Cell = Tuple[int, str, str]  # a row, a column and a text
@@ -52,11 +52,8 @@ def pieces_of(files: Files, url: str) -> Iterator[bytes]:
 
 def rows_of(files: Files, url: str) -> Iterator[List[str]]:
     """Yield the records of a table, its header first. What is wrong is left to xbrl-json."""
-    csv.field_size_limit(LARGEST_TEXT)
-    file = io.BufferedReader(Pieces(pieces_of(files, url)))
-    rows = csv.reader(io.TextIOWrapper(file, "utf-8-sig", "replace", newline=""))
     with suppress(csv.Error):
-        yield from filter(None, rows)
+        yield from records_of_report(io.BufferedReader(Pieces(pieces_of(files, url))))
 
 
 def cells_of(files: Files, url: str, columns: Container[str]) -> Iterator[Cell]:

@@ -72,8 +72,8 @@ def parts(reference: str) -> Tuple[Optional[str], Optional[str], str, str]:
 def normal(url: str) -> str:
     """Return the normal form of a URL, or of its start (RFC 3986, sections 6.2.2 and 6.2.3).
 
-    Scheme and host are in small letters, the scheme's own port is left out, an escape is decoded
-    if it needs none, and `.` segments are removed. A `..` that is written with escapes stays, so
+    Scheme and host are in small letters, an empty port or the scheme's own is left out, a needless
+    escape is decoded, and `.` segments are removed. A `..` that is written with escapes stays, so
     that the catalogs refuse it.
     """
     if is_plainly_normal(url):
@@ -83,7 +83,9 @@ def normal(url: str) -> str:
         return url
     scheme = scheme.lower()
     user, at, host = host.rpartition("@")
-    host = host.lower().removesuffix(DEFAULT_PORTS.get(scheme, "\0")) if path else host.lower()
+    host = ESCAPE.sub(normal_escape, host).lower()
+    if path:
+        host = host.removesuffix(DEFAULT_PORTS.get(scheme, "\0")).removesuffix(":")
     path = "/".join(map(normal_segment, path.split("/")))
     return f"{scheme}://{user}{at}{host}{without_dots(path)}{query}"
 

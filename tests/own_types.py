@@ -249,16 +249,29 @@ FREE = ("text", "other")
 SETS = ("enumeration", "enumerations")
 
 
-def cell_of(word: str, cell: str, names: Names) -> Read:
-    """Returns what a cell of a concept of this type is."""
+def special_of(cell: str) -> Read | None:
+    """Returns what a cell is that has no text, or None."""
     if cell in ("", "#none"):
         return Read(is_fact=False)
     if cell == "#nil":
         return Read()
-    is_empty = cell == "#empty"
-    if cell.startswith("#") and not cell.startswith("##") and not is_empty:
-        return Read(UNKNOWN_SPECIAL)
-    text = "" if is_empty else cell[1:] if cell.startswith("##") else cell
+    has_text = not cell.startswith("#") or cell.startswith("##") or cell == "#empty"
+    return None if has_text else Read(UNKNOWN_SPECIAL)
+
+
+def text_in(cell: str) -> str:
+    """Returns the text of a cell that has one."""
+    if cell == "#empty":
+        return ""
+    return cell[1:] if cell.startswith("##") else cell
+
+
+def cell_of(word: str, cell: str, names: Names) -> Read:
+    """Returns what a cell of a concept of this type is."""
+    special = special_of(cell)
+    if special is not None:
+        return special
+    text = text_in(cell)
     if word in FREE:
         return Read(value=text)
     text = text.strip(BLANKS)
@@ -300,15 +313,10 @@ def blanks_as_one(text: str) -> str:
 
 def typed_of(word: str, cell: str, names: Names) -> Read:
     """Returns what a cell is to which a typed dimension of this type refers."""
-    if cell in ("", "#none"):
-        return Read(is_fact=False)
-    if cell == "#nil":
-        return Read()
-    is_empty = cell == "#empty"
-    if cell.startswith("#") and not cell.startswith("##") and not is_empty:
-        return Read(UNKNOWN_SPECIAL)
-    text = "" if is_empty else cell[1:] if cell.startswith("##") else cell
-    text = text.strip(BLANKS)
+    special = special_of(cell)
+    if special is not None:
+        return special
+    text = text_in(cell).strip(BLANKS)
     return Read(value=text) if has_form(word, text, names) else Read(BAD_VALUE)
 
 

@@ -474,9 +474,17 @@ class TestRefused(Case):
 
     def test_two_reports_of_one_name(self) -> None:
         one, two = self.reports("a/x", "b/x")
-        why = "would both be written as x.json: rename one, or take another --into"
-        self.refused(2, f"{one} and {two} {why}", [one, two])
-        self.assertFalse(self.out.exists())
+        Path(two).write_bytes(b"PK\3\4 and no more")
+        for names, wanted in (([one, two], "done"), ([two, one], "refused")):
+            line = f"cannot write (x.json would be written for {names[0]} too: rename one of them)"
+            status, err = self.run_many(names, "--outcomes", "o.jsonl", "--page", "p.html")
+            self.assertEqual(status, 3)
+            self.assertIn(f"{names[1]}: failed ({line})\n", err)
+            lines = (self.folder / "o.jsonl").read_text().splitlines()
+            told = {it["report"]: (it["status"], it["outcome"]) for it in map(json.loads, lines)}
+            self.assertEqual(told, {names[0]: (int(wanted != "done"), wanted), names[1]: (3, "failed")})
+            self.assertEqual(self.outcome("x")["report"], names[0])
+            self.assertEqual((self.folder / "p.html").read_text().count("<a href="), 1)
 
     def test_an_input_in_the_folder(self) -> None:
         report = packed(EXAMPLE / "report", self.out / "a.zip")

@@ -224,6 +224,7 @@ def normal_forms() -> Iterator[Case]:
     for url in (
         "HTTP://Reg.EXAMPLE/mod.json",
         "http://reg.example:80/mod.json",
+        "http://%72eg.example:/mod.json",
         HOST + "%6dod.js%6Fn",
         HOST + ".%2f../%2e/mod.json",
         HOST + "/mod.json",
@@ -256,6 +257,9 @@ def normal_forms() -> Iterator[Case]:
         ("http://a.example/%2E/b/%2e%2e/c", "http://a.example/b/%2E%2E/c"),
         ("http://a.example/a?%7E", "http://a.example/a?%7E"),
         ("http://a.example/x#%41", "http://a.example/x#%41"),
+        ("http://a.example:/x", "http://a.example/x"),
+        ("http://%41.e%78ample/x", "http://a.example/x"),
+        ("http://[::1]/x", "http://[::1]/x"),
         ("urn:A:%41", "urn:A:%41"),
     ):
         yield equal(f"the normal form of {text}", functools.partial(normal, text), wanted)

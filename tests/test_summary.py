@@ -466,15 +466,23 @@ class TestMany(Case):
         self.assertEqual((self.folder / "out/b.summary.json").read_text(), "mine")
 
     def test_names(self) -> None:
-        """Refuses a report whose document would be the summary of another, and two outputs."""
-        reports = [self.packed("in/a.zip"), self.packed("in/a.summary.zip")]
+        """Refuses only a report whose document would be the summary of another, and two outputs."""
+        reports = [self.packed("in/a.summary.zip"), self.packed("in/a.zip")]
         words = ["--taxonomy", "taxonomy", "--into", "out"]
-        line = self.run_filing(*reports, *words, "--summary", "s.json", status=2)
-        self.assertIn("would both be written as a.summary.json", line)
         for path in ("out/a.json", "out/a.summary.json"):
-            line = self.run_filing(reports[0], *words, "--summary", path, status=3)
+            line = self.run_filing(reports[1], *words, "--summary", path, status=3)
             self.assertIn("it is another output of this run", line)
         self.assertFalse((self.folder / "out").exists())
+        for given in (reports, reports[::-1]):
+            line = self.run_filing(*given, *words, "--summary", "s.json", status=3)
+            self.assertIn(f"a.summary.json would be written for {reports[1]} too", line)
+            self.assertEqual(self.summary("out/a.summary.json")["outcome"], "converted")
+            seen = {it["report"]: (it["outcome"], it["summary"]) for it in self.summary("s.json")["reports"]}
+            wanted = {reports[0]: ("failed", None), reports[1]: ("done", "out/a.summary.json")}
+            self.assertEqual(seen, wanted)
+            self.assertFalse((self.folder / "out/a.summary.outcome").exists())
+        other = self.run_filing(*reports, "--taxonomy", "taxonomy", "--into", "more")
+        self.assertIn("2 done", other)
 
 
 if __name__ == "__main__":
