@@ -8,6 +8,7 @@ ghost use Rattle.oim_records.specs.PieceTaking.{TakesBytes, bytes_left};
 ghost use Rattle.oim_records.specs.Reads.{KeepsLeft, left_behind};
 ghost use Rattle.oim_pieces.specs.state.Cutting.{IsOver, TakesRows};
 
+use crate::growth_looks::KnownGrowth;
 use crate::text_growth::{TextGrowth, has_memory};
 use oim_records::{FilePiece, PieceReader};
 use oim_rows::{TableFault, TableKind, fault_of_read, whole_fault};
@@ -53,10 +54,10 @@ pub(crate) struct Cutter<R: Read + Drop> {
     limit: u32,
     next: u64,
     over: Option<Option<TableFault>>,
-    // How many bytes a piece should have.
+    // How many bytes a piece should have if the table's facts are not long.
     size: usize,
     // How much longer than its rows the table's facts can be.
-    growth: TextGrowth,
+    growth: Option<KnownGrowth>,
     // How many bytes the metadata adds to the longest of the last pieces.
     longest: usize,
     // Whether the last piece or the last read was short, as at the end of a file, or with a reader
@@ -120,18 +121,25 @@ impl<R: Read + Drop> Cutter<R> {
             next,
             over: None,
             size,
-            growth: TextGrowth::none(),
+            growth: None,
             longest: 0,
             is_slow: false,
         }
     }
 
-    /// Sets how much longer than its rows the table's facts can be, and the size of its pieces.
-    pub(crate) fn set_growth(&mut self, growth: TextGrowth, size: usize)
+    /// Sets how much longer than its rows the table's facts can be.
+    pub(crate) fn set_growth(&mut self, growth: KnownGrowth)
         ensures { self.new ≡ self.old }
     {
-        self.growth = growth;
-        self.size = size;
+        self.growth = Some(growth);
+    }
+
+    /// Returns how much longer than its rows the table's facts can be, as far as it is known.
+    fn growth(&self) -> TextGrowth {
+        match &self.growth {
+            Some(known) => known.get(),
+            None => TextGrowth::none(),
+        }
     }
 
     /// Returns whether the facts of one more piece may take memory in addition to those of `count`
@@ -194,18 +202,20 @@ impl<R: Read + Drop> Cutter<R> {
             self.over = Some(Some(whole_fault(self.table, TableKind::Memory)));
             return None;
         }
-        match self.pieces.next(self.size, true) {
+        let growth = self.growth();
+        let size = growth.piece_size(self.size);
+        match self.pieces.next(size, true) {
             Ok(Some(FilePiece { bytes, records })) => {
                 let first = self.next as u32;
                 let rows = records as usize;
-                self.longest = self.growth.longest(self.longest, bytes.len(), rows);
-                let is_short = bytes.len() < self.size / 2;
+                self.longest = growth.longest(self.longest, bytes.len(), rows);
+                let is_short = bytes.len() < size / 2;
                 self.is_slow = is_short || self.pieces.is_short();
                 self.next += records;
                 Some(CutPiece {
                     bytes,
                     first,
-                    stays: is_short || self.growth.is_long(),
+                    stays: is_short || growth.is_long(),
                 })
             }
             Ok(None) => {

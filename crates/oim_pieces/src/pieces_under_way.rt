@@ -11,9 +11,9 @@ ghost use Rattle.oim_pieces.specs.state.PiecesUnderWay.{IsEndOfTable, IsFront, K
 
 use crate::at_work::AtWork;
 use crate::cutter::Cutter;
+use crate::growth_looks::KnownGrowth;
 use crate::piece_under_way::PieceUnderWay;
 use crate::table_threads::TableThreads;
-use crate::text_growth::TextGrowth;
 use oim_decode::{FirstRecords, JoinedPiece, PieceJoin};
 use oim_records::PieceReader;
 use oim_report::Report;
@@ -151,11 +151,11 @@ impl<'a, R: Read + Drop> PiecesUnderWay<'a, R> {
         }
     }
 
-    /// Sets how much longer than its rows the table's facts can be, and the size of its pieces.
-    pub(crate) fn set_growth(&mut self, growth: TextGrowth, size: usize)
+    /// Sets how much longer than its rows the table's facts can be.
+    pub(crate) fn set_growth(&mut self, growth: KnownGrowth)
         ensures { self.new ≡ self.old }
     {
-        self.cutter.set_growth(growth, size);
+        self.cutter.set_growth(growth);
     }
 
     /// Keeps the vector of a written block as a spare, for the thread that wrote the block if that

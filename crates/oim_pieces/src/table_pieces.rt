@@ -10,9 +10,9 @@ ghost use Rattle.oim_pieces.specs.PiecesLeft.{FewerSteps, GivesBlocks, steps_lef
 ghost use Rattle.oim_pieces.specs.state.PiecesUnderWay.{GivesJoined};
 
 use crate::at_work::AtWork;
+use crate::growth_looks::GrowthLooks;
 use crate::pieces_under_way::PiecesUnderWay;
 use crate::small_reads::SmallReads;
-use crate::text_growth::TextGrowth;
 use oim_decode::{JoinedPiece, open_pieces};
 use oim_json::Block;
 use oim_report::{Limits, Report};
@@ -35,7 +35,7 @@ pub const PIECE_SIZE: usize = 32_768;
 #[derive(Drop)]
 pub struct TablePieces<'a, R: Read + Drop> {
     alloc: Global,
-    pieces_under_way: PiecesUnderWay<'a, SmallReads<R>>,
+    pieces_under_way: PiecesUnderWay<'a, SmallReads<'a, R>>,
     // The end or the fault of the table, once it was found.
     settled: Option<Option<TableFault>>,
 }
@@ -89,16 +89,17 @@ impl<'a, R: Read + Drop> TablePieces<'a, R> {
         ensures fault { IfSome (R.remaining reader) (λ bytes.
             IfErr result (λ e. IsOutside table e ⊎ (file_header_fault report.now table (grid bytes) ≡ Some e))) }
     {
-        let growth = TextGrowth::of(alloc, report, table);
-        let size = growth.piece_size(at_work.size());
-        let (head, pieces) = match open_pieces(alloc, SmallReads::new(reader, size)) {
+        let Ok((looks, growth)) = GrowthLooks::start(alloc, report, table, at_work.size()) else {
+            return Err(whole_fault(table, TableKind::Memory));
+        };
+        let (head, pieces) = match open_pieces(alloc, SmallReads::new(reader, looks)) {
             Ok(Some(opened)) => opened,
             Ok(None) => return Err(whole_fault(table, TableKind::NoHeader)),
             Err(fault) => return Err(fault_of_read(table, fault)),
         };
         match PiecesUnderWay::after_head(alloc, at_work, report, table, limits.rows, head, pieces) {
             Ok(mut pieces_under_way) => {
-                pieces_under_way.set_growth(growth, size);
+                pieces_under_way.set_growth(growth);
                 Ok(TablePieces {
                     alloc,
                     pieces_under_way,
