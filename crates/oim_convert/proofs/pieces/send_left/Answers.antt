@@ -19,7 +19,7 @@ loop-preserved g c =
     let gives = rw (c.in-Ok-Some.field-0-is, c.loop.invariant.table) at c.in-Ok-Some.ensures.blocks in
     let blocks = c.in-Ok-Some.blocks in
     record {
-      table = ap (λ (p : PiecesLeft). p.table) c.make_ready.ensures.pieces ∙ c.next_blocks.ensures.same ∙ c.loop.invariant.table;
+      table = ap (λ (p : PiecesLeft). p.table) c.make_ready.ensures.pieces ∙ c.next_blocks.ensures.same.0 ∙ c.loop.invariant.table;
       ring = ap (λ (f : FeedView). f.ring) c.make_ready.ensures.feed ∙ c.put_all.ensures.ring ∙ c.loop.invariant.ring;
       reading = IfSome_then c.args.pieces.now.left c.loop.invariant.reading (λ whole r.
           subst (λ (p : PiecesLeft). IsReading c.args.pieces.now.table whole (facts_in c.make_ready.new.feed.sent) [] p.left)
