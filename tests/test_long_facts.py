@@ -6,33 +6,42 @@ decoded in small pieces, and neither memory nor time may grow faster than the re
 from __future__ import annotations
 
 import os
-import resource
 import subprocess
 from pathlib import Path
 
 from tests.harness import COLUMNS, NAMESPACE, PROGRAM, TYPES, CaseTest, TestCase, for_each, metadata
+from tests.test_stress import peak
 
-# More workers than processors, since a run takes one worker beside other busy processes
+# More workers than processors, since a run takes one worker if all others are busy
 WORKERS = "64"
+WORDS = [PROGRAM, "m.json", "--types", "t.csv", "--workers"]
 LONG_TYPE = f"{NAMESPACE},Long,typed\n"
-# The facts of 160,000 bytes took 52 KB each, if every second piece had two rows
-LONG, FACTS = 160_000, 6_000
-MEMORY = 1 << 28
+# Facts of 160,000 bytes took 52 KB each, if every second piece had two rows
+LONG, FACTS = 160_000, 3_000
+# In KiB: 64 MB and 20 times the metadata
+MEMORY = 65_000
 # Groups and tables for which several workers took 12 times the time of one
 GROUPS, TABLES = 32_768, 2_048
 
 
-def limited_memory() -> None:
-    """Limits the run to 256 MiB of memory."""
-    resource.setrlimit(resource.RLIMIT_AS, (MEMORY, MEMORY))
+def memory(folder: Path) -> int:
+    """Returns the most memory of a run, in KiB. Fails if it does not end with status 0."""
+    most = 0
+    with subprocess.Popen(
+        [*WORDS, WORKERS], cwd=folder, stdin=subprocess.DEVNULL, stdout=subprocess.PIPE
+    ) as run:
+        assert run.stdout is not None
+        while run.stdout.read(1 << 20):
+            most = max(most, peak(run.pid))
+    if run.returncode != 0:
+        raise AssertionError(f"status {run.returncode}")
+    return most
 
 
 def seconds(folder: Path, workers: str) -> float:
-    """Returns the processor seconds of a run whose output is not kept. Fails if it does not end
-    with status 0.
-    """
-    words = [PROGRAM, "m.json", "--types", "t.csv", "--workers", workers]
-    run = subprocess.Popen(words, cwd=folder, stdin=subprocess.DEVNULL, stdout=subprocess.DEVNULL)
+    """Returns the processor seconds of a run. Fails if it does not end with status 0."""
+    null = subprocess.DEVNULL
+    run = subprocess.Popen([*WORDS, workers], cwd=folder, stdin=null, stdout=null)
     _, status, used = os.wait4(run.pid, 0)
     run.returncode = os.waitstatus_to_exitcode(status)
     if run.returncode != 0:
@@ -42,7 +51,7 @@ def seconds(folder: Path, workers: str) -> float:
 
 @for_each((f"rows of {length} bytes", (length,)) for length in (2, 8, 11, 16, 23))
 class TestLongFacts(CaseTest):
-    """Converts rows whose facts have 160,000 bytes, within 256 MiB."""
+    """Converts rows whose facts have 160,000 bytes in little memory."""
 
     def check(self, length: int) -> None:
         """Converts rows of this many bytes."""
@@ -56,9 +65,9 @@ class TestLongFacts(CaseTest):
                 "t1.csv": "cash\n" + row * FACTS,
             }
         )
-        words = ["m.json", "--types", "t.csv", "--workers", WORKERS]
-        seen = self.run_program(*words, stdout=subprocess.DEVNULL, preexec_fn=limited_memory)
-        self.check_run(seen, 0, b"", "")
+        most = memory(self.folder)
+        self.assertGreater(most, 0)
+        self.assertLess(most, MEMORY)
 
 
 class TestManyTables(TestCase):
