@@ -47,7 +47,7 @@ def index(listed: Sequence[Listed], folder: str) -> str:
         f"<caption>{counted(len(words), 'report')}, the refused ones first</caption>\n"
         '<thead><tr><th scope="col">Report</th><th scope="col">Outcome</th>'
         '<th scope="col" class="count">Faults</th><th scope="col">First line</th></tr></thead>\n'
-        f"<tbody>\n{lines}</tbody></table></div>\n</section>\n</main>\n",
+        f'<tbody class="group">\n{lines}</tbody></table></div>\n</section>\n</main>\n',
     )
 
 
@@ -77,7 +77,7 @@ def line(report: Listed, folder: str) -> str:
     word = plain(report.outcome.outcome, NAME)
     told = report.outcome.line.removeprefix("xbrl-filing: ").removeprefix(f"{report.outcome.report}: ")
     return (
-        f'<tr data-item data-outcome="{word}"><th scope="row" class="path">{name}</th>'
+        f'<tr data-outcome="{word}"><th scope="row" class="path">{name}</th>'
         f'<td>{outcome_word(report.outcome.outcome)}</td><td class="count">{faults}</td>'
         f"<td>{markup(told, LINE)}</td></tr>\n"
     )

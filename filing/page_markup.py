@@ -13,7 +13,8 @@ from .page_content import LONGEST, Content, Item, TableLine
 from .page_remedies import FORMS, REMEDIES
 from .page_rows import LONGEST as SHORT
 from .page_rows import Near, Row
-from .page_style import MARK, POLICY, SCRIPT, STYLE
+from .page_script import SCRIPT
+from .page_style import MARK, POLICY, STYLE
 from .page_text import markup, plain
 from .refused_faults import NAME as REFUSED_BY
 
@@ -21,6 +22,7 @@ WHOLE_FILE = "(the whole file)"  # what `--explain` has for a place without a te
 NAME, CELL, LINE = 200, 400, 600  # characters of a name, a cell, a line that are shown
 MOST_NAMES = 10_000  # characters of a list of tables
 MOST_PARAMETERS = 1_000
+GROUP = 100  # faults that a browser makes elements of at a time
 COUNTS = ("Facts", "Without unit", "Without decimals", "Without entity", "Without period")
 NONE: Tuple[Optional[int], ...] = (None,) * len(Numbers._fields)
 COLOURS = {
@@ -94,8 +96,10 @@ def faults_part(content: Content, numbers: Dict[str, int]) -> Iterator[str]:
         yield f"<p>Rows are shown for {counted(shown, 'fault')}.</p>\n"
     if len(content.items) > 1:
         yield filters(content.items, numbers)
-    for at, item in enumerate(content.items, 1):
-        yield one_fault(at, item, numbers[item.fault.table])
+    yield group_of(0, content.items[:GROUP], numbers)
+    yield blocked(len(content.items) - GROUP)
+    for at in range(GROUP, len(content.items), GROUP):
+        yield group_of(at, content.items[at : at + GROUP], numbers)
     yield "</section>\n"
     yield from forms_part(content.items)
 
@@ -121,23 +125,42 @@ def choice(name: str, label: str, values: List[Tuple[str, str]]) -> str:
     )
 
 
-def one_fault(at: int, item: Item, table: int) -> str:
+def group_of(first: int, items: Sequence[Item], numbers: Dict[str, int]) -> str:
+    """Return faults that a browser makes elements of together; `first` are before them.
+
+    Later groups are in a `noscript`, which shows them where scripts are off. Else a browser takes
+    it as one text, which the script makes elements of: only those that `page_script` lists.
+    `data-keys` is what the filters compare.
+    """
+    faults = "".join(one_fault(at, item) for at, item in enumerate(items, first + 1))
+    told = ",".join(f"{numbers[item.fault.table]} {item.fault.number}" for item in items)
+    if first:
+        faults = f"<noscript>\n{faults}</noscript>"
+    kind = "group later" if first else "group"
+    return f'<div class="{kind}" data-keys="{told}">\n{faults}</div>\n'
+
+
+def blocked(later: int) -> str:
+    """Return what a reader sees if a browser takes scripts, but not the one of the page."""
+    more = f"{counted(later, 'fault')} more"
+    note = f"If no fault follows, the script of this page is blocked: it has {more}."
+    return f'<p class="blocked">{note}</p>\n' if later > 0 else ""
+
+
+def one_fault(at: int, item: Item) -> str:
     """Return a fault: its place, what is wrong, the rows round it, and what to do."""
     fault = item.fault
     name = f'<span class="name">{markup(fault.name, NAME)} ({fault.number})</span>'
-    parts = [f"<h3>{place_of(fault)} {name}</h3>\n", f'<p class="why">{why(item)}</p>\n']
+    parts = [f"<h3>{place_of(fault)} {name}</h3>", f'<p class="why">{why(item)}</p>']
     if item.near:
         parts.append(rows(at, item, item.near))
     elif item.file:
-        parts.append(f'<p class="none">{file_of(item)}</p>\n')
+        parts.append(f'<p class="none">{file_of(item)}</p>')
     parts.append(found(item))
     if len(item.said) > 3:
         parts.append(causes(item.said[3:]))
     parts.append(remedy(fault.number))
-    return (
-        f'<article class="fault" id="f{at}" data-item data-table="{table}"'
-        f' data-fault="{fault.number}">\n{"".join(parts)}</article>\n'
-    )
+    return f'<article class="fault" id="f{at}">{"".join(parts)}</article>\n'
 
 
 def place_of(fault: Fault) -> str:
@@ -167,7 +190,7 @@ def found(item: Item) -> str:
     text = f"<code>{markup(fault.cell, CELL)}</code>" if fault.cell else ""
     if not text and len(item.said) > 1 and item.said[1] != WHOLE_FILE:
         text = markup(item.said[1], LINE)
-    return f"<p>Found: {text}{length_of(fault.cell)}</p>\n" if text else ""
+    return f"<p>Found: {text}{length_of(fault.cell)}</p>" if text else ""
 
 
 def length_of(text: str) -> str:
@@ -186,7 +209,7 @@ def file_of(item: Item) -> str:
 def causes(said: Sequence[str]) -> str:
     """Return the places that the cause comes from."""
     lines = "\n".join(markup(line, LINE) for line in said)
-    return f"<p>It comes from:</p>\n<pre>{lines}</pre>\n"
+    return f"<p>It comes from:</p><pre>{lines}</pre>"
 
 
 def remedy(number: int) -> str:
@@ -194,7 +217,7 @@ def remedy(number: int) -> str:
     text = ticked(REMEDIES.get(number, ("", ""))[1])
     if number in FORMS:
         text = f'<a href="#n{number}">what filers often write, and what is right</a>'
-    return f'<p class="do"><b>What to do:</b> {text}</p>\n' if text else ""
+    return f'<p class="do"><b>What to do:</b> {text}</p>' if text else ""
 
 
 def ticked(text: str) -> str:
@@ -208,10 +231,10 @@ def rows(at: int, item: Item, near: Near) -> str:
     heads = "".join(header_cell(*column, fault) for column in zip(near.columns, near.header))
     lines = "".join(row(near_row, near.columns, fault) for near_row in near.rows)
     return (
-        f'<div class="wide rows" tabindex="0" role="region" aria-label="Rows of fault {at}">\n'
-        f"<table>\n<caption>{file_of(item)}</caption>\n"
-        f'<thead><tr><th scope="col">Line</th><th scope="col">Row</th>{heads}</tr></thead>\n'
-        f"<tbody>\n{lines}</tbody>\n</table>\n</div>\n"
+        f'<div class="wide rows" tabindex="0" role="region" aria-label="Rows of fault {at}">'
+        f"<table><caption>{file_of(item)}</caption>"
+        f'<thead><tr><th scope="col">Line</th><th scope="col">Row</th>{heads}</tr></thead>'
+        f"<tbody>{lines}</tbody></table></div>"
     )
 
 
@@ -229,7 +252,7 @@ def row(shown: Row, columns: List[int], fault: Fault) -> str:
     cells = "".join(cell(a, is_bad and fault.column == b) for a, b in zip(shown.cells, columns))
     start = '<tr class="bad">' if is_bad and not fault.column else "<tr>"
     line = f'<th scope="row">{number_or_not(shown.line)}</th><td>{shown.number:,}</td>'
-    return f"{start}{line}{cells}</tr>\n"
+    return f"{start}{line}{cells}</tr>"
 
 
 def cell(text: Optional[str], is_bad: bool) -> str:
@@ -255,7 +278,8 @@ def forms_part(items: Sequence[Item]) -> Iterator[str]:
         )
         yield (
             f'<div class="wide"><table class="plain" id="n{number}">\n'
-            f"<caption>{numbers[number]} ({number}): {ticked(REMEDIES[number][0])}</caption>\n"
+            f"<caption>{markup(numbers[number], NAME)} ({number}): {ticked(REMEDIES[number][0])}"
+            "</caption>\n"
             '<thead><tr><th scope="col">You see</th><th scope="col">Why</th>'
             '<th scope="col">Do, or write</th></tr></thead>\n'
             f"<tbody>\n{lines}</tbody></table></div>\n"

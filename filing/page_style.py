@@ -1,12 +1,11 @@
-"""The style and the script of a page. Both are fixed, and the page allows nothing else.
-
-Neither has a text of a report in it, so a browser runs nothing that a filing brings.
-"""
+"""The style of a page, and its policy, which allows nothing but this style and the script."""
 
 from __future__ import annotations
 
 import base64
 import hashlib
+
+from .page_script import SCRIPT
 
 # How each page begins. Only a file that begins so is replaced by a page.
 MARK = "<!DOCTYPE html>\n<!-- A page of xbrl-filing -->\n"
@@ -74,8 +73,8 @@ select, button { max-width: 22rem; padding: .4rem .6rem; font: inherit; color: v
   background: var(--paper); border: 1px solid var(--soft); border-radius: .35rem; }
 .filters output { padding: .4rem 0; margin-left: auto; }
 .fault { margin: 0 0 1.1rem; padding: .9rem 1.1rem; border: 1px solid var(--line);
-  border-left: 4px solid var(--bad); border-radius: .4rem; content-visibility: auto;
-  contain-intrinsic-size: auto 20rem; }
+  border-left: 4px solid var(--bad); border-radius: .4rem; }
+.group ~ .group { content-visibility: auto; contain-intrinsic-size: auto 1200rem; }
 .fault > p, .fault > pre { margin: .45rem 0; }
 .name { color: var(--soft); font-weight: 400; white-space: nowrap; }
 .why { font-size: 1.05rem; }
@@ -90,43 +89,7 @@ footer { margin-top: 3rem; padding-top: 1rem; padding-bottom: 2rem; color: var(-
   dl { grid-template-columns: 1fr; gap: 0; } dd { margin-bottom: .5rem; }
   th, td { padding: .3rem .45rem; } .filters output { margin-left: 0; } }
 @media print { .filters, .skip { display: none; } .fault { break-inside: avoid; }
-  .fault { content-visibility: visible; } }
-"""
-
-# The filters of a page. The end of the address sets them: `#table=2&fault=40`.
-SCRIPT = """
-"use strict";
-(() => {
-  const form = document.querySelector(".filters");
-  if (!form) return;
-  const kinds = [...form.querySelectorAll("select")];
-  const items = [...document.querySelectorAll("[data-item]")];
-  const told = form.querySelector("output");
-  const count = (number) => number.toLocaleString("en");
-  const show = () => {
-    let shown = 0;
-    for (const item of items) {
-      item.hidden = !kinds.every((it) => !it.value || item.dataset[it.name] === it.value);
-      shown += item.hidden ? 0 : 1;
-    }
-    told.textContent = `${count(shown)} of ${count(items.length)} shown`;
-  };
-  const follow = () => {
-    const wanted = new URLSearchParams(location.hash.slice(1));
-    const named = kinds.filter((it) => wanted.has(it.name));
-    for (const it of named) it.value = wanted.get(it.name);
-    for (const it of kinds) if (it.selectedIndex < 0) it.value = "";
-    const target = document.getElementById(location.hash.slice(1));
-    if (target && target.hidden) form.reset();
-    show();
-    if (target) target.scrollIntoView();
-  };
-  form.addEventListener("change", show);
-  form.addEventListener("reset", () => setTimeout(show));
-  addEventListener("hashchange", follow);
-  form.hidden = false;
-  follow();
-})();
+  .group ~ .group { content-visibility: visible; } }
 """
 
 

@@ -104,13 +104,30 @@ class Browser:
     def open(self, address: str) -> float:
         """Open a page, and return the seconds of its thread until it is loaded and drawn."""
         before = self.worked()
+        self.load(address)
+        drawn = "new Promise((done) => requestAnimationFrame(() => setTimeout(done)))"
+        self.ask("Runtime.evaluate", expression=drawn, awaitPromise=True)
+        return self.worked() - before
+
+    def load(self, address: str) -> None:
+        """Open a page, and return once it is loaded."""
         self.events.clear()
         self.ask("Page.navigate", url=address)
         while not any(it["method"] == "Page.loadEventFired" for it in self.events):
             self.heard()
-        drawn = "new Promise((done) => requestAnimationFrame(() => setTimeout(done)))"
-        self.ask("Runtime.evaluate", expression=drawn, awaitPromise=True)
-        return self.worked() - before
+
+    def wait_for(self, expression: str) -> None:
+        """Wait until an expression in the page is true."""
+        until = time.monotonic() + PATIENCE
+        while not self.value(expression):
+            if time.monotonic() > until:
+                raise TimeoutError(expression)
+            time.sleep(0.05)
+
+    def count(self, selector: str) -> int:
+        """Return how many elements a selector finds, also without scripts."""
+        root = self.ask("DOM.getDocument")["root"]["nodeId"]
+        return len(self.ask("DOM.querySelectorAll", nodeId=root, selector=selector)["nodeIds"])
 
     def worked(self) -> float:
         """Return the seconds that the page's thread has worked."""

@@ -35,10 +35,11 @@ from filing.converter_program import has_counts  # noqa: E402
 from filing.every_fault import Fault, read_faults  # noqa: E402
 from filing.page_content import MOST, Content, TableFile, faults_of, filled  # noqa: E402
 from filing.page_index import Listed, index  # noqa: E402
-from filing.page_markup import page  # noqa: E402
+from filing.page_markup import GROUP, page  # noqa: E402
 from filing.page_remedies import FORMS, REMEDIES  # noqa: E402
 from filing.page_rows import WIDEST, Budget, Near, read_table  # noqa: E402
-from filing.page_style import MARK, SCRIPT, STYLE  # noqa: E402
+from filing.page_script import SCRIPT  # noqa: E402
+from filing.page_style import MARK, STYLE  # noqa: E402
 from filing.page_text import is_hidden, markup, plain  # noqa: E402
 from filing.outcomes import Outcome  # noqa: E402
 from tests.browser import PROGRAM as BROWSER  # noqa: E402
@@ -59,9 +60,27 @@ SHOWN = """[...document.querySelectorAll("article.fault")].map((it) =>
 # Picks the faults of one number, as a person does.
 PICKED = """(() => { const form = document.querySelector(".filters"); form.fault.value = "37";
     form.fault.dispatchEvent(new Event("change", {bubbles: true})); })()"""
-# How long the thread of a page of the most faults may work until it is drawn: 53 were seen at a
-# load of 40 on four processors.
-MOST_YARDSTICKS = 80
+TOLD = "document.querySelector('output').textContent"
+ALL_MADE = "!document.querySelector('.later')"  # whether no faults are a text any more
+NEVER_IDLE = "window.requestIdleCallback = () => 0"
+# How long the thread of a page of the most faults may work until it is drawn: 12 were seen at most,
+# and 29 to 31 of a page whose faults are all made at once.
+MOST_YARDSTICKS = 25
+# Texts that a page never has, and what its script shows of them, if that is another text.
+UNESCAPED = {
+    "<script>document.title = 'run'</script>": "",
+    "<img src=\"x\" onerror=\"document.title = 'run'\">": "",
+    "<b onclick=\"document.title = 'run'\">b</b>": "",
+    "<p class=\"why\" style=\"color: red\">p</p>": "",
+    "<a href=\"javascript:document.title = 'run'\">a</a>": "",
+    "<a href=\"https://reg.example/\">a</a>": "",
+    "<p id=\"faults\">p</p>": "",
+    "<!-- <b>no end": "",
+    "<span class=\"hide\"><i>no end": "",
+    "</td></b>": "",
+    "<iframe></iframe><style>*{display:none}</style>": "",
+    "&lt;b&gt; &amp;lt;b&amp;gt; &nbsp;": "<b> &lt;b&gt; &nbsp;",
+}
 REPORTS = "reports"
 VOID = ("meta",)
 TITLE = re.compile(
@@ -73,11 +92,11 @@ OUTPUT = "cannot write (it is another output of this run)"
 ALLOWED = set(
     "html head meta title style body header main section footer article a span h1 h2 h3 p dl dt dd"
     " form label select option button output div table caption thead tbody tr th td mark code i bdi"
-    " b pre script".split()
+    " b pre script noscript".split()
 )
 ATTRIBUTES = set(
     "lang charset http-equiv content name class id href hidden value type scope tabindex role"
-    " aria-label data-item data-table data-fault data-outcome".split()
+    " aria-label data-keys data-outcome".split()
 )
 
 
@@ -944,19 +963,58 @@ class TestBrowser(Case):
                 told = f"{len(wanted)} of 2 shown"
                 self.assertEqual(top.all("output")[0].text(), told)
 
+    def hostile_content(self) -> Content:
+        """Return faults of hostile cells, places and names, more than are made at once."""
+        cells = [it for it in HOSTILE for _ in range(2 * GROUP // len(HOSTILE) + 1)]
+        rows = "".join(f'"{it.replace(chr(34), chr(34) * 2)}"\n' for it in cells)
+        self.edit("t.csv", "a,b\n" + rows)
+        kinds = [("t", 1, 40), ("t", 0, 26), ("t", 2, min(FORMS))]
+        faults = []
+        for row, cell in enumerate(cells, 1):
+            table, column, number = kinds[row % 3] if row < len(cells) - 40 else ("gone", 1, 40)
+            place = ("" if row % 5 else table, row if row % 7 else 0, column, number)
+            faults.append(Fault(*place, cell, str(row + 1), cell, cell, cell))
+        said = {it: (it.place, it.cell, it.cell, it.cell, "more") for it in faults[::2]}
+        tables = [TableFile(it, f"{it}.csv", str(self.tables / f"{it}.csv")) for it in ("t", "gone")]
+        return filled(Content("Refused", "r", "", [], len(faults)), tables, faults, said)
+
     def test_nothing_of_a_report_runs(self) -> None:
         """Has the same elements in a browser as in the file, and a console without a line."""
-        rows = "".join(f'"{it.replace(chr(34), chr(34) * 2)}","x"\n' for it in HOSTILE)
-        self.edit("l_01.csv", "datapoint,factValue\n" + rows)
-        self.convert("--every-fault", status=1)
+        self.page.write_text(page(self.hostile_content()), encoding="utf-8")
         before = self.top()
-        after, console = self.opened(f"file://{self.page}")
-        self.assertEqual(console, "")
-        self.assertGreater(len(before.all("article")), 3)
+        self.assertGreater(len(before.all("div", "later")), 1)
+        with Browser(self.folder) as browser:
+            browser.open(f"file://{self.page}")
+            browser.wait_for(ALL_MADE)
+            after = read(browser.value("document.documentElement.outerHTML"))
+            self.assertEqual(browser.console, [])
         for name in ("script", "style", "article", "td", "mark", "i", "a", "title"):
             seen = [it.text() for it in after.all(name)]
             self.assertEqual(seen, [it.text() for it in before.all(name)], name)
         self.assertLessEqual({it.name for it in after.walk()}, ALLOWED)
+        for one, other in zip(after.all("article"), before.all("article")):
+            self.assertEqual(one, other)
+
+    def test_a_text_that_is_not_escaped(self) -> None:
+        """Shows all but the elements of a page as text, even if it is not escaped."""
+        text = page(self.content(2 * GROUP))
+        for at, raw in enumerate(UNESCAPED, GROUP + 1):
+            text = text.replace(f'id="f{at}"><h3>', f'id="f{at}"><h3>{raw}')
+        text = text.replace("</noscript>", "<b>no end</noscript>")
+        self.page.write_text(text, encoding="utf-8")
+        with Browser(self.folder) as browser:
+            browser.open(f"file://{self.page}")
+            browser.wait_for(ALL_MADE)
+            for at, raw in enumerate(UNESCAPED, GROUP + 1):
+                with self.subTest(raw=raw):
+                    seen = browser.value(f"document.querySelector('#f{at} h3').textContent")
+                    self.assertEqual(seen.partition("Table t")[0], UNESCAPED[raw] or raw)
+                    self.assertEqual(browser.count(f"#f{at} h3 *"), 1)
+            last = browser.value("document.querySelector('.group ~ .group').textContent.trim()")
+            self.assertTrue(last.endswith("\n<b>no end"), last[-200:])
+            self.assertEqual(browser.count(".group > b"), 0)
+            self.assertEqual(browser.value("document.title"), "Refused: r")
+            self.assertEqual(browser.console, [])
 
     def test_the_policy_blocks_what_is_not_the_page(self) -> None:
         """Has a policy that a browser heeds: a foreign script and style do not run."""
@@ -988,19 +1046,24 @@ class TestBrowser(Case):
             csv.writer(file, lineterminator="\n").writerows([list(Fault._fields), *records])
         return faults, tables
 
-    def test_ten_thousand_faults(self) -> None:
-        """Opens a page of the most faults soon, shows each as the file has it, and filters them."""
+    def page_of_the_most(self) -> Path:
+        """Write the page of the most faults, and return the file that has them."""
         path, tables = self.file_of_faults()
         found, count = faults_of(str(path))
         content = filled(Content("Refused", "r", "", [], count), tables, found, {})
         self.page.write_text(page(content), encoding="utf-8")
+        return path
+
+    def test_ten_thousand_faults(self) -> None:
+        """Opens a page of the most faults soon, shows each as the file has it, and filters them."""
+        path = self.page_of_the_most()
         with Browser(self.folder) as browser:
             seconds = browser.open(f"file://{self.page}")
-            shown = browser.value(SHOWN)
-            told = browser.value("document.querySelector('output').textContent")
+            told = browser.value(TOLD)
             browser.value(PICKED)
-            picked = browser.value("document.querySelector('output').textContent")
-            visible = browser.value(f"{SHOWN}.filter((it) => it[3]).map((it) => it[0])")
+            picked = browser.value(TOLD)
+            browser.wait_for(ALL_MADE)
+            shown = browser.value(SHOWN)
             self.assertEqual(browser.console, [])
         with open(path, newline="", encoding="utf-8") as file:
             records = list(csv.DictReader(file))
@@ -1012,9 +1075,46 @@ class TestBrowser(Case):
             self.assertEqual((why, mark), (sentence, cell))
         self.assertGreater(sum(it[2] is not None for it in shown), 500)
         periods = [it for it, record in zip(titles, records) if record["number"] == "37"]
-        self.assertEqual(visible, periods)
+        self.assertEqual([it[0] for it in shown if it[3]], periods)
         self.assertEqual((told, picked), ("10,000 of 10,000 shown", f"{len(periods):,} of 10,000 shown"))
         self.assertLess(seconds, MOST_YARDSTICKS * yardstick())
+
+    def test_without_scripts(self) -> None:
+        """Has all faults where no script runs, and no filters."""
+        self.page.write_text(page(self.content(5 * GROUP // 2)), encoding="utf-8")
+        with Browser(self.folder) as browser:
+            browser.ask("Emulation.setScriptExecutionDisabled", value=True)
+            browser.load(f"file://{self.page}")
+            self.assertEqual(browser.count("article.fault"), 5 * GROUP // 2)
+            self.assertEqual(browser.count(".filters:not([hidden])"), 0)
+
+    def test_a_blocked_script(self) -> None:
+        """Says that faults are missing where a browser takes scripts, but not that of the page."""
+        text = page(self.content(2 * GROUP))
+        self.page.write_text(text.replace("script-src 'sha256-", "script-src 'sha256-x"))
+        with Browser(self.folder) as browser:
+            browser.open(f"file://{self.page}")
+            self.assertEqual(browser.count("article.fault"), GROUP)
+            self.assertEqual(browser.count(".blocked:not([hidden])"), 1)
+            told = browser.value("document.querySelector('.blocked').textContent")
+            self.assertIn("it has 100 faults more", told)
+
+    def test_faults_that_are_not_made_yet(self) -> None:
+        """Makes a fault to which the address leads, those scrolled to, and all to print."""
+        self.page.write_text(page(self.content(9 * GROUP)), encoding="utf-8")
+        cases = {
+            "#f876": ("", "#f876"),
+            "#fault=40": ("scrollTo(0, document.body.scrollHeight)", "#f801"),
+            "": ("dispatchEvent(new Event('beforeprint'))", "#f900"),
+        }
+        for part, (done, wanted) in cases.items():
+            with self.subTest(part=part), Browser(self.folder) as browser:
+                browser.ask("Page.addScriptToEvaluateOnNewDocument", source=NEVER_IDLE)
+                browser.open(f"file://{self.page}{part}")
+                browser.value(done)
+                browser.wait_for(f"document.querySelector('{wanted}')?.textContent.length > 9")
+                self.assertEqual(browser.count(".blocked:not([hidden])"), 0)
+                self.assertEqual(browser.console, [])
 
 
 if __name__ == "__main__":
