@@ -371,7 +371,8 @@ class TestRefused(Case):
         self.assertIn("parameters.csv, line 3, cell 2", said[0])
         same = [it for it in said if it.startswith("the same cause as in table ")]
         self.assertEqual(len(said), 1 + len(same))
-        self.assertEqual(len({it.sentence for it in shown_faults(self.top())}), 1)
+        firsts = {it.table: it.sentence for it in reversed(shown_faults(self.top()))}
+        self.assertEqual(len(set(firsts.values())), 1)
         self.assertNotIn(str(self.temporary), self.page.read_text())
 
     def test_of_the_metadata(self) -> None:
