@@ -13,7 +13,7 @@ ghost use Rattle.oim_decode.specs.state.Blocks.{AddsNone, AddsRow, CountsRow, Ta
 ghost use Rattle.oim_decode.specs.state.Heads.{IsHeaderFault};
 ghost use Rattle.oim_decode.specs.state.RowTexts.{AddsFacts};
 
-use crate::table::pending_facts::PendingFacts;
+use crate::table::pending_facts::{PendingFacts, RowRest};
 use crate::table::row_texts::RowTexts;
 use oim_fast::TableRow;
 use oim_records::{Fields, ReadFault, RecordReader};
@@ -40,6 +40,8 @@ pub(crate) struct TextRows<'a, R: Read + Drop> {
     // compared with `ids` when it is added to them.
     no_ids: RowIds,
     given: u32,
+    // The facts of the last row that are not written yet.
+    rest: Option<RowRest>,
 }
 
 impl<'a, R: Read + Drop> Model for TextRows<'a, R> {
@@ -97,6 +99,7 @@ impl<'a, R: Read + Drop> TextRows<'a, R> {
             ids: RowIds::new(alloc),
             no_ids: RowIds::new(alloc),
             given: 0,
+            rest: None,
         })
     }
 }
@@ -152,9 +155,38 @@ impl<R: Read + Drop> TextRows<'_, R> {
             &fields,
             facts,
         ) {
-            Ok(()) => {
+            Ok(rest) => {
                 self.given = number;
+                self.rest = rest;
                 Ok(true)
+            }
+            Err(fault) => Err(fault),
+        }
+    }
+
+    /// Returns whether facts of the last row are not written yet.
+    pub(crate) fn is_open(&self) -> bool {
+        self.rest.is_some()
+    }
+
+    /// Drops the facts of the last row that are not written yet.
+    pub(crate) fn close(&mut self) {
+        self.rest = None;
+    }
+
+    /// Adds more facts of the last row.
+    pub(crate) fn put_more(&mut self, facts: &mut PendingFacts) -> Result<(), TableFault> {
+        let Some(rest) = self.rest.take() else {
+            return Ok(());
+        };
+        let Some(texts) = self.records.text_fields() else {
+            unreachable!()
+        };
+        let row = TableRow::new(&self.header, self.given, &texts);
+        match facts.put_more(self.alloc, &mut self.texts, &row, rest) {
+            Ok(rest) => {
+                self.rest = rest;
+                Ok(())
             }
             Err(fault) => Err(fault),
         }
@@ -245,7 +277,7 @@ fn add_row<'a>(
     row: &TableRow<'a, '_>,
     fields: &Fields<'_>,
     facts: &mut PendingFacts,
-) -> Result<(), TableFault>
+) -> Result<Option<RowRest>, TableFault>
     requires header { row.now.header ≡ texts.old }
     requires fields { fields.now ≡ row.now.fields }
     requires row { row_fault row.now.header row.now.number [] row.now.fields ≡ None }
@@ -256,7 +288,7 @@ fn add_row<'a>(
     ensures same { texts.new ≡ texts.old }
 {
     match keep_id(alloc, row, ids) {
-        Ok(()) => facts.push_row(alloc, texts, row, fields),
+        Ok(()) => facts.begin_row(alloc, texts, row, fields),
         Err(fault) => Err(fault),
     }
 }
