@@ -56,10 +56,20 @@ impl Denotes<Items<Fact>> for RowNote<'_, '_, '_> {
 }
 
 /// The facts of a row whose texts are not written yet, from the column of facts at an index on.
+///
+/// Contracts see the index and these facts.
 #[derive(Drop)]
 pub(crate) struct RowRest {
     next: usize,
     facts: GhostValue<Items<Fact>>,
+}
+
+impl Model for RowRest {
+    ghost use Rattle.oim_decode.specs.state.RowParts.{RowRestValue};
+
+    ghost Value = { RowRestValue };
+
+    ghost view = { λ a. record { next = a.next; facts = a.facts.value } };
 }
 
 /// The first facts of a list.
@@ -188,6 +198,8 @@ impl PendingFacts {
         requires header { row.now.header ≡ texts.old }
         requires fields { fields.now ≡ row.now.fields }
         requires texts { IsTextRecord fields.now }
+        ensures facts { BeginsRow row.now self.old self.new result }
+        ensures same { texts.new ≡ texts.old }
     {
         let all = GhostValue::of(&RowNote { row });
         let length = self.bytes.len();
@@ -202,7 +214,9 @@ impl PendingFacts {
         }
     }
 
-    /// Adds more facts of a row.
+    /// Adds more facts of a row, and returns those that are left.
+    ///
+    /// Fails with Memory if memory runs out. Then nothing is added.
     pub(crate) fn put_more<'a>(
         &mut self,
         alloc: Global,
@@ -211,6 +225,10 @@ impl PendingFacts {
         rest: RowRest,
     ) -> Result<Option<RowRest>, TableFault>
         requires header { row.now.header ≡ texts.old }
+        requires rest { IsRestOf row.now (Some rest) }
+        ensures facts { IfOk result (λ left. (self.new ++ facts_left left ≡ self.old ++ rest.facts) × IsRestOf row.now left) }
+        ensures fault { IfErr result (λ e. (e ≡ file_fault row.now.header.table kind.Memory) × (self.new ≡ self.old)) }
+        ensures same { texts.new ≡ texts.old }
     {
         let length = self.bytes.len();
         let count = self.ends.len();
@@ -226,7 +244,12 @@ impl PendingFacts {
 
     // Notes that the texts after the first `count` are those of the first of these facts. Returns
     // the others.
-    fn note(&mut self, next: Option<usize>, facts: &GhostValue<Items<Fact>>, count: usize) -> Option<RowRest> {
+    fn note(
+        &mut self,
+        next: Option<usize>,
+        facts: &GhostValue<Items<Fact>>,
+        count: usize,
+    ) -> Option<RowRest> {
         let written = self.ends.len() - count;
         self.facts = then(&self.facts, &Written { facts, count: written });
         match next {

@@ -5,6 +5,7 @@ ghost use mathlib.Core.List.{IsPrefix};
 ghost use Rattle.oim_fast.specs.Facts.{WritesFacts, facts_of_row};
 ghost use Rattle.oim_rows.specs.RowFacts.{IsTextRecord};
 ghost use Rattle.oim_rows.specs.Streams.{OrNoMemory};
+ghost use Rattle.oim_decode.specs.state.RowParts.{BeginsTexts};
 
 use crate::table::plain_rows::PlainRows;
 use oim_fast::{RowWriter, TableRow, TextBuffer};
@@ -103,7 +104,7 @@ impl<'a> RowTexts<'a> {
         requires header { row.now.header ≡ self.old }
         requires fields { fields.now ≡ row.now.fields }
         requires texts { IsTextRecord fields.now }
-        ensures facts { IfOk result (λ next. BeginsRow row.now next out.old.items out.new.items ends.old.items ends.new.items) }
+        ensures facts { IfOk result (λ next. BeginsTexts row.now next out.old.items out.new.items ends.old.items ends.new.items) }
         ensures fault { IfErr result (λ e. OrNoMemory row.now.header.table (Err e) (facts_of_row row.now)) }
         ensures front { IsPrefix out.old.items out.new.items × IsPrefix ends.old.items ends.new.items }
         ensures same { self.new ≡ self.old }
@@ -133,6 +134,10 @@ impl<'a> RowTexts<'a> {
         ends: &mut Vec<usize>,
     ) -> Result<Begun, AllocError>
         requires header { row.now.header ≡ self.old }
+        ensures front { IsPrefix out.old.items out.new.items × IsPrefix ends.old.items ends.new.items }
+        ensures whole { IfOk result (λ b. b ≡ Begun.Whole → BeginsTexts row.now None out.old.items out.new.items ends.old.items ends.new.items) }
+        ensures part { IfOk result (λ b. (next : ℕ) → b ≡ Begun.Part next → BeginsTexts row.now (Some next) out.old.items out.new.items ends.old.items ends.new.items) }
+        ensures same { self.new ≡ self.old }
     {
         let most = out.len().saturating_add(LONG);
         let Some(next) = self.fast.put_part(alloc, row, 0, most, out, ends)? else {
@@ -162,6 +167,11 @@ impl<'a> RowTexts<'a> {
         ends: &mut Vec<usize>,
     ) -> Result<Option<usize>, TableFault>
         requires header { row.now.header ≡ self.old }
+        requires from { from ≤ length (fact_columns_in row.now.header row.now.header.columns) }
+        ensures facts { IfOk result (λ o. WritesPart row.now from (unwrap_or o (length (fact_columns_in row.now.header row.now.header.columns))) out.old.items out.new.items ends.old.items ends.new.items) }
+        ensures fault { IfErr result (λ e. e ≡ file_fault row.now.header.table kind.Memory) }
+        ensures front { IsPrefix out.old.items out.new.items × IsPrefix ends.old.items ends.new.items }
+        ensures same { self.new ≡ self.old }
     {
         let most = out.len().saturating_add(LONG);
         match self.fast.put_part(alloc, row, from, most, out, ends) {

@@ -56,9 +56,11 @@ impl<'a, R: Read + Drop> Model for TextRows<'a, R> {
       given = a.given;
       left = option_map (stream_from a.header (a.given + 1) a.ids) a.records.left;
       unread = a.records.left;
+      rest = a.rest;
     } };
 
-    ghost invariant = { λ a. (a.texts ≡ a.header) × (a.no_ids ≡ []) × (a.given ≤ a.header.limit) × (a.header.limit < 2 ^ 32 - 1) };
+    ghost invariant = { λ a. (a.texts ≡ a.header) × (a.no_ids ≡ []) × (a.given ≤ a.header.limit) × (a.header.limit < 2 ^ 32 - 1)
+      × (IsSome a.rest → IsTextRecord a.records.fields) × IsRestOf (record { header = a.header; number = a.given; fields = a.records.fields }) a.rest };
 }
 
 impl<'a, R: Read + Drop> TextRows<'a, R> {
@@ -125,7 +127,8 @@ impl<R: Read + Drop> TextRows<'_, R> {
     /// Fails with the row's first fault, with Read if the reader failed, and with Memory if memory
     /// runs out. Then nothing is added.
     pub(crate) fn next_row(&mut self, facts: &mut PendingFacts) -> Result<bool, TableFault>
-        ensures next { IfSome self.old.left (λ s. AddsRow self.old.header.table s facts.old facts.new result self.new.left) }
+        requires closed { self.old.rest ≡ None }
+        ensures next { IfSome self.old.left (λ s. AddsRow self.old.header.table s facts.old (facts.new ++ facts_left self.new.rest) result self.new.left) }
         ensures header { self.new.header ≡ self.old.header }
         ensures counts { CountsRow self.old.header.limit result self.old.given self.new.given }
         ensures none { AddsNone result facts.old facts.new }
@@ -165,17 +168,25 @@ impl<R: Read + Drop> TextRows<'_, R> {
     }
 
     /// Returns whether facts of the last row are not written yet.
-    pub(crate) fn is_open(&self) -> bool {
+    pub(crate) fn is_open(&self) -> bool
+        ensures { result ≡ is_some (self.now).rest }
+    {
         self.rest.is_some()
     }
 
     /// Drops the facts of the last row that are not written yet.
-    pub(crate) fn close(&mut self) {
+    pub(crate) fn close(&mut self)
+        ensures { self.new ≡ record self.old { rest = None } }
+    {
         self.rest = None;
     }
 
     /// Adds more facts of the last row.
-    pub(crate) fn put_more(&mut self, facts: &mut PendingFacts) -> Result<(), TableFault> {
+    pub(crate) fn put_more(&mut self, facts: &mut PendingFacts) -> Result<(), TableFault>
+        ensures facts { OnOk result (facts.new ++ facts_left self.new.rest ≡ facts.old ++ facts_left self.old.rest) }
+        ensures fault { IfErr result (λ e. (e ≡ file_fault self.old.header.table kind.Memory) × (facts.new ≡ facts.old)) }
+        ensures same { self.new ≡ record self.old { rest = self.new.rest } }
+    {
         let Some(rest) = self.rest.take() else {
             return Ok(());
         };
