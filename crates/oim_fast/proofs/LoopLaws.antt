@@ -156,9 +156,12 @@ give_split x 0 cs part all p a = (all, ap (λ (q : List Fact). q ++ all) (sym p)
 give_split x (suc k) [] part all p a = ([], a ∙ sym (append-nil part ∙ p), refl)
 give_split x (suc k) (c ∷ cs) part all (o, more, is, same, given) (o', more', is', same', given') =
     let one : o ≡ o' = cc (is, is') in
-    let later = give_split x k cs more more' given given' in
-    (later.0, same' ∙ ap (λ (q : List Fact). option_to_list o' ++ q) later.1.0 ∙ sym (append_assoc (option_to_list o') more later.0)
-        ∙ ap (λ (q : List Fact). q ++ later.0) (ap (λ (q : Option Fact). option_to_list q ++ more) (sym one) ∙ sym same), later.1.1)
+    let later = give_split x k cs more more' given given' in (
+      later.0,
+      same' ∙ ap (λ (q : List Fact). option_to_list o' ++ q) later.1.0 ∙ sym (append_assoc (option_to_list o') more later.0)
+          ∙ ap (λ (q : List Fact). q ++ later.0) (ap (λ (q : Option Fact). option_to_list q ++ more) (sym one) ∙ sym same),
+      later.1.1,
+    )
 
 -- What both parts give is what all give.
 pub give_join : (x : RowValue) (k : ℕ) (cs : List ℕ) (part rest : List Fact) → GiveFacts x (take k cs) part → GiveFacts x (drop k cs) rest → GiveFacts x cs (part ++ rest)

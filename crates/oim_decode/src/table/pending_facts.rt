@@ -251,9 +251,18 @@ impl PendingFacts {
         count: usize,
     ) -> Option<RowRest> {
         let written = self.ends.len() - count;
-        self.facts = then(&self.facts, &Written { facts, count: written });
+        self.facts = then(
+            &self.facts,
+            &Written {
+                facts,
+                count: written,
+            },
+        );
         match next {
-            Some(next) => Some(RowRest { next, facts: rest(facts, written) }),
+            Some(next) => Some(RowRest {
+                next,
+                facts: rest(facts, written),
+            }),
             None => None,
         }
     }

@@ -60,7 +60,7 @@ impl<'a, R: Read + Drop> Model for TextRows<'a, R> {
     } };
 
     ghost invariant = { λ a. (a.texts ≡ a.header) × (a.no_ids ≡ []) × (a.given ≤ a.header.limit) × (a.header.limit < 2 ^ 32 - 1)
-      × (IsSome a.rest → IsTextRecord a.records.fields) × IsRestOf (record { header = a.header; number = a.given; fields = a.records.fields }) a.rest };
+        × (IsSome a.rest → IsTextRecord a.records.fields) × IsRestOf (record { header = a.header; number = a.given; fields = a.records.fields }) a.rest };
 }
 
 impl<'a, R: Read + Drop> TextRows<'a, R> {
