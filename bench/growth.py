@@ -5,8 +5,8 @@
 
 PROGRAM is the built program's file, PLAIN that of plain Rust (`plain`, here), if there is one. Each
 kind of report is made twice, of the size n and of 4 n, and grows in one direction only. Without a
-KIND all are taken, and `--list` names them. Both programs convert each report on one worker, and
-their documents of the smaller one must be the same JSON value.
+KIND all are taken, and `--list` names them. Both programs convert each report on one worker, or on
+as many as the kind says. Their documents of the smaller one must be the same JSON value.
 
 A line has the size n; then for both programs the processor seconds (user and system) at n and at
 4 n, the least of the rounds, and their quotient; then the program's seconds at 4 n as a multiple of
@@ -510,11 +510,26 @@ def waiting_rows(n: int) -> Report:
     return report({"count": counts()}, ["1"] * n, ["Long,typed"], dimensions={**LEVEL, "b:Long": "x" * 1_000})
 
 
+@kind(32_768, hostile=True, work=16, words=["--workers", "64"])
+def waiting_odd_rows(n: int) -> Report:
+    """A literal of n bytes in each of n / 32 facts, in rows of 11 bytes, on several workers."""
+    return report({"count": counts()}, ["1" * 10] * (n // 32), ["Long,typed"], dimensions={**LEVEL, "b:Long": "x" * n})
+
+
 @kind(50, hostile=True)
 def waiting_copies(n: int) -> Report:
     """A cell of 2,000 bytes in each of n rows, to which the row's 500 facts refer."""
     columns: dict[str, Any] = {"key": {}, **{c: counts(**{"b:Key": "$key"}) for c in names("c", 500)}}
     return report(columns, ["x" * 2_000 + "," + line(500)] * n)
+
+
+@kind(8_192, hostile=True, memory=60, words=["--workers", "64"])
+def group_tables(n: int) -> Report:
+    """n property groups in one column of n / 16 tables, which read one file, on several workers."""
+    groups = {g: {"dimensions": {"b:Key": g}} for g in names("g", n)}
+    columns: dict[str, Any] = {"group": {"propertyGroups": groups}, "count": {**counts(), "propertiesFrom": ["group"]}}
+    tables = {t: {"url": "t.csv", "template": "p"} for t in names("t", n // 16 - 1)}
+    return report(columns, [f"{g},1" for g in names("g", 2)], tables=tables)
 
 
 @kind(200, hostile=True, work=16)
@@ -645,6 +660,11 @@ def missed(mine: list[Optional[float]], plain: list[Optional[float]], hostile: b
     return ", ".join(name for name, is_missed in [("growth", grows), ("plain", behind)] if is_missed)
 
 
+def by_workers(count: str, more: list[str]) -> list[str]:
+    """The further arguments, with this count of workers if they have none."""
+    return more if "--workers" in more else ["--workers", count, *more]
+
+
 def measured(name: str, programs: list[str], folder: Path, options: argparse.Namespace) -> str:
     """A kind's line."""
     make, n, hostile, status, work, times, more = KINDS[name]
@@ -656,7 +676,7 @@ def measured(name: str, programs: list[str], folder: Path, options: argparse.Nam
     if options.fault:
         more = ["--explain", "--faults", "faults"]
     more = [str(folder / word) if word == "faults" else word for word in more]
-    sizes = [[*it, "--workers", "1", *more] for it in written]
+    sizes = [[*it, *by_workers("1", more)] for it in written]
     taken = least([[program, *words] for program in programs for words in sizes], options.runs, options.limit, wanted)
     mine, plain = taken[:2], taken[2:]
     if mine[0] is not None and wanted == 0 and not same(programs, sizes[0]):
@@ -667,7 +687,7 @@ def measured(name: str, programs: list[str], folder: Path, options: argparse.Nam
     cells += [f"{mine[1] / plain[1]:.2f}" if plain and mine[1] is not None and plain[1] else ""] if plain else []
     misses = [missed(mine, plain, hostile, work)]
     if options.hostile:
-        megabytes = peak([programs[0], *written[1], "--workers", "4", *more], wanted)
+        megabytes = peak([programs[0], *written[1], *by_workers("4", more)], wanted)
         bound = 64 + times * (folder / "1/meta.json").stat().st_size / 1e6
         cells.append(f"{megabytes:.0f} of {bound:.0f}")
         misses += ["memory"] if megabytes > bound else []

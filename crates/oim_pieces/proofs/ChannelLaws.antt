@@ -1,5 +1,5 @@
 -- The channels of pieces, and the queue of a table.
-use Rattle.std.proofs.Common.{◌≡◌, ◌+◌, ◌≤◌, ◌<◌, ℕ, List, length, Option, Some, None, IfSome, IsSome, refl, sym, ap, subst, ◌∙◌, arith}
+use Rattle.std.proofs.Common.{◌≡◌, ◌+◌, ◌≤◌, ℕ, List, length, Option, Some, None, IfSome, IsSome, refl, sym, ap, subst, ◌∙◌, arith}
 use Rattle.csv.specs.declared.parser.State.TheVariants as state
 use Rattle.oim_records.specs.Grids.{Record, records_left}
 use Rattle.oim_rows.specs.RowFacts.{TableHeaderValue}
@@ -7,10 +7,10 @@ use Rattle.oim_decode.specs.Apart.{Apart}
 use Rattle.oim_decode.specs.PieceAnswers.{refused}
 use Rattle.oim_decode.proofs.HeadLaws.{refused_decoded}
 use Rattle.oim_pieces.specs.state.PiecesUnderWay.{IsPieceAnswer}
-use Rattle.oim_pieces.specs.state.Channels.{FitsPiece, IsAnswerIn, IsLine, IsOf, IsPiece, IsReadBy}
+use Rattle.oim_pieces.specs.state.Channels.{FitsPiece, IsAnswerIn, IsLine, IsOf, IsReadBy}
 use Rattle.oim_pieces.specs.declared.decoded.Asked.{Asked}
 use Rattle.oim_pieces.specs.declared.in_channel.PieceToDecode.{PieceToDecode}
-use Rattle.oim_pieces.specs.declared.in_channel.InChannel.TheVariants.{ToDecode, Decoded}
+use Rattle.oim_pieces.specs.declared.in_channel.InChannel.TheVariants.{ToDecode}
 use Rattle.oim_pieces.proofs.UnderWayLaws.{answer_same}
 
 -- THE CHANNEL OF A PIECE

@@ -1,9 +1,9 @@
 -- Examples of the rules for pieces under way (`specs/Flights.antt`, `specs/state`).
-use Rattle.std.proofs.Common.{◌≡◌, ◌∷◌, ◌+◌, ◌≤◌, [], ℕ, List, Option, Some, None, Result, Ok, Err, ap, arith, codes, length, refl, true, inl, inr}
+use Rattle.std.proofs.Common.{◌≡◌, ◌∷◌, ◌+◌, ◌≤◌, [], ℕ, List, Some, None, ap, arith, codes, length, refl, true, inl, inr}
 use Rattle.std.specs.Str.{chars, is_utf8}
 use Rattle.csv.specs.Records.{field_at}
 use Rattle.oim_names.specs.Names.{is_ncname, is_name_char, is_name_start, is_plain_char, is_row_identifier}
-use Rattle.oim_records.specs.Grids.{Record}
+use Rattle.oim_records.specs.Grids.{Field, Record}
 use Rattle.oim_report.specs.Readers.{no_level}
 use Rattle.oim_report.specs.ReportValue.{ReportValue}
 use Rattle.oim_report.specs.declared.data.ColumnKind.TheVariants as content
@@ -14,9 +14,9 @@ use Rattle.oim_rows.specs.declared.fault.TableFault.{TableFault}
 use Rattle.oim_rows.specs.declared.fault.TableKind.TheVariants as kind
 use Rattle.oim_decode.specs.Apart.{Apart, apart_from}
 use Rattle.oim_pieces.specs.state.ComingAnswers.{Comes}
-use Rattle.oim_pieces.specs.state.Cutting.{IsOver, TakesRows, left_over}
+use Rattle.oim_pieces.specs.state.Cutting.{CutterLeft, HasAtLeast, IsOver, TakesRows, left_over}
 use Rattle.oim_pieces.specs.PiecesLeft.{FewerSteps, GivesBlocks, steps_for, steps_left}
-use Rattle.oim_pieces.specs.state.PiecesUnderWay.{AreChained, PieceRowsLeft, GivesJoined, IsEndOfTable, IsFront, IsPieceAnswer, KeepsStream, NoMoreSteps, ReadsJoined, fault_or_left, first_row_of, rows_in, rows_left, steps_in, stream_in}
+use Rattle.oim_pieces.specs.state.PiecesUnderWay.{AreChained, PieceRowsLeft, GivesJoined, IsEndOfTable, IsFront, IsPieceAnswer, KeepsStream, NoMoreSteps, ReadsJoined, fault_or_left, first_row_of, head_pieces, next_row, rows_in, rows_left, steps_in, stream_in}
 use Rattle.oim_pieces.specs.declared.decoded.Asked.{Asked}
 use Rattle.oim_pieces.specs.declared.piece_under_way.ComingAnswer.TheVariants.{Here, Awaited}
 
@@ -65,6 +65,13 @@ piece_cut = refl
 piece_cut_wrong : (TakesRows (Some (a ∷ b ∷ [])) (b ∷ []) (Some (a ∷ [])) → ⊥) × (TakesRows (Some (a ∷ b ∷ [])) (a ∷ []) (Some []) → ⊥) × (TakesRows (Some (a ∷ [])) (a ∷ []) None → ⊥)
 piece_cut_wrong = (λ h. absurd (cc h), λ h. absurd (cc h), λ h. h)
 
+-- `HasAtLeast`: three bytes were left, and one blank line was passed over before a piece of one.
+bytes_left_over : HasAtLeast (Some (codes "kkk")) (codes "k") (Some (codes "k")) × HasAtLeast (Some (codes "kkk")) [] (Some (codes "kkk")) × HasAtLeast None (codes "k") None
+bytes_left_over = (omega arith, omega arith, tt)
+
+bytes_left_over_wrong : (HasAtLeast (Some (codes "kk")) (codes "kk") (Some (codes "k")) → ⊥) × (HasAtLeast (Some (codes "kk")) (codes "k") None → ⊥)
+bytes_left_over_wrong = (λ h. absurd (omega (arith, h)), λ h. h)
+
 -- DECODERS AND ANSWERS
 abbrev ids_of : List (List ℕ) → Apart
 ids_of [] = record { rows = []; ids = []; fault = None }
@@ -85,13 +92,21 @@ abbrev second : PieceRowsLeft
 second = record { header = header; first = 6; rows = c ∷ [] }
 
 chained : AreChained header (front ∷ second ∷ []) 7
-chained = (refl, refl, (refl, refl, tt))
+chained = (refl, omega arith, refl, (refl, omega arith, refl, tt))
 
 not_chained : (AreChained header (front ∷ second ∷ []) 8 → ⊥) × (AreChained header (second ∷ front ∷ []) 7 → ⊥) × (AreChained (limited 8) (front ∷ []) 6 → ⊥)
-not_chained = (λ h. absurd (omega (arith, h.2.1)), λ h. absurd (omega (arith, h.1)), λ h. let limits : 9 ≡ 8 = ap (λ (g : TableHeaderValue). g.limit) h.0 in absurd (omega (arith, limits)))
+not_chained = (λ h. absurd (omega (arith, h.3.2)), λ h. absurd (omega (arith, h.2)), λ h. let limits : 9 ≡ 8 = ap (λ (g : TableHeaderValue). g.limit) h.0 in absurd (omega (arith, limits)))
 
 in_order : (first_row_of (front ∷ second ∷ []) 7 ≡ 4) × (first_row_of [] 7 ≡ 7) × (rows_in (front ∷ second ∷ []) ≡ a ∷ b ∷ c ∷ [])
 in_order = (refl, refl, refl)
+
+-- A piece without a row does not go on.
+empty_piece : AreChained header (record { header = header; first = 4; rows = [] } ∷ []) 4 → ⊥
+empty_piece h = absurd (omega (arith, h.1))
+
+-- `head_pieces`: the rows after the header are the first piece, if there are any.
+rows_of_the_head : (head_pieces header (a ∷ b ∷ []) ≡ record { header = header; first = 1; rows = a ∷ b ∷ [] } ∷ []) × (head_pieces header [] ≡ [])
+rows_of_the_head = (refl, refl)
 
 -- `rows_left`: the pieces' rows and then those after them. In the first case row 7 repeats the
 -- identifier of `a`; in the second an earlier row has that of `c`.
@@ -100,6 +115,11 @@ whole_stream : (rows_left header [] (front ∷ second ∷ []) 7 (Some (a ∷ [])
     × (rows_left header [] (front ∷ []) 6 None ≡ None)
 unfolding stream_from chars is_row_identifier is_plain_char is_ncname is_name_char is_name_start field_at is_utf8 lib.Utf8.encode
 whole_stream = (refl, refl, refl)
+
+-- `next_row`: that of the first piece, else that of the next one to cut.
+next_to_give : (ids : List Field) (left : CutterLeft) → (next_row (record { header = header; ids = ids; pieces = front ∷ second ∷ []; cutter = left }) ≡ 4)
+    × (next_row (record { header = header; ids = ids; pieces = []; cutter = left }) ≡ left.next)
+next_to_give ids left = (refl, refl)
 
 stream_of_the_cutter : stream_in (record { header = limited 6; ids = []; pieces = []; cutter = record { table = 0; limit = 6; next = 6; left = Some (a ∷ b ∷ []); over = None; unread = None } })
     ≡ Some (record { rows = [] ∷ []; fault = Some (fault_at 0 7 0 kind.TooManyRows) })
@@ -139,7 +159,7 @@ three_and_two : (steps_for 2 (Some (codes "kkk")) ≡ Some 5) × (steps_for 2 No
     × (steps_in (record { header = header; ids = []; pieces = front ∷ []; cutter = record { table = 0; limit = 6; next = 6; left = None; over = None; unread = Some (codes "kkk") } }) ≡ Some 4)
 three_and_two = (refl, refl, refl)
 
-steps_of_what_is_left : steps_left (record { table = 0; left = None; answered = None; under_way = 2; unread = Some (codes "kkk") }) ≡ Some 5
+steps_of_what_is_left : steps_left (record { table = 0; limit = 6; next = 4; left = None; answered = None; under_way = 2; unread = Some (codes "kkk") }) ≡ Some 5
 steps_of_what_is_left = refl
 
 no_more : NoMoreSteps (Some 3) (Some 3) × NoMoreSteps None (Some 3) × (NoMoreSteps (Some 3) (Some 4) → ⊥) × (NoMoreSteps (Some 3) None → ⊥)

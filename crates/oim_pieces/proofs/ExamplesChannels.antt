@@ -1,6 +1,5 @@
 -- Examples of the rules for a piece's channel and for a table's queue (`specs/state/Sheets.antt`).
-use Rattle.std.proofs.Common.{◌≡◌, [], ◌∷◌, Some, None, refl}
-use Rattle.oim_rows.specs.RowFacts.{TableHeaderValue}
+use Rattle.std.proofs.Common.{◌≡◌, Some, None, refl}
 use Rattle.oim_pieces.specs.state.Channels.{IsLine, IsReadBy, asked_in}
 use Rattle.oim_pieces.specs.declared.decoded.Asked.{Asked}
 use Rattle.oim_pieces.specs.declared.in_channel.PieceToDecode.{PieceToDecode}

@@ -1,5 +1,5 @@
 -- What a call gives of the stream that is left.
-use Rattle.std.proofs.Common.{◌≡◌, ◌⊎◌, ◌++◌, ℕ, List, [], Option, Some, None, IfSome, IfNone, IfOk, IfErr, IsSome, Result, Ok, Err, refl, sym, ap, subst, ◌∙◌, append-nil, inl, inr}
+use Rattle.std.proofs.Common.{◌≡◌, ◌⊎◌, ◌+◌, ◌≤◌, ◌<◌, ℕ, List, [], Option, Some, None, IfSome, IfNone, IfOk, IfErr, IsSome, Result, Ok, Err, refl, sym, ap, subst, ◌∙◌, append-nil, arith, inl, inr}
 use Rattle.oim_resolve.specs.FactParts.{FactParts as Fact}
 use Rattle.oim_rows.specs.Header.{file_fault}
 use Rattle.oim_rows.specs.Streams.{IsOutside, Stream, answer_of, ending, facts_of_rows}
@@ -36,6 +36,18 @@ moved (Ok (Some v)) answered before under now unread left fewer (inr same) =
     inr (subst (λ n. FewerSteps before (steps_for n left)) (sym same.0) (subst (λ l. FewerSteps before (steps_for under l)) (sym same.1) fewer))
 moved (Ok None) answered before under now unread left fewer so = tt
 moved (Err e) answered before under now unread left fewer so = tt
+
+-- A piece was joined, which has a row at least and none past the limit.
+pub counted : {A : Type 0} (r : Result (Option A) TableFault) (answered : Option (Option TableFault)) (fault : Option TableFault) (before ahead after now limit behind last : ℕ)
+    → ahead ≡ before → ahead < after → (fault ≡ None → after ≤ limit + 1) → behind ≡ limit → last ≡ behind → IsSome answered ⊎ ((fault ≡ None) × (now ≡ after))
+    → IfOk r (λ o. IfSome o (λ _. IsSome answered ⊎ ((before < now) × (now ≤ last + 1))))
+counted (Ok (Some v)) answered fault before ahead after now limit behind last cut more few same kept (inl settled) = inl settled
+counted (Ok (Some v)) answered fault before ahead after now limit behind last cut more few same kept (inr going) =
+    let within = few going.0 in
+    let at = going.1 in
+    inr (omega (arith, cut, more, at), omega (arith, within, at, same, kept))
+counted (Ok None) answered fault before ahead after now limit behind last cut more few same kept so = tt
+counted (Err e) answered fault before ahead after now limit behind last cut more few same kept so = tt
 
 module _ (table : ℕ) where
   -- The same end or fault is answered again.

@@ -1,8 +1,7 @@
 -- How many steps of a table are left.
-use Rattle.std.proofs.Common.{◌≡◌, ◌++◌, ◌+◌, ◌≤◌, ◌<◌, ℕ, suc, List, [], ◌∷◌, length, Option, Some, None, ap, sym, subst, ◌∙◌, arith, length-append}
-use Rattle.std.specs.Io.KnownBytes.{Keeps}
-use Rattle.oim_records.specs.PieceTaking.{TakesBytes}
+use Rattle.std.proofs.Common.{◌≡◌, ◌++◌, ◌+◌, ◌≤◌, ℕ, List, [], ◌∷◌, length, Option, Some, None, sym, subst, arith, length-append}
 use Rattle.oim_pieces.specs.PiecesLeft.{FewerSteps, steps_for}
+use Rattle.oim_pieces.specs.state.Cutting.{HasAtLeast}
 use Rattle.oim_pieces.specs.state.PiecesUnderWay.{PieceRowsLeft, NoMoreSteps}
 
 pub steps_same : (o : Option ℕ) → NoMoreSteps o o
@@ -16,20 +15,19 @@ steps_then (Some n) (Some m) None ab bc = absurd bc
 steps_then (Some n) (Some m) (Some k) ab bc = omega (arith, ab, bc)
 
 -- One more piece, of at least one byte, is cut and under way.
-pub steps_cut : (fs : List PieceRowsLeft) (f : PieceRowsLeft) (old new : Option (List ℕ)) (piece : List ℕ) → 1 ≤ length piece → TakesBytes old piece new
+pub steps_cut : (fs : List PieceRowsLeft) (f : PieceRowsLeft) (old new : Option (List ℕ)) (piece : List ℕ) → 1 ≤ length piece → HasAtLeast old piece new
     → NoMoreSteps (steps_for (length fs) old) (steps_for (length (fs ++ f ∷ [])) new)
 steps_cut fs f None new piece some takes = tt
 steps_cut fs f (Some xs) None piece some takes = absurd takes
 steps_cut fs f (Some xs) (Some ys) piece some takes =
-    let bytes : length xs ≡ length piece + length ys = ap (λ (l : List ℕ). length l) takes.0 ∙ length-append piece ys in
     let pieces : length (fs ++ f ∷ []) ≡ length fs + 1 = length-append fs (f ∷ []) in
-    omega (arith, some, bytes, pieces)
+    omega (arith, some, takes, pieces)
 
 -- No piece is cut.
-pub steps_kept : (pieces : ℕ) (old new : Option (List ℕ)) → Keeps old new → NoMoreSteps (steps_for pieces old) (steps_for pieces new)
+pub steps_kept : (pieces : ℕ) (old new : Option (List ℕ)) → HasAtLeast old [] new → NoMoreSteps (steps_for pieces old) (steps_for pieces new)
 steps_kept pieces None new kept = tt
 steps_kept pieces (Some xs) None kept = absurd kept
-steps_kept pieces (Some xs) (Some ys) kept = let same : length ys ≡ length xs = ap (λ (l : List ℕ). length l) kept in omega (arith, same)
+steps_kept pieces (Some xs) (Some ys) kept = omega (arith, kept)
 
 -- The first piece is joined.
 pub steps_front : (f : PieceRowsLeft) (fs : List PieceRowsLeft) (unread : Option (List ℕ)) → FewerSteps (steps_for (length (f ∷ fs)) unread) (steps_for (length fs) unread)

@@ -1,5 +1,5 @@
 -- The pieces under way, and the stream that is left with them.
-use Rattle.std.proofs.Common.{◌≡◌, ◌++◌, ◌+◌, ◌≤◌, ℕ, suc, List, [], ◌∷◌, length, Bool, true, false, if◌then◌else◌, Option, Some, None, IfSome, refl, sym, ap, subst, ◌∙◌, append-nil, append_assoc, arith}
+use Rattle.std.proofs.Common.{◌≡◌, ◌++◌, ◌+◌, ◌≤◌, ◌<◌, ℕ, suc, List, [], ◌∷◌, length, Bool, true, false, if◌then◌else◌, Option, Some, None, IfSome, Result, Ok, Err, inl, inr, refl, sym, ap, subst, ◌∙◌, append-nil, append_assoc, arith}
 use Rattle.std.proofs.lemmas.Grind.{flat_map-append}
 use Rattle.csv.specs.Machine.{ends_at_end, is_end, step}
 use Rattle.csv.specs.Reading.{default_config}
@@ -9,15 +9,17 @@ use Rattle.oim_records.specs.Cuts.{ended, state_after}
 use Rattle.oim_records.specs.Grids.{Field, Record, records_left}
 use Rattle.oim_records.specs.Reads.{KeepsLeft}
 use Rattle.oim_records.proofs.RecordLaws.{left-count}
-use Rattle.oim_rows.specs.RowFacts.{TableHeaderValue}
+use Rattle.oim_resolve.specs.FactParts.{FactParts as Fact}
+use Rattle.oim_rows.specs.RowFacts.{TableHeaderValue, facts_from, id_place_of, row_fault, row_of}
 use Rattle.oim_rows.specs.Streams.{Stream, ending, stream_from}
 use Rattle.oim_rows.specs.declared.fault.TableFault.{TableFault}
-use Rattle.oim_decode.specs.Apart.{Apart}
+use Rattle.oim_decode.specs.Apart.{Apart, apart_from, apart_row, cut_at, id_in, repeated_from}
 use Rattle.oim_decode.specs.Blocks.{ReadsRows}
 use Rattle.oim_decode.specs.PieceAnswers.{IsJoined, IsPieceDecoded, fault_or_next}
 use Rattle.oim_decode.proofs.JoinLaws.{piece_is_read}
+use Rattle.oim_decode.proofs.PieceSteps.{within_limit}
 use Rattle.oim_pieces.specs.state.Cutting.{CutterLeft, IsOver, TakesRows}
-use Rattle.oim_pieces.specs.state.PiecesUnderWay.{AreChained, UnderWayLeft, PieceRowsLeft, IsEndOfTable, IsFront, IsPieceAnswer, KeepsStream, ReadsJoined, fault_or_left, first_row_of, rows_in, rows_left, stream_in}
+use Rattle.oim_pieces.specs.state.PiecesUnderWay.{AreChained, UnderWayLeft, PieceRowsLeft, IsEndOfTable, IsFront, IsPieceAnswer, KeepsStream, ReadsJoined, fault_or_left, first_row_of, next_row, rows_in, rows_left, stream_in}
 
 -- COUNTS
 
@@ -40,14 +42,15 @@ rows_few xs = by (ends_at_end (state_after state.StartRecord xs)) (left-count st
 
 -- ONE MORE PIECE
 
-first-more : (fs : List PieceRowsLeft) (f : PieceRowsLeft) (next next' : ℕ) → f.first ≡ next → first_row_of (fs ++ f ∷ []) next' ≡ first_row_of fs next
-first-more [] f next next' at = at
-first-more (x ∷ fs) f next next' at = refl
+pub next_more : (fs : List PieceRowsLeft) (f : PieceRowsLeft) (next next' : ℕ) → f.first ≡ next → first_row_of (fs ++ f ∷ []) next' ≡ first_row_of fs next
+next_more [] f next next' at = at
+next_more (x ∷ fs) f next next' at = refl
 
 pub chained_more : (g : TableHeaderValue) (fs : List PieceRowsLeft) (f : PieceRowsLeft) (next next' : ℕ) → AreChained g fs next → f.header ≡ g → f.first ≡ next
-    → f.first + length f.rows ≡ next' → AreChained g (fs ++ f ∷ []) next'
-chained_more g [] f next next' chain reads at more = (reads, more, tt)
-chained_more g (x ∷ fs) f next next' chain reads at more = (chain.0, chain.1 ∙ sym (first-more fs f next next' at), chained_more g fs f next next' chain.2 reads at more)
+    → 1 ≤ length f.rows → f.first + length f.rows ≡ next' → AreChained g (fs ++ f ∷ []) next'
+chained_more g [] f next next' chain reads at some more = (reads, some, more, tt)
+chained_more g (x ∷ fs) f next next' chain reads at some more =
+    (chain.0, chain.1, chain.2 ∙ sym (next_more fs f next next' at), chained_more g fs f next next' chain.3 reads at some more)
 
 rows-more : (fs : List PieceRowsLeft) (f : PieceRowsLeft) → rows_in (fs ++ f ∷ []) ≡ rows_in fs ++ f.rows
 rows-more fs f = flat_map-append (λ (x : PieceRowsLeft). x.rows) fs (f ∷ []) ∙ ap (λ t. rows_in fs ++ t) (append-nil f.rows)
@@ -60,7 +63,7 @@ module _ (g : TableHeaderValue) (ids : List Field) (fs : List PieceRowsLeft) whe
   stream_more f next next' (Some records) (Some rest) at takes =
       let all : rows_in (fs ++ f ∷ []) ++ rest ≡ rows_in fs ++ records =
       ap (λ t. t ++ rest) (rows-more fs f) ∙ append_assoc (rows_in fs) f.rows rest ∙ ap (λ t. rows_in fs ++ t) (sym takes) in
-      ap (λ n. some (stream_from g n ids (rows_in (fs ++ f ∷ []) ++ rest))) (first-more fs f next next' at) ∙ ap (λ t. some (stream_from g (first_row_of fs next) ids t)) all
+      ap (λ n. some (stream_from g n ids (rows_in (fs ++ f ∷ []) ++ rest))) (next_more fs f next next' at) ∙ ap (λ t. some (stream_from g (first_row_of fs next) ids t)) all
     where
       some : Stream → Option Stream
       some s = Some s
@@ -83,6 +86,55 @@ stream_then (Some s) b c ab bc = subst (λ o. KeepsStream o c) ab bc
 
 -- THE FIRST PIECE
 
+-- Rows that are decoded without a fault are within the limit.
+rows-within : (g : TableHeaderValue) (n : ℕ) (rows : List Record) → (apart_from g n rows).fault ≡ None → 1 ≤ length rows → n + length rows ≤ g.limit + 1
+unfolding apart_from
+rows-within g n [] none some = absurd (omega (arith, some))
+rows-within g n (r ∷ rows) none some = by (row_fault g n [] r) refl (facts_from g.report g.table (row_of g n r) 0 g.columns) (rows-within g (n + 1) rows) none
+  where
+    behind : (rs : List Record) → (1 ≤ length rs → (n + 1) + length rs ≤ g.limit + 1) → n ≤ g.limit → n + length (r ∷ rs) ≤ g.limit + 1
+    behind [] more within = omega (arith, within)
+    behind (x ∷ rs) more within = let fits = more (omega arith) in omega (arith, fits)
+
+    by : (own : Option TableFault) → row_fault g n [] r ≡ own → (facts : Result (List Fact) TableFault)
+        → ((apart_from g (n + 1) rows).fault ≡ None → 1 ≤ length rows → (n + 1) + length rows ≤ g.limit + 1)
+        → (apart_row own facts (id_in (id_place_of g) r) (apart_from g (n + 1) rows)).fault ≡ None → n + length (r ∷ rows) ≤ g.limit + 1
+    by (Some e) is facts more fine = cc fine
+    by None is (Err e) more fine = cc fine
+    by None is (Ok facts) more fine = behind rows (more fine) (within_limit g n [] r is)
+
+-- A joined piece without a fault was decoded without one.
+joined-fine : (g : TableHeaderValue) (n : ℕ) (before : List Field) (a : Apart) (s : Stream) → IsJoined g n before a s → s.fault ≡ None → a.fault ≡ None
+joined-fine g n before a s (inl is) none = by (repeated_from 0 before a.ids) (ap (λ (t : Stream). t.fault) (sym is) ∙ none)
+  where
+    by : (o : Option ℕ) → (cut_at g n o a).fault ≡ None → a.fault ≡ None
+    by None fine = fine
+    by (Some k) fine = cc fine
+joined-fine g n before a s (inr is) none = cc (ap (λ (t : Stream). t.fault) (sym is) ∙ none)
+
+decoded-fine : (g : TableHeaderValue) (n : ℕ) (rows : List Record) (a : Apart) → IsPieceDecoded g n rows a → a.fault ≡ None → (apart_from g n rows).fault ≡ None
+decoded-fine g n rows a (inl is) none = ap (λ (x : Apart). x.fault) (sym is) ∙ none
+decoded-fine g n rows a (inr short) none = cc (ap (λ (x : Apart). x.fault) (sym short.is) ∙ none)
+
+module _ (old : UnderWayLeft) (g : TableHeaderValue) (ids : List Field) (all fs : List PieceRowsLeft) (f : PieceRowsLeft) (cutter : CutterLeft) where
+  -- The first piece has a row.
+  pub next_joined : record { header = g; ids = ids; pieces = all; cutter = cutter } ≡ old → all ≡ f ∷ fs → AreChained g all cutter.next → next_row old < first_row_of fs cutter.next
+  next_joined view is chain = by (subst (λ l. AreChained g l cutter.next) is chain) (ap next_row (sym view) ∙ ap (λ l. first_row_of l cutter.next) is)
+    where
+      by : AreChained g (f ∷ fs) cutter.next → next_row old ≡ f.first → next_row old < first_row_of fs cutter.next
+      by linked at = let some = linked.1 in let sum = linked.2 in omega (arith, some, sum, at)
+
+  -- Without a fault its rows are within the limit.
+  pub few_joined : (ids' : List Field) (s : Stream) → record { header = g; ids = ids; pieces = all; cutter = cutter } ≡ old → all ≡ f ∷ fs → AreChained g all cutter.next
+      → g.limit ≡ cutter.limit → IsFront f ids s ids' → s.fault ≡ None → first_row_of fs cutter.next ≤ old.cutter.limit + 1
+  few_joined ids' s view is chain limits front none =
+      let linked = subst (λ l. AreChained g l cutter.next) is chain in
+      let fine = decoded-fine f.header f.first f.rows front.answer front.decoded (joined-fine f.header f.first ids front.answer s front.joined none) in
+      let within = rows-within f.header f.first f.rows fine linked.1 in
+      let limit : f.header.limit ≡ old.cutter.limit = ap (λ (h : TableHeaderValue). h.limit) linked.0 ∙ limits ∙ ap (λ (v : UnderWayLeft). v.cutter.limit) view in
+      let sum = linked.2 in
+      omega (arith, within, limit, sum)
+
 next-behind : (g : TableHeaderValue) (ids ids' : List Field) (n m : ℕ) (o : Option TableFault) (rest : List Record) → n ≡ m → (o ≡ None → ids ≡ ids')
     → Some (fault_or_next o (stream_from g n ids rest)) ≡ fault_or_left o (Some (stream_from g m ids' rest))
 next-behind g ids ids' n m None rest at same = ap (λ k. some (stream_from g k ids rest)) at ∙ ap (λ l. some (stream_from g m l rest)) (same refl)
@@ -100,7 +152,7 @@ front_read g ids ids' f fs next (Some rest) s chain front =
     let decoded : IsPieceDecoded g f.first f.rows a = subst (λ (x : TableHeaderValue). IsPieceDecoded x f.first f.rows a) chain.0 front.decoded in
     let joined : IsJoined g f.first ids a s = subst (λ (x : TableHeaderValue). IsJoined x f.first ids a s) chain.0 front.joined in
     let read = piece_is_read g f.first ids f.rows (rows_in fs ++ rest) a s decoded joined in
-    let left = next-behind g (ids ++ a.ids) ids' (f.first + length f.rows) (first_row_of fs next) s.fault (rows_in fs ++ rest) chain.1 (λ none. sym (front.behind none)) in
+    let left = next-behind g (ids ++ a.ids) ids' (f.first + length f.rows) (first_row_of fs next) s.fault (rows_in fs ++ rest) chain.2 (λ none. sym (front.behind none)) in
     subst (λ (t : List Record). ReadsJoined g.table (stream_from g f.first ids t) s (Some (stream_from g (first_row_of fs next) ids' (rows_in fs ++ rest))))
     (sym (append_assoc f.rows (rows_in fs) rest))
     (subst (λ o. ReadsRows g.table (stream_from g f.first ids (f.rows ++ (rows_in fs ++ rest))) s.rows o) left read)

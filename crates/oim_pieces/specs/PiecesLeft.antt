@@ -1,15 +1,18 @@
 -- What is left of a table that is read in pieces, and how many steps that takes at most.
-use Rattle.std.specs.Prelude.{◌≡◌, ◌+◌, ◌<◌, ⊤, ℕ, List, [], length, Option, Some, None, option_map, Result, Ok, Err}
+use Rattle.std.specs.Prelude.{◌+◌, ◌<◌, ⊤, ℕ, List, [], length, Option, Some, None, option_map, Ok}
 use Rattle.oim_resolve.specs.FactParts.{FactParts as Fact}
 use Rattle.oim_rows.specs.Streams.{Stream, facts_of_rows}
 use Rattle.oim_rows.specs.declared.fault.TableFault.{TableFault}
 use Rattle.oim_decode.specs.Blocks.{GivesBlock}
 
--- What is left of a table. `left` is the stream, if it is known. `answered` is the end or the fault
--- that each further call answers, once it was found. `under_way` counts the pieces that are cut and
--- not joined. `unread` are the bytes after them, if they are known.
+-- What is left of a table. `limit` is the most rows that it may have, and `next` the number of the
+-- next row to give. `left` is the stream, if it is known. `answered` is the end or the fault that
+-- each further call answers, once it was found. `under_way` counts the pieces that are cut and not
+-- joined. `unread` are the bytes after them, if they are known.
 pub record PiecesLeft : Type 0 where
   pub table : ℕ
+  pub limit : ℕ
+  pub next : ℕ
   pub left : Option Stream
   pub answered : Option (Option TableFault)
   pub under_way : ℕ

@@ -1,15 +1,15 @@
 //! Cutting a table's file into pieces.
 
-ghost use Rattle.std.specs.Prelude.{◌≡◌, ◌≤◌, ◌+◌, [], IfNone, IfSome, IsSome, None, OnSome, length};
-ghost use Rattle.std.specs.Io.KnownBytes.{Keeps};
+ghost use Rattle.std.specs.Prelude.{◌≡◌, ◌≤◌, ◌+◌, [], IfNone, IfOk, IfSome, IsSome, None, OnErr, OnSome, Some, length};
 ghost use Rattle.csv.specs.declared.parser.State.TheVariants as state;
 ghost use Rattle.oim_records.specs.Grids.{records_left};
-ghost use Rattle.oim_records.specs.PieceTaking.{TakesBytes, bytes_left};
+ghost use Rattle.oim_records.specs.PieceTaking.{bytes_left};
 ghost use Rattle.oim_records.specs.Reads.{KeepsLeft, left_behind};
-ghost use Rattle.oim_pieces.specs.state.Cutting.{IsOver, TakesRows};
+ghost use Rattle.oim_pieces.specs.state.Cutting.{HasAtLeast, IsOver, TakesRows};
 
+use crate::growth_looks::KnownGrowth;
 use crate::text_growth::{TextGrowth, has_memory};
-use oim_records::{FilePiece, PieceReader};
+use oim_records::{FilePiece, PieceReader, ReadFault};
 use oim_rows::{TableFault, TableKind, fault_of_read, whole_fault};
 use std::io::Read;
 use std::marker::Model;
@@ -53,10 +53,10 @@ pub(crate) struct Cutter<R: Read + Drop> {
     limit: u32,
     next: u64,
     over: Option<Option<TableFault>>,
-    // How many bytes a piece should have.
+    // How many bytes a piece should have if the table's facts are not long.
     size: usize,
     // How much longer than its rows the table's facts can be.
-    growth: TextGrowth,
+    growth: Option<KnownGrowth>,
     // How many bytes the metadata adds to the longest of the last pieces.
     longest: usize,
     // Whether the last piece or the last read was short, as at the end of a file, or with a reader
@@ -101,6 +101,34 @@ impl<R: Read + Drop> Model for Cutter<R> {
     ghost invariant = { λ a. (a.limit ≤ 4294967294) × IfSome a.over (IsOver a.table (left_over a.over (left_behind [] a.pieces))) };
 }
 
+/// Returns the next piece that has a record, of about `size` bytes, or `None` at the end of the
+/// file. Passes over pieces of blank lines.
+#[tactic(auto, using(crate::proofs::CutLaws::left_same, crate::proofs::CutLaws::rows_passed, crate::proofs::CutLaws::rows_taken, crate::proofs::CutLaws::rows_ended, crate::proofs::CutLaws::rows_failed, crate::proofs::CutLaws::least_same, crate::proofs::CutLaws::least_passed, crate::proofs::CutLaws::least_taken, crate::proofs::CutLaws::least_failed))]
+fn next_with_rows<R: Read + Drop>(
+    pieces: &mut PieceReader<R>,
+    size: usize,
+) -> Result<Option<FilePiece>, ReadFault>
+    ensures rows { IfOk result (λ o. IfSome o (λ piece. TakesRows (left_behind [] pieces.old) (records_left state.StartRecord piece.bytes.items) (left_behind [] pieces.new))) }
+    ensures records { IfOk result (λ o. IfSome o (λ piece. piece.records ≡ length (records_left state.StartRecord piece.bytes.items))) }
+    ensures some { IfOk result (λ o. IfSome o (λ piece. 1 ≤ length (records_left state.StartRecord piece.bytes.items))) }
+    ensures bytes { IfOk result (λ o. IfSome o (λ piece. (1 ≤ length piece.bytes.items) × HasAtLeast (bytes_left pieces.old) piece.bytes.items (bytes_left pieces.new))) }
+    ensures end { IfOk result (λ o. IfNone o (KeepsLeft (left_behind [] pieces.old) (Some []))) }
+    ensures kept { OnErr result (KeepsLeft (left_behind [] pieces.old) (left_behind [] pieces.new)) }
+    ensures least { OnErr result (HasAtLeast (bytes_left pieces.old) [] (bytes_left pieces.new)) }
+{
+    for _ in 0..u64::MAX {
+        match pieces.next(size, true)? {
+            Some(piece) => {
+                if piece.records > 0 {
+                    return Ok(Some(piece));
+                }
+            }
+            None => return Ok(None),
+        }
+    }
+    Err(ReadFault::Memory)
+}
+
 impl<R: Read + Drop> Cutter<R> {
     /// Makes a cutter of what `pieces` has left of a table, whose next row has number `next`.
     pub(crate) fn new(
@@ -120,18 +148,25 @@ impl<R: Read + Drop> Cutter<R> {
             next,
             over: None,
             size,
-            growth: TextGrowth::none(),
+            growth: None,
             longest: 0,
             is_slow: false,
         }
     }
 
-    /// Sets how much longer than its rows the table's facts can be, and the size of its pieces.
-    pub(crate) fn set_growth(&mut self, growth: TextGrowth, size: usize)
+    /// Sets how much longer than its rows the table's facts can be.
+    pub(crate) fn set_growth(&mut self, growth: KnownGrowth)
         ensures { self.new ≡ self.old }
     {
-        self.growth = growth;
-        self.size = size;
+        self.growth = Some(growth);
+    }
+
+    /// Returns how much longer than its rows the table's facts can be, as far as it is known.
+    fn growth(&self) -> TextGrowth {
+        match &self.growth {
+            Some(known) => known.get(),
+            None => TextGrowth::none(),
+        }
     }
 
     /// Returns whether the facts of one more piece may take memory in addition to those of `count`
@@ -168,18 +203,19 @@ impl<R: Read + Drop> Cutter<R> {
         self.pieces.keep_spare(spare);
     }
 
-    /// Cuts the next piece.
+    /// Cuts the next piece, which has a row at least.
     ///
     /// Returns `None` at the end of the file, if the reader failed, or if memory runs out. Further
     /// calls then return `None` and change nothing.
-    #[tactic(auto, using(crate::proofs::UnderWayLaws::rows_few, crate::proofs::CutLaws::cut_taken, crate::proofs::CutLaws::cut_ended, crate::proofs::CutLaws::cut_failed, crate::proofs::CutLaws::bytes_ended, crate::proofs::CutLaws::bytes_kept))]
+    #[tactic(auto, using(crate::proofs::UnderWayLaws::rows_few, crate::proofs::CutLaws::left_same, crate::proofs::CutLaws::least_same, crate::proofs::CutLaws::least_ended))]
     pub(crate) fn cut(&mut self) -> Option<CutPiece>
         ensures some { IfSome result (λ piece. TakesRows self.old.left (records_left state.StartRecord piece.bytes.items) self.new.left) }
+        ensures rows { IfSome result (λ piece. 1 ≤ length (records_left state.StartRecord piece.bytes.items)) }
         ensures first { IfSome result (λ piece. (piece.first ≡ self.old.next) × (piece.first ≤ self.old.limit + 1)) }
         ensures next { IfSome result (λ piece. self.new.next ≡ self.old.next + length (records_left state.StartRecord piece.bytes.items)) }
-        ensures bytes { IfSome result (λ piece. (1 ≤ length piece.bytes.items) × TakesBytes self.old.unread piece.bytes.items self.new.unread) }
+        ensures bytes { IfSome result (λ piece. (1 ≤ length piece.bytes.items) × HasAtLeast self.old.unread piece.bytes.items self.new.unread) }
         ensures none { IfNone result (KeepsLeft self.old.left self.new.left × (self.new.next ≡ self.old.next)) }
-        ensures kept { IfNone result (Keeps self.old.unread self.new.unread) }
+        ensures kept { IfNone result (HasAtLeast self.old.unread [] self.new.unread) }
         ensures over { IfNone result (IsSome self.new.over) }
         ensures going { IfSome result (λ _. self.old.over ≡ None) }
         ensures settled { OnSome self.old.over (self.new ≡ self.old) }
@@ -194,18 +230,20 @@ impl<R: Read + Drop> Cutter<R> {
             self.over = Some(Some(whole_fault(self.table, TableKind::Memory)));
             return None;
         }
-        match self.pieces.next(self.size, true) {
+        let growth = self.growth();
+        let size = growth.piece_size(self.size);
+        match next_with_rows(&mut self.pieces, size) {
             Ok(Some(FilePiece { bytes, records })) => {
                 let first = self.next as u32;
                 let rows = records as usize;
-                self.longest = self.growth.longest(self.longest, bytes.len(), rows);
-                let is_short = bytes.len() < self.size / 2;
+                self.longest = growth.longest(self.longest, bytes.len(), rows);
+                let is_short = bytes.len() < size / 2;
                 self.is_slow = is_short || self.pieces.is_short();
                 self.next += records;
                 Some(CutPiece {
                     bytes,
                     first,
-                    stays: is_short || self.growth.is_long(),
+                    stays: is_short || growth.is_long(),
                 })
             }
             Ok(None) => {

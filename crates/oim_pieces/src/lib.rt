@@ -22,9 +22,10 @@
 //! - `SpareVectors`, `SparesByThread`: spare vectors, kept for the thread that last wrote to them.
 //! - `Memory`: all spare vectors of a table.
 //! - `TextGrowth`: how much longer than its rows a table's facts can be. It makes pieces small.
+//! - `GrowthLooks`, `KnownGrowth`: how it becomes known while the file is read.
 //! - `AtWork`: the count of the threads at work in the run.
 //!
-//! Not proved: what `AtWork`, `Memory` and `TextGrowth` hold, and how many pieces the worker cuts
+//! Not proved: what `AtWork`, `Memory` and `KnownGrowth` hold, and how many pieces the worker cuts
 //! ahead. No result depends on them.
 //!
 //! A call, which returns how many blocks the first piece of a report's first table has:
@@ -57,6 +58,7 @@ mod at_work;
 mod cutter;
 mod decoded;
 mod decoders;
+mod growth_looks;
 mod helper_thread;
 mod in_channel;
 mod memory;

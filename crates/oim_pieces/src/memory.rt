@@ -11,6 +11,10 @@ use std::sync::Wait;
 /// A piece whose texts take fewer vectors than this needs no returned ones.
 const FEW: usize = 4;
 
+/// The most bytes of spare vectors for texts that the worker keeps. Those of the blocks of a few
+/// ordinary pieces have fewer.
+const MOST_BYTES: usize = 4_194_304;
+
 /// Spare vectors for the texts and the bytes of pieces, for the worker and its helper threads.
 #[derive(Drop)]
 pub(crate) struct Memory {
@@ -41,9 +45,12 @@ impl Memory {
         }
     }
 
-    /// Keeps a vector for texts that are decoded later, or drops it if memory runs out.
+    /// Keeps a vector for texts that are decoded later, or drops it if enough are kept or memory
+    /// runs out.
     pub(crate) fn keep_spare(&mut self, spare: Vec<u8>) {
-        let _ = self.spares.push(spare);
+        if self.spares.len() < MOST_BYTES / spare.capacity().max(1) {
+            let _ = self.spares.push(spare);
+        }
     }
 
     /// Keeps the vector of a written block of this table, for the thread that wrote it if that is
@@ -114,7 +121,7 @@ impl Memory {
     pub(crate) fn lend(&mut self, decoder: &mut PieceDecoder<'_>)
         ensures { decoder.new ≡ decoder.old }
     {
-        for _ in 0..self.usual {
+        for _ in 0..self.usual() {
             match self.spares.pop() {
                 Some(spare) => decoder.keep_spare(spare),
                 None => return,

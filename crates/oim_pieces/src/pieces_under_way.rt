@@ -1,19 +1,19 @@
 //! The pieces of a table that are under way: cut, and not joined yet.
 
-ghost use Rattle.std.specs.Prelude.{◌≡◌, ◌⊎◌, ◌-◌, ◌<◌, ◌≤◌, [], ◌∷◌, drop, IfNone, IfOk, IfErr, IfSome, None, OnSome, Some, length, true};
+ghost use Rattle.std.specs.Prelude.{◌≡◌, ◌⊎◌, ◌+◌, ◌-◌, ◌<◌, ◌≤◌, [], drop, IfNone, IfOk, IfErr, IfSome, None, OnSome, Some, length, true};
 ghost use Rattle.oim_decode.specs.Heads.{table_header_in};
 ghost use Rattle.oim_records.specs.PieceTaking.{bytes_left};
 ghost use Rattle.oim_records.specs.Reads.{left_behind};
 ghost use Rattle.oim_rows.specs.Header.{file_header_fault};
 ghost use Rattle.oim_rows.specs.Streams.{IsOutside, ending, stream_of};
 ghost use Rattle.oim_pieces.specs.PiecesLeft.{FewerSteps};
-ghost use Rattle.oim_pieces.specs.state.PiecesUnderWay.{IsEndOfTable, IsFront, KeepsStream, NoMoreSteps, ReadsJoined, steps_in, stream_in};
+ghost use Rattle.oim_pieces.specs.state.PiecesUnderWay.{IsEndOfTable, IsFront, KeepsStream, NoMoreSteps, ReadsJoined, head_pieces, next_row, steps_in, stream_in};
 
 use crate::at_work::AtWork;
 use crate::cutter::Cutter;
+use crate::growth_looks::KnownGrowth;
 use crate::piece_under_way::PieceUnderWay;
 use crate::table_threads::TableThreads;
-use crate::text_growth::TextGrowth;
 use oim_decode::{FirstRecords, JoinedPiece, PieceJoin};
 use oim_records::PieceReader;
 use oim_report::Report;
@@ -63,9 +63,10 @@ impl<'a, R: Read + Drop> Model for PiecesUnderWay<'a, R> {
     ghost invariant = { λ a. (a.threads.table ≡ a.cutter.table) × (a.threads.limit ≡ a.cutter.limit) × AreChained a.threads a.under_way.items a.cutter.next };
 }
 
-/// Opens the table's crew, with the rows of `head` as the only piece under way.
+/// Opens the table's crew, with the rows of `head` as the only piece under way if there are any.
 ///
 /// Fails with the header's first fault, and with Memory if memory runs out.
+#[tactic(auto, using(crate::proofs::Openings::rows_opened, crate::proofs::Openings::no_rows_opened))]
 fn open_table<'a>(
     alloc: Global,
     at_work: &'a AtWork,
@@ -77,12 +78,13 @@ fn open_table<'a>(
     requires place { table < length report.now.tables }
     requires rows { limit ≤ 4294967294 }
     ensures threads { IfOk result (λ off. off.0 ≡ table_header_in report.now table limit head) }
-    ensures piece { IfOk result (λ off. off.1.items ≡ record { header = table_header_in report.now table limit head; first = 1; rows = drop 1 head } ∷ []) }
+    ensures pieces { IfOk result (λ off. off.1.items ≡ head_pieces (table_header_in report.now table limit head) (drop 1 head)) }
     ensures rows { IfOk result (λ _. length head - 1 < 18446744073709551615) }
     ensures header { IfOk result (λ _. file_header_fault report.now table head ≡ None) }
     ensures fault { IfErr result (λ e. IsOutside table e ⊎ (file_header_fault report.now table head ≡ Some e)) }
 {
-    if head.rows() == u64::MAX {
+    let rows = head.rows();
+    if rows == u64::MAX {
         return Err(whole_fault(table, TableKind::Memory));
     }
     let Ok(mut under_way) = VecDeque::with_capacity(alloc, 1) else {
@@ -90,7 +92,9 @@ fn open_table<'a>(
     };
     match TableThreads::open(alloc, at_work, report, table, limit, head) {
         Ok((threads, front)) => {
-            under_way.push_back_reserved(front);
+            if rows > 0 {
+                under_way.push_back_reserved(front);
+            }
             Ok((threads, under_way))
         }
         Err(fault) => Err(fault),
@@ -114,8 +118,8 @@ fn join_piece<'a, T: Wait>(
 }
 
 impl<'a, R: Read + Drop> PiecesUnderWay<'a, R> {
-    /// Opens a table with its head and the reader of its further pieces. The rows of the head are
-    /// under way.
+    /// Opens a table with its head and the reader of its further pieces. If the head has rows, they
+    /// are under way.
     ///
     /// Fails with the header's first fault, and with Memory if memory runs out.
     pub(crate) fn after_head(
@@ -130,7 +134,8 @@ impl<'a, R: Read + Drop> PiecesUnderWay<'a, R> {
         requires place { table < length report.now.tables }
         requires rows { limit ≤ 4294967294 }
         requires header { 1 ≤ length head }
-        ensures table { IfOk result (λ t. t.cutter.table ≡ table) }
+        ensures table { IfOk result (λ t. (t.cutter.table ≡ table) × (t.cutter.limit ≡ limit)) }
+        ensures next { IfOk result (λ t. next_row t ≡ 1) }
         ensures unread { IfOk result (λ t. t.cutter.unread ≡ bytes_left pieces) }
         ensures stream { IfSome (left_behind head pieces) (λ records. IfOk result (λ t. stream_in t ≡ Some (stream_of report.now table limit records))) }
         ensures fault { IfErr result (λ e. IsOutside table e ⊎ (file_header_fault report.now table head ≡ Some e)) }
@@ -151,11 +156,11 @@ impl<'a, R: Read + Drop> PiecesUnderWay<'a, R> {
         }
     }
 
-    /// Sets how much longer than its rows the table's facts can be, and the size of its pieces.
-    pub(crate) fn set_growth(&mut self, growth: TextGrowth, size: usize)
+    /// Sets how much longer than its rows the table's facts can be.
+    pub(crate) fn set_growth(&mut self, growth: KnownGrowth)
         ensures { self.new ≡ self.old }
     {
-        self.cutter.set_growth(growth, size);
+        self.cutter.set_growth(growth);
     }
 
     /// Keeps the vector of a written block as a spare, for the thread that wrote the block if that
@@ -211,7 +216,8 @@ impl<'a, R: Read + Drop> PiecesUnderWay<'a, R> {
     )
         ensures stream { KeepsStream (stream_in self.old) (stream_in self.new) }
         ensures steps { NoMoreSteps (steps_in self.old) (steps_in self.new) }
-        ensures table { self.new.cutter.table ≡ self.old.cutter.table }
+        ensures next { next_row self.new ≡ next_row self.old }
+        ensures table { (self.new.cutter.table ≡ self.old.cutter.table) × (self.new.cutter.limit ≡ self.old.cutter.limit) }
     {
         for _ in 0..MOST_CUT {
             if !self.may_cut(rt) || !self.cut_next(scope, rt) {
@@ -259,7 +265,7 @@ impl<'a, R: Read + Drop> PiecesUnderWay<'a, R> {
 
     /// Cuts the next piece and starts its decoding. Returns false if no piece is left or memory
     /// runs out.
-    #[tactic(auto, using(crate::proofs::UnderWayLaws::chained_more, crate::proofs::UnderWayLaws::stream_more, crate::proofs::UnderWayLaws::stream_kept, crate::proofs::UnderWayLaws::stream_same, crate::proofs::StepLaws::steps_cut, crate::proofs::StepLaws::steps_kept, crate::proofs::StepLaws::steps_same))]
+    #[tactic(auto, using(crate::proofs::UnderWayLaws::chained_more, crate::proofs::UnderWayLaws::next_more, crate::proofs::UnderWayLaws::stream_more, crate::proofs::UnderWayLaws::stream_kept, crate::proofs::UnderWayLaws::stream_same, crate::proofs::StepLaws::steps_cut, crate::proofs::StepLaws::steps_kept, crate::proofs::StepLaws::steps_same))]
     fn cut_next<E, T: Threads + Wait + Sync + 'a>(
         &mut self,
         scope: &Scope<'a, E>,
@@ -267,7 +273,8 @@ impl<'a, R: Read + Drop> PiecesUnderWay<'a, R> {
     ) -> bool
         ensures stream { KeepsStream (stream_in self.old) (stream_in self.new) }
         ensures steps { NoMoreSteps (steps_in self.old) (steps_in self.new) }
-        ensures table { self.new.cutter.table ≡ self.old.cutter.table }
+        ensures next { next_row self.new ≡ next_row self.old }
+        ensures table { (self.new.cutter.table ≡ self.old.cutter.table) × (self.new.cutter.limit ≡ self.old.cutter.limit) }
     {
         if self.under_way.reserve(1).is_err() {
             return false;
@@ -286,12 +293,16 @@ impl<'a, R: Read + Drop> PiecesUnderWay<'a, R> {
 
     /// Joins the first piece under way, waiting for its answer. Returns `None` if no piece is under
     /// way.
+    ///
+    /// A piece has a row at least. Unless it has a fault, all its rows are within the limit.
     #[tactic(auto, using(crate::proofs::StepLaws::steps_joined))]
     pub(crate) fn join_front<T: Wait>(&mut self, rt: &T) -> Option<JoinedPiece>
         ensures some { IfSome (stream_in self.old) (λ whole. IfSome result (λ s. ReadsJoined self.old.cutter.table whole s (stream_in self.new))) }
         ensures none { IfNone result ((self.old.pieces ≡ []) × (self.new ≡ self.old)) }
         ensures steps { OnSome result (FewerSteps (steps_in self.old) (steps_in self.new)) }
-        ensures table { self.new.cutter.table ≡ self.old.cutter.table }
+        ensures next { OnSome result (next_row self.old < next_row self.new) }
+        ensures few { IfSome result (λ s. s.fault ≡ None → next_row self.new ≤ self.old.cutter.limit + 1) }
+        ensures table { (self.new.cutter.table ≡ self.old.cutter.table) × (self.new.cutter.limit ≡ self.old.cutter.limit) }
     {
         let piece = self.under_way.pop_front()?;
         self.has_given = true;
@@ -301,7 +312,7 @@ impl<'a, R: Read + Drop> PiecesUnderWay<'a, R> {
     /// Drops the pieces under way. Takes those that no thread has taken, so that none is decoded in
     /// vain.
     pub(crate) fn drain<T: Wait>(&mut self, rt: &T)
-        ensures { self.new.cutter.table ≡ self.old.cutter.table }
+        ensures { (self.new.cutter.table ≡ self.old.cutter.table) × (self.new.cutter.limit ≡ self.old.cutter.limit) }
     {
         while self.drop_front(rt) {}
     }
@@ -309,7 +320,7 @@ impl<'a, R: Read + Drop> PiecesUnderWay<'a, R> {
     /// Drops the first piece under way. Returns false if no piece is under way.
     fn drop_front<T: Wait>(&mut self, rt: &T) -> bool
         ensures fewer { result ≡ true → length self.new.pieces < length self.old.pieces }
-        ensures table { self.new.cutter.table ≡ self.old.cutter.table }
+        ensures table { (self.new.cutter.table ≡ self.old.cutter.table) × (self.new.cutter.limit ≡ self.old.cutter.limit) }
     {
         match self.under_way.pop_front() {
             Some(piece) => {

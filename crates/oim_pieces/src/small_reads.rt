@@ -1,26 +1,28 @@
-//! A reader that gives at most a set number of bytes at a time.
+//! A reader that gives few bytes at a time if the table's facts can be long.
 
 ghost use Rattle.std.specs.Prelude.{◌≡◌, ◌≤◌, ◌<◌};
 
+use crate::growth_looks::GrowthLooks;
 use std::io::{self, Read};
 
-/// A reader that gives at most `most` bytes at a time, and at least one if it has one.
+/// A reader that gives at most as many bytes at a time as a piece of its table has, and at least
+/// one if it has one.
 #[derive(Drop)]
-pub(crate) struct SmallReads<R: Read + Drop> {
+pub(crate) struct SmallReads<'a, R: Read + Drop> {
     reader: R,
-    most: usize,
+    looks: GrowthLooks<'a>,
 }
 
-impl<R: Read + Drop> SmallReads<R> {
-    /// Reads at most `most` bytes at a time.
-    pub(crate) fn new(reader: R, most: usize) -> SmallReads<R>
+impl<'a, R: Read + Drop> SmallReads<'a, R> {
+    /// Reads as many bytes at a time as `looks` finds.
+    pub(crate) fn new(reader: R, looks: GrowthLooks<'a>) -> SmallReads<'a, R>
         ensures { result.reader ≡ reader }
     {
-        SmallReads { reader, most }
+        SmallReads { reader, looks }
     }
 }
 
-/// Returns how many bytes to read into a buffer of `room` bytes: not none unless there is no room.
+/// Returns how many bytes to read into a buffer of `room` bytes: at least one if there is room.
 fn read_size(room: usize, most: usize) -> usize
     ensures within { result ≤ room }
     ensures some { 0 < room → 0 < result }
@@ -28,7 +30,7 @@ fn read_size(room: usize, most: usize) -> usize
     room.min(most.max(1))
 }
 
-impl<R: Read + Drop> Read for SmallReads<R> {
+impl<R: Read + Drop> Read for SmallReads<'_, R> {
     ghost use Rattle.std.specs.Prelude.{◌≡◌};
     ghost use Rattle.std.specs.Io.{ReadsAtMost};
     ghost use Rattle.std.specs.Io.KnownBytes.{ReadConsumes};
@@ -39,7 +41,11 @@ impl<R: Read + Drop> Read for SmallReads<R> {
         ensures bound { ReadsAtMost result buf.new }
         ensures bytes { ReadConsumes (R.remaining self.old.reader) (R.remaining self.new.reader) result buf.new }
     {
-        let size = read_size(buf.len(), self.most);
-        self.reader.read(&mut buf[..size])
+        let size = read_size(buf.len(), self.looks.most());
+        let result = self.reader.read(&mut buf[..size]);
+        if let Ok(count) = &result {
+            self.looks.gave(*count);
+        }
+        result
     }
 }

@@ -11,6 +11,10 @@ use std::sync::{Arc, Wait};
 /// The most spare vectors that are kept for a thread.
 const MOST_KEPT: usize = 64;
 
+/// The most bytes of spare vectors that are kept for a thread. `MOST_KEPT` ordinary ones have
+/// fewer.
+const MOST_BYTES: usize = 4_194_304;
+
 /// Spare vectors of one thread. Their memory is still in its processor's cache.
 #[derive(Drop)]
 pub(crate) struct SpareVectors {
@@ -133,7 +137,9 @@ impl SparesByThread {
         }
         match self.by_thread.get(number) {
             Some(kept) => {
-                let _ = kept.spares.push(rt, spare);
+                if kept.spares.len(rt) < MOST_BYTES / spare.capacity().max(1) {
+                    let _ = kept.spares.push(rt, spare);
+                }
                 None
             }
             None => Some(spare),

@@ -1,6 +1,6 @@
 //! The facts of a table, piece by piece.
 
-ghost use Rattle.std.specs.Prelude.{◌≡◌, ◌⊎◌, ◌≤◌, ◌<◌, [], IfErr, IfNone, IfOk, IfSome, IsSome, None, OnSome, Ok, Err, Some, length};
+ghost use Rattle.std.specs.Prelude.{◌≡◌, ◌⊎◌, ◌+◌, ◌≤◌, ◌<◌, [], IfErr, IfNone, IfOk, IfSome, IsSome, None, OnSome, Ok, Err, Some, length};
 ghost use Rattle.oim_decode.specs.Blocks.{GivesBlock, KeepsAnswer};
 ghost use Rattle.oim_records.specs.Grids.{grid};
 ghost use Rattle.oim_rows.specs.Header.{file_fault, file_header_fault};
@@ -10,9 +10,9 @@ ghost use Rattle.oim_pieces.specs.PiecesLeft.{FewerSteps, GivesBlocks, steps_lef
 ghost use Rattle.oim_pieces.specs.state.PiecesUnderWay.{GivesJoined};
 
 use crate::at_work::AtWork;
+use crate::growth_looks::GrowthLooks;
 use crate::pieces_under_way::PiecesUnderWay;
 use crate::small_reads::SmallReads;
-use crate::text_growth::TextGrowth;
 use oim_decode::{JoinedPiece, open_pieces};
 use oim_json::Block;
 use oim_report::{Limits, Report};
@@ -29,13 +29,13 @@ pub const PIECE_SIZE: usize = 32_768;
 
 /// The remaining facts of one table, piece by piece, as blocks of text.
 ///
-/// Contracts see the table's place, the stream that is left, the answer of a settled table, the
-/// count of pieces under way, and the bytes that are not cut yet. The stream and the bytes are
-/// known only for a reader whose bytes are known.
+/// Contracts see the table's place and limit, the number of the next row, the stream that is left,
+/// the answer of a settled table, the count of pieces under way, and the bytes that are not cut
+/// yet. The stream and the bytes are known only for a reader whose bytes are known.
 #[derive(Drop)]
 pub struct TablePieces<'a, R: Read + Drop> {
     alloc: Global,
-    pieces_under_way: PiecesUnderWay<'a, SmallReads<R>>,
+    pieces_under_way: PiecesUnderWay<'a, SmallReads<'a, R>>,
     // The end or the fault of the table, once it was found.
     settled: Option<Option<TableFault>>,
 }
@@ -44,12 +44,14 @@ impl<'a, R: Read + Drop> Model for TablePieces<'a, R> {
     ghost use Rattle.std.specs.Prelude.{length};
     ghost use Rattle.oim_decode.specs.state.Blocks.{end_or_left};
     ghost use Rattle.oim_pieces.specs.PiecesLeft.{PiecesLeft};
-    ghost use Rattle.oim_pieces.specs.state.PiecesUnderWay.{stream_in};
+    ghost use Rattle.oim_pieces.specs.state.PiecesUnderWay.{next_row, stream_in};
 
     ghost Value = { PiecesLeft };
 
     ghost view = { λ a. record {
       table = a.pieces_under_way.cutter.table;
+      limit = a.pieces_under_way.cutter.limit;
+      next = next_row a.pieces_under_way;
       left = end_or_left a.settled (stream_in a.pieces_under_way);
       answered = a.settled;
       under_way = length a.pieces_under_way.pieces;
@@ -81,6 +83,7 @@ impl<'a, R: Read + Drop> TablePieces<'a, R> {
 
         // The facts of the table, if its header has no fault.
         ensures start { IfOk result (λ pieces. (pieces.table ≡ table) × (pieces.answered ≡ None)) }
+        ensures rows { IfOk result (λ pieces. (pieces.limit ≡ limits.rows) × (pieces.next ≡ 1)) }
         ensures unread { OnSome (R.remaining reader) (IfOk result (λ pieces. IsSome pieces.unread)) }
         ensures stream { IfSome (R.remaining reader) (λ bytes.
             IfOk result (λ pieces. pieces.left ≡ Some (stream_of report.now table limits.rows (grid bytes)))) }
@@ -89,16 +92,17 @@ impl<'a, R: Read + Drop> TablePieces<'a, R> {
         ensures fault { IfSome (R.remaining reader) (λ bytes.
             IfErr result (λ e. IsOutside table e ⊎ (file_header_fault report.now table (grid bytes) ≡ Some e))) }
     {
-        let growth = TextGrowth::of(alloc, report, table);
-        let size = growth.piece_size(at_work.size());
-        let (head, pieces) = match open_pieces(alloc, SmallReads::new(reader, size)) {
+        let Ok((looks, growth)) = GrowthLooks::start(alloc, report, table, at_work.size()) else {
+            return Err(whole_fault(table, TableKind::Memory));
+        };
+        let (head, pieces) = match open_pieces(alloc, SmallReads::new(reader, looks)) {
             Ok(Some(opened)) => opened,
             Ok(None) => return Err(whole_fault(table, TableKind::NoHeader)),
             Err(fault) => return Err(fault_of_read(table, fault)),
         };
         match PiecesUnderWay::after_head(alloc, at_work, report, table, limits.rows, head, pieces) {
             Ok(mut pieces_under_way) => {
-                pieces_under_way.set_growth(growth, size);
+                pieces_under_way.set_growth(growth);
                 Ok(TablePieces {
                     alloc,
                     pieces_under_way,
@@ -114,14 +118,16 @@ impl<'a, R: Read + Drop> TablePieces<'a, R> {
     /// The facts are in header order, row by row, in blocks of 1 to 256 facts. Threads of the scope
     /// decode later pieces if they have places. The caller must be counted as at work
     /// (`AtWork::start`): it rests while it waits for an answer. After the end or a fault, each
-    /// call answers the same and cuts nothing. For a reader whose bytes are known, the calls that
-    /// give blocks are at most one for each piece under way and each byte after them, and one more.
+    /// call answers the same and cuts nothing. Each call that gives blocks has read a row, and at
+    /// most `limits.rows` rows are read, so even an endless file of rows ends. For a reader whose
+    /// bytes are known, the calls that give blocks are at most one for each piece under way and
+    /// each byte after them, and one more.
     ///
     /// After the facts of all earlier rows, fails with the first fault of the first bad row, in
     /// this order: Ragged, NotUtf8, TooManyRows, MissingRowId, BadRowId, RepeatedRowId, then the
     /// faults of its cells from left to right. Fails with Read if the reader failed, and with
     /// Memory if memory runs out.
-    #[tactic(auto, using(crate::proofs::Gives::piece_given, crate::proofs::Gives::short_given, crate::proofs::Gives::end_given, crate::proofs::Gives::fault_given, crate::proofs::Gives::again_ended, crate::proofs::Gives::again_failed, crate::proofs::Gives::end_kept, crate::proofs::Gives::given_kept, crate::proofs::Gives::none_given, crate::proofs::Gives::moved, crate::proofs::StepLaws::steps_fewer))]
+    #[tactic(auto, using(crate::proofs::Gives::piece_given, crate::proofs::Gives::short_given, crate::proofs::Gives::end_given, crate::proofs::Gives::fault_given, crate::proofs::Gives::again_ended, crate::proofs::Gives::again_failed, crate::proofs::Gives::end_kept, crate::proofs::Gives::given_kept, crate::proofs::Gives::none_given, crate::proofs::Gives::moved, crate::proofs::Gives::counted, crate::proofs::StepLaws::steps_fewer))]
     pub fn next_blocks<E, T: Threads + Wait + Sync + 'a>(
         &mut self,
         scope: &Scope<'a, E>,
@@ -135,10 +141,13 @@ impl<'a, R: Read + Drop> TablePieces<'a, R> {
         ensures kept { KeepsAnswer result self.new.answered }
         ensures again { IfSome self.old.answered (λ end. (result ≡ answer_at_end end) × (self.new ≡ self.old)) }
 
-        // The blocks are those of a piece, which has a byte at least, or they are the last.
+        // The blocks are those of a piece, which has a row at least and none past the limit, or
+        // they are the last.
+        ensures counts { IfOk result (λ o. OnSome o (IsSome self.new.answered ⊎ ((self.old.next < self.new.next) × (self.new.next ≤ self.new.limit + 1)))) }
         ensures moves { IfOk result (λ o. OnSome o (IsSome self.new.answered ⊎ FewerSteps (steps_left self.old) (steps_left self.new))) }
 
         ensures same { self.new.table ≡ self.old.table }
+        ensures limit { self.new.limit ≡ self.old.limit }
     {
         match self.settled {
             Some(end) => return answer_of(end),
@@ -217,7 +226,8 @@ impl<'a, R: Read + Drop> TablePieces<'a, R> {
         ensures fault { IfErr result (λ e. (e ≡ file_fault self.old.table kind.Memory) × (self.new.left ≡ Some (ending (Some e)))) }
         ensures kept { IfErr result (λ e. self.new.answered ≡ Some (Some e)) }
         ensures going { IsSome self.new.answered ⊎ ((self.new.under_way ≡ self.old.under_way) × (self.new.unread ≡ self.old.unread)) }
-        ensures same { self.new.table ≡ self.old.table }
+        ensures next { IsSome self.new.answered ⊎ ((joined.fault ≡ None) × (self.new.next ≡ self.old.next)) }
+        ensures same { (self.new.table ≡ self.old.table) × (self.new.limit ≡ self.old.limit) }
     {
         if let Some(fault) = joined.fault() {
             self.settle(rt, fault);
@@ -237,7 +247,8 @@ impl<'a, R: Read + Drop> TablePieces<'a, R> {
 
     /// Settles the table with a fault, and drops the pieces under way.
     fn settle<T: Wait>(&mut self, rt: &T, fault: TableFault)
-        ensures { (self.new.table ≡ self.old.table) × (self.new.left ≡ Some (ending (Some fault))) × (self.new.answered ≡ Some (Some fault)) }
+        ensures same { (self.new.table ≡ self.old.table) × (self.new.limit ≡ self.old.limit) }
+        ensures settled { (self.new.left ≡ Some (ending (Some fault))) × (self.new.answered ≡ Some (Some fault)) }
     {
         self.pieces_under_way.drain(rt);
         self.settled = Some(Some(fault));

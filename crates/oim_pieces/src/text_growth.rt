@@ -1,6 +1,6 @@
 //! How much longer than its rows the facts of a table can be.
 //!
-//! Not proved: that they are no longer. The figures only decide how much of a table is decoded at
+//! Not proved: that no fact is longer. The figures only decide how much of a table is decoded at
 //! once, and no result depends on them.
 
 ghost use Rattle.std.specs.Prelude.{◌<◌, length};
@@ -33,9 +33,9 @@ const LEAST_COPIED: usize = 4_096;
 /// The bytes of a dimension in a fact's text, besides its name and value.
 const AROUND: usize = 6;
 
-/// The most property groups of a column that are looked at. More would take long in a report of
-/// many tables.
-const MOST_GROUPS: usize = 65_536;
+/// The bytes that the metadata adds to a fact of a table whose metadata was not looked at. They
+/// make pieces of the least size.
+const UNKNOWN: usize = MOST_LONG / LEAST;
 
 /// How much longer than its rows the facts of a table can be.
 #[derive(Clone, Copy)]
@@ -124,12 +124,42 @@ fn added_by(report: &Report, table: usize, level: &Level) -> Added
 fn added_by_group(report: &Report, table: usize, column: &Column) -> Added
     requires { table < length report.now.tables }
 {
-    let groups = column.groups.as_slice();
     let mut added = Added::nothing();
-    for i in 0..groups.len().min(MOST_GROUPS) {
-        added = added.or(added_by(report, table, &groups[i].1));
+    for group in column.groups.as_slice() {
+        added = added.or(added_by(report, table, &group.1));
     }
     added
+}
+
+/// Returns how many groups and dimensions a column has, or more than `most` if it has more.
+fn looks_at(column: &Column, most: usize) -> usize {
+    let mut count = column.level.dimensions.len();
+    for group in column.groups.as_slice() {
+        if count > most {
+            return count;
+        }
+        count = count
+            .saturating_add(1)
+            .saturating_add(group.1.dimensions.len());
+    }
+    count
+}
+
+/// Returns whether a table's template has at most `most` columns, groups and dimensions.
+fn is_within(report: &Report, table: usize, most: usize) -> bool
+    requires { table < length report.now.tables }
+{
+    let shared = report.report_level().dimensions.len();
+    let mut count = shared.saturating_add(report.template_level(table).dimensions.len());
+    for column in report.template_columns(table) {
+        if count > most {
+            return false;
+        }
+        count = count
+            .saturating_add(1)
+            .saturating_add(looks_at(column, most));
+    }
+    count <= most
 }
 
 /// Counts that `times` facts copy the cells to which a level refers.
@@ -200,8 +230,34 @@ impl TextGrowth {
         }
     }
 
+    /// Returns the growth of a table whose metadata was not looked at: its facts count as long.
+    pub(crate) fn unknown() -> TextGrowth {
+        TextGrowth {
+            facts: usize::MAX,
+            added: UNKNOWN,
+            copies: 0,
+        }
+    }
+
+    /// Returns how much longer than its rows the facts of a table can be. Returns `None` if its
+    /// template has more than `looks` columns, groups and dimensions.
+    pub(crate) fn within(
+        alloc: Global,
+        report: &Report,
+        table: usize,
+        looks: usize,
+    ) -> Option<TextGrowth>
+        requires { table < length report.now.tables }
+    {
+        if is_within(report, table, looks) {
+            Some(TextGrowth::of(alloc, report, table))
+        } else {
+            None
+        }
+    }
+
     /// Returns how much longer than its rows the facts of a table can be.
-    pub(crate) fn of(alloc: Global, report: &Report, table: usize) -> TextGrowth
+    fn of(alloc: Global, report: &Report, table: usize) -> TextGrowth
         requires { table < length report.now.tables }
     {
         let columns = report.template_columns(table);

@@ -1,5 +1,5 @@
 -- What cutting a table's file into pieces leaves.
-use Rattle.std.specs.Prelude.{◌≡◌, ◌++◌, ⊤, ℕ, List, [], Option, Some, None, IfSome}
+use Rattle.std.specs.Prelude.{◌≡◌, ◌++◌, ◌+◌, ◌≤◌, ⊤, ℕ, List, [], length, Option, Some, None, IfSome}
 use Rattle.oim_records.specs.Grids.{Record}
 use Rattle.oim_rows.specs.Streams.{IsOutside}
 use Rattle.oim_rows.specs.declared.fault.TableFault.{TableFault}
@@ -31,3 +31,10 @@ abbrev pub TakesRows : Option (List Record) → List Record → Option (List Rec
 TakesRows None piece new = ⊤
 TakesRows (Some records) piece None = ⊥
 TakesRows (Some records) piece (Some rest) = records ≡ piece ++ rest
+
+-- The bytes that were left, if known, are at least as many as those of the piece and `new`. Pieces
+-- without a record are passed over.
+abbrev pub HasAtLeast : Option (List ℕ) → List ℕ → Option (List ℕ) → Type 0
+HasAtLeast None piece new = ⊤
+HasAtLeast (Some xs) piece None = ⊥
+HasAtLeast (Some xs) piece (Some ys) = length piece + length ys ≤ length xs

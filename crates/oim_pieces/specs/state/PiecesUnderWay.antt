@@ -29,10 +29,15 @@ abbrev pub first_row_of : List PieceRowsLeft → ℕ → ℕ
 first_row_of [] next = next
 first_row_of (f ∷ fs) next = f.first
 
--- The pieces' rows are numbered one after another, and all have the same header.
+-- Each piece has a row. The rows are numbered one after another, and all have the same header.
 abbrev pub AreChained : TableHeaderValue → List PieceRowsLeft → ℕ → Type 0
 AreChained g [] next = ⊤
-AreChained g (f ∷ fs) next = (f.header ≡ g) × (f.first + length f.rows ≡ first_row_of fs next) × AreChained g fs next
+AreChained g (f ∷ fs) next = (f.header ≡ g) × (1 ≤ length f.rows) × (f.first + length f.rows ≡ first_row_of fs next) × AreChained g fs next
+
+-- The rows that were read with the header, as the first piece if there are any.
+abbrev pub head_pieces : TableHeaderValue → List Record → List PieceRowsLeft
+head_pieces g [] = []
+head_pieces g (r ∷ rows) = record { header = g; first = 1; rows = r ∷ rows } ∷ []
 
 -- The rows of the pieces, in order.
 abbrev pub rows_in : List PieceRowsLeft → List Record
@@ -50,6 +55,10 @@ pub record UnderWayLeft : Type 0 where
 -- before have the identifiers `ids`.
 abbrev pub rows_left : TableHeaderValue → List Field → List PieceRowsLeft → ℕ → Option (List Record) → Option Stream
 rows_left g ids fs next left = option_map (λ records. stream_from g (first_row_of fs next) ids (rows_in fs ++ records)) left
+
+-- The number of the next row to give.
+abbrev pub next_row : UnderWayLeft → ℕ
+next_row f = first_row_of f.pieces f.cutter.next
 
 abbrev pub stream_in : UnderWayLeft → Option Stream
 stream_in f = rows_left f.header f.ids f.pieces f.cutter.next f.cutter.left

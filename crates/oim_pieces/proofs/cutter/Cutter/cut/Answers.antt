@@ -1,8 +1,6 @@
-use Rattle.std.proofs.Common.{◌≡◌, [], Some, None, ap, sym, subst, ◌∙◌, arith}
-use Rattle.oim_records.specs.PieceTaking.{bytes_left}
+use Rattle.std.proofs.Common.{[], Some, ap, sym, subst, ◌∙◌, arith}
 use Rattle.oim_records.specs.Reads.{KeepsLeft, left_behind}
 use Rattle.oim_pieces.specs.state.Cutting.{CutterLeft, left_over}
-use Rattle.oim_pieces.proofs.CutLaws.{cut_ended}
 use Rattle.oim_pieces.proofs.UnderWayLaws.{rows_few}
 use Rattle.oim_pieces.proofs.cutter.Cutter.cut.Goals as goal
 
@@ -15,6 +13,6 @@ overflow_add-self g c =
 
 pub returns-in-Ok-None-clause-none : goal.returns-in-Ok-None-clause-none
 returns-in-Ok-None-clause-none g c =
-    let end = rw c.in-Ok-None.field-0-is at c.in-Ok-None.ensures.piece in
+    let end = rw c.in-Ok-None.field-0-is at c.in-Ok-None.ensures.end in
     let left = ap (λ o. left_over o (left_behind [] c.self.inside.pieces)) (sym c.in-None.is) ∙ ap (λ (x : CutterLeft). x.left) c.self.view_is in
-    (subst (λ l. KeepsLeft l (Some [])) left (cut_ended (bytes_left c.self.inside.pieces) end.0), ap (λ (x : CutterLeft). x.next) c.self.view_is)
+    (subst (λ l. KeepsLeft l (Some [])) left end, ap (λ (x : CutterLeft). x.next) c.self.view_is)

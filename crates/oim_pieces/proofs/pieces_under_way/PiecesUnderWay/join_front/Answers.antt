@@ -1,4 +1,4 @@
-use Rattle.oim_pieces.proofs.UnderWayLaws.{joined_front}
+use Rattle.oim_pieces.proofs.UnderWayLaws.{few_joined, joined_front, next_joined}
 use Rattle.oim_pieces.proofs.pieces_under_way.PiecesUnderWay.join_front.Goals as goal
 
 pub returns-clause-some : goal.returns-clause-some
@@ -7,3 +7,15 @@ returns-clause-some g c =
     joined_front c.args.self.now c.self.inside.threads c.join_piece.new.threads c.self.inside.join c.join_piece.new.join c.in_ok-piece.piece c.self.inside.under_way.items
     c.pop_front.new.self.items c.self.inside.cutter c.join_piece.result c.self.view_is items c.self.invariant.0 c.self.invariant.2 c.join_piece.ensures.joined
     c.join_piece.ensures.same
+
+pub returns-clause-next : goal.returns-clause-next
+returns-clause-next g c =
+    let items = c.in_ok-piece.ensures.items in
+    next_joined c.args.self.now c.self.inside.threads c.self.inside.join c.self.inside.under_way.items c.pop_front.new.self.items c.in_ok-piece.piece c.self.inside.cutter
+    c.self.view_is items c.self.invariant.2
+
+pub returns-clause-few : goal.returns-clause-few
+returns-clause-few g c = λ none.
+    let items = c.in_ok-piece.ensures.items in
+    few_joined c.args.self.now c.self.inside.threads c.self.inside.join c.self.inside.under_way.items c.pop_front.new.self.items c.in_ok-piece.piece c.self.inside.cutter
+    c.join_piece.new.join c.join_piece.result c.self.view_is items c.self.invariant.2 c.self.invariant.1 c.join_piece.ensures.joined none
