@@ -391,7 +391,7 @@ class Holding:
     """Reads entries into memory for later processes, as many as there is room for."""
 
     def __init__(self, reports: int) -> None:
-        """Hold nothing so far. Take how many reports the run is over."""
+        """Hold nothing so far. Take how many reports the run has."""
         self.has_many = reports >= MANY
         self.tried: Set[str] = set()
         self.room = MOST_HELD
