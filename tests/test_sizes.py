@@ -5,12 +5,15 @@ system. So each size here is above what such a body might think of as large.
 """
 from __future__ import annotations
 
+import os
 import subprocess
 from collections.abc import Iterable, Iterator
 
 from tests.harness import NAMESPACE, PROGRAM, TYPES, TestCase, metadata
 
-WAYS = (("1", "1024"), ("4", "1024"))
+# More workers than processors: with fewer, a run on a busy machine takes one worker.
+MANY = str(min(64, max(4, (os.cpu_count() or 1) + 1)))
+WAYS = (("1", "1024"), (MANY, "1024"))
 HEAD = (
     '{"documentInfo":{"documentType":"https://xbrl.org/2021/xbrl-json","namespaces":{"eg":"%s",'
     '"iso4217":"http://www.xbrl.org/2003/iso4217"},"taxonomy":["http://example.com/eg.xsd"]},'
@@ -43,7 +46,7 @@ def pieces(facts: Iterable[str], end: str) -> Iterator[bytes]:
 
 
 class TestSizes(TestCase):
-    """Converts large tables with one worker and with four, and compares each byte."""
+    """Converts large tables with one worker and with several, and compares each byte."""
 
     def setUp(self) -> None:
         """Writes the other files."""
