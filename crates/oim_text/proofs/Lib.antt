@@ -2,6 +2,7 @@ pub mod PlacedBytes
 pub mod Escaping
 pub mod EscapeMarks
 pub mod EscapedLengths
+pub mod Quotes
 pub mod Appends
 pub mod NumeralBytes
 pub mod Ink

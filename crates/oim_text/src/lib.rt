@@ -6,7 +6,8 @@
 //! `put` and `push` append nothing, and a call that escapes may append a part of its text.
 //!
 //! `copy`, `copy_short`, `copy_padded`, `copy_some`, `copy_text` and `copy_escaped` write into a
-//! large enough buffer and return where the copy ends. The escapes are those of `oim_json`.
+//! large enough buffer and return where the copy ends. They escape bytes by themselves, for speed;
+//! `put_escaped` and `put_quoted` leave it to `serde_json`. The definition is that of `oim_json`.
 //! `numeral_len` reports no fault: if it finds no numeral of the kind it returns 0, and the cell
 //! may still be a numeral in another form.
 //!
@@ -28,11 +29,12 @@ mod buffer;
 mod copies;
 mod escape;
 mod numeral;
+mod quoted;
 
 pub use buffer::{TextBuffer, make_room};
 pub use copies::{
     copy, copy_escaped, copy_padded, copy_short, copy_some, copy_text, put_escaped_front,
     put_quoted_front,
 };
-pub use escape::{put_escaped, put_quoted};
 pub use numeral::{numeral_len, suffix_behind};
+pub use quoted::{put_escaped, put_quoted};

@@ -1,6 +1,6 @@
 use Rattle.std.proofs.Common.{rules, sym, ◌∙◌}
 use Rattle.oim_json.proofs.Quoted.{all_unescaped}
-use Rattle.oim_text.proofs.escape.put_escaped.Goals as goal
+use Rattle.oim_text.proofs.quoted.put_escaped.Goals as goal
 
 pub returns-then-needs_no_escape-clause-escaped : goal.returns-then-needs_no_escape-clause-escaped
 returns-then-needs_no_escape-clause-escaped c =
