@@ -38,6 +38,7 @@ mod causes;
 mod entries;
 mod explanation;
 mod facts;
+mod fault_list;
 mod files;
 mod filings;
 mod forms;
@@ -57,6 +58,7 @@ mod tables;
 
 pub use again::{explain_report, report_explanation};
 pub use explanation::{Explanation, explanation_text};
+pub use fault_list::{ListedFaults, RefusedTable, list_faults};
 pub use metadata::explain_metadata;
 pub use oim_places::{
     FaultPlace, ReportAgain, fault_header, fault_place, fault_row, lines_are_of_records,
