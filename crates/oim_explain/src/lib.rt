@@ -9,7 +9,12 @@
 //! - over a folder whose files are known, `explained_fault` names a place in a table's file only if
 //!   the file's first fault is that fault, by the definition of the table's stream. It gives the
 //!   line of the fault's record, if that is known, and its column (`specs/TablePlaces.antt`);
-//! - `explanation_text` gives all lines of an explanation.
+//! - `explanation_text` gives all lines of an explanation;
+//! - over a folder whose files are known, `list_faults` writes the records of all faults of a
+//!   refused table, in their order and up to its limit, with what is at their places
+//!   (`specs/ListedFaults.antt`). If the file cannot be read to its end, it writes those of the
+//!   first rows and then the failure. If the file's first fault is another one or it cannot be read
+//!   again, it writes only the record of the run's fault.
 //!
 //! It exports what `oim_places` has for the place of a fault and for the file of faults.
 //!

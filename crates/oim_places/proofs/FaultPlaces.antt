@@ -25,7 +25,7 @@ first_listed : (header : Option TableFault) (rows : List (List TableFault)) (f :
 first_listed (Some e) rows f others later is = let same : e ≡ f = cc in ap Some same
 first_listed None rows f others later is = rw is refl
 
-first_of_file : (law : FirstIsOfStream) (report : ReportValue) (f : TableFault) (bytes : List ℕ) (left : Option (List (List TableFault))) → left ≡ Some (faults_by_row report f.table profile.rows (grid bytes))
+pub first_of_file : (law : FirstIsOfStream) (report : ReportValue) (f : TableFault) (bytes : List ℕ) (left : Option (List (List TableFault))) → left ≡ Some (faults_by_row report f.table profile.rows (grid bytes))
     → IfSome left (λ rows. (others : List TableFault) × (later : List (List TableFault)) × (rows ≡ (f ∷ others) ∷ later)) → fault_of_file report f.table bytes ≡ Some f
 first_of_file law report f bytes left is first =
     let listed = subst (λ o. IfSome o (λ rows. (others : List TableFault) × (later : List (List TableFault)) × (rows ≡ (f ∷ others) ∷ later))) is first in
