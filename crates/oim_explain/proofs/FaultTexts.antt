@@ -11,14 +11,12 @@ use Rattle.oim_records.specs.Grids.{Record, grid}
 use Rattle.oim_report.specs.ReportValue.{ReportValue}
 use Rattle.oim_rows.specs.Streams.{IsOutside}
 use Rattle.oim_rows.specs.declared.fault.TableFault.{TableFault}
-use Rattle.oim_table_faults.specs.Laws.{FirstIsOfStream}
-use Rattle.oim_table_faults.specs.TableFaults.{faults_of_rows}
-use Rattle.oim_places.specs.FaultLists.{ArePlacesIn, GivesRow, HasPlaceIn, record_of}
-use Rattle.oim_places.specs.FaultLists.{IsStartOf, LocatedLeft, faults_by_row}
-use Rattle.oim_places.specs.FaultPlaces.{unknown_place}
-use Rattle.oim_places.specs.FaultPlaces.{IsTablePath, is_of_file}
+use Rattle.oim_rows.specs.Header.{file_header_fault}
+use Rattle.oim_table_faults.specs.Laws.{FirstIsOfStream, first_in}
+use Rattle.oim_table_faults.specs.TableFaults.{alone_or, bad_rows_of, faults_of_rows}
+use Rattle.oim_places.specs.FaultLists.{ArePlacesIn, GivesRow, HasPlaceIn, IsStartOf, LocatedLeft, faults_by_row, header_or, record_of}
+use Rattle.oim_places.specs.FaultPlaces.{IsTablePath, fault_of_file, is_of_file, unknown_place}
 use Rattle.oim_places.specs.FolderFiles.{FoundAt}
-use Rattle.oim_places.proofs.FaultPlaces.{first_of_file}
 use Rattle.oim_places.specs.FaultRows.{fault_fields}
 use Rattle.oim_places.specs.declared.bad_rows.LocatedFault.{LocatedFault}
 use Rattle.oim_explain.specs.ListedFaults.{ListsAlone, ListsRows, ListsTable, StartsRows, StartsWith, Writes, WritesRows, fault_text, listed_of, located_records, more_text, room_after, texts_of, up_to}
@@ -253,13 +251,25 @@ table_alone None from out meta report id f most r alone = tt
 table_alone (Some files) from out meta report id f most (Ok listed) alone = inl alone
 table_alone (Some files) from out meta report id f most (Err e) alone = tt
 
+first_listed : (header : Option TableFault) (rows : List (List TableFault)) (f : TableFault) (others : List TableFault) (later : List (List TableFault))
+    → header_or header rows ≡ (f ∷ others) ∷ later → first_in (alone_or header (faults_of_rows rows)) ≡ Some f
+first_listed (Some e) rows f others later is = let same : e ≡ f = cc in ap Some same
+first_listed None rows f others later is = rw is refl
+
+-- The fault with which the rows of a file begin is its first.
+first_of_rows : (law : FirstIsOfStream) (report : ReportValue) (f : TableFault) (bytes : List ℕ) → StartsRows f (faults_by_row report f.table profile.rows (grid bytes))
+    → fault_of_file report f.table bytes ≡ Some f
+first_of_rows law report f bytes starts =
+    sym (law report f.table profile.rows (Some bytes))
+    ∙ first_listed (file_header_fault report f.table (grid bytes)) (bad_rows_of report f.table profile.rows (grid bytes)) f starts.0 starts.1 starts.2
+
 -- What was written of the rows of a file is what was written of its table.
 of_table : (law : FirstIsOfStream) (files : Files) (from out : Option (List ℕ)) (meta path : List ℕ) (report : ReportValue) (id : List ℕ) (f : TableFault) (most : ℕ) (bytes : List ℕ) (listed : ListedFaults)
     → is_of_file f.kind ≡ false → IsTablePath meta report f.table path → files path ≡ Some bytes
     → ListsRows from out f.table id f most (record_of id bytes) (faults_by_row report f.table profile.rows (grid bytes)) listed → ListsTable from out files meta report id f most listed
 of_table law files from out meta path report id f most bytes listed is at found (inl alone) = inl alone
 of_table law files from out meta path report id f most bytes listed is at found (inr (starts, all)) =
-    inr (path, at, (is, (bytes, found, (first_of_file law report f bytes (Some (faults_by_row report f.table profile.rows (grid bytes))) refl starts, all))))
+    inr (path, at, (is, (bytes, found, (first_of_rows law report f bytes starts, all))))
 
 pub table_listed : {E : Type 0} (law : FirstIsOfStream) (known : Option Files) (from out : Option (List ℕ)) (meta path : List ℕ) (report : ReportValue) (id : List ℕ) (f : TableFault) (most : ℕ) (rows : LocatedLeft) (r : Result ListedFaults E)
     → is_of_file f.kind ≡ false → IsTablePath meta report f.table path → rows.table ≡ f.table → FoundAt known path (IsStartOf report f.table rows)
@@ -271,6 +281,6 @@ table_listed law (Some files) from out meta path report id f most rows (Ok liste
     let bytes = found.0 in
     let start = found.2 in
     let given : ListsRows from out rows.table id f most (record_of id bytes) (faults_by_row report f.table profile.rows (grid bytes)) listed =
-    subst (λ o. IfSome o (λ left. ListsRows from out rows.table id f most (record_of id bytes) left listed)) start.0 (lists bytes start.1.0 start.1.1) in
+    subst (λ o. IfSome o (λ left. ListsRows from out rows.table id f most (record_of id bytes) left listed)) start.0 (lists bytes start.1 start.2) in
     of_table law files from out meta path report id f most bytes listed is at found.1
     (subst (λ t. ListsRows from out t id f most (record_of id bytes) (faults_by_row report f.table profile.rows (grid bytes)) listed) same given)

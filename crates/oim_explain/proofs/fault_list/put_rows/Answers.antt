@@ -1,4 +1,4 @@
-use Rattle.std.proofs.Common.{rules, ◌≡◌, ◌∙◌, IfSome, None, Some, subst, sym, true}
+use Rattle.std.proofs.Common.{rules, ◌≡◌, ◌∙◌, IfSome, subst, sym, true}
 use Rattle.oim_places.specs.FaultLists.{record_of}
 use Rattle.oim_explain.specs.ListedFaults.{ListsRows, StartsWith, Writes, WritesRows, located_records}
 use Rattle.oim_explain.proofs.FaultTexts.{places_known, rows_listed, rows_listed_cut}
