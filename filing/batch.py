@@ -19,6 +19,7 @@ from .batch_words import Batch, read_batch
 from .converter_program import require_counts, version_of
 from .cache import digests_of_program
 from .digests import digest_of
+from .faults import count_faults
 from .kept_module import Holding
 from .many_summaries import ManySummaries
 from .marked_output import OTHER, PAGE, SUMMARY, check_inputs, check_place
@@ -33,7 +34,6 @@ from .outcomes import (
     TO_RETRY,
     Outcome,
     OutcomeFile,
-    count_faults,
     first_line,
     limited,
     read_outcome,
@@ -297,7 +297,7 @@ class Crew:
         signaled = os.WIFSIGNALED(waited)
         status = 128 + os.WTERMSIG(waited) if signaled else os.WEXITSTATUS(waited)
         log = told.line.encode() or log_of(paths.log)
-        faults, numbers = (0, []) if told.line else count_faults(paths.faults)
+        faults, numbers = (0, frozenset()) if told.line else count_faults(paths.faults)
         word = told.word or word_of(status, numbers, log, signaled)
         outcome = Outcome(
             report=task.report,

@@ -3,13 +3,13 @@
 from __future__ import annotations
 
 import os
-from argparse import Action, ArgumentParser, Namespace
+from argparse import Namespace
 from dataclasses import dataclass
 from itertools import takewhile
-from typing import Any, Dict, List, NamedTuple, Optional, Tuple
+from typing import Dict, List, NamedTuple, Optional, Sequence, Tuple
 
 from .digests import processors
-from .words import RUNS, Once, Parser, Settings, dest_of, misuse, read_words
+from .words import RUNS, Once, Parser, Settings, Taken, dest_of, misuse, read_words
 
 INTO = "--into"
 OF_MANY_WITH_VALUE = (
@@ -87,19 +87,13 @@ class OnceOfMany(Once):
     twice = "{} is given twice"
 
 
-class AgainOfMany(Action):
+class AgainOfMany(Taken):
     """Takes an option without a value."""
 
-    def __call__(
-        self,
-        parser: ArgumentParser,
-        namespace: Namespace,
-        values: Any,
-        option_string: Optional[str] = None,
-    ) -> None:
+    def take(self, namespace: Namespace, name: str, values: Sequence[str]) -> None:
         """Take the option, which is given once at most."""
         if getattr(namespace, self.dest) is not None:
-            raise misuse(OnceOfMany.twice.format(option_string))
+            raise misuse(OnceOfMany.twice.format(name))
         setattr(namespace, self.dest, "")
 
 
@@ -117,7 +111,7 @@ def own_words(words: List[str]) -> Tuple[Dict[str, str], List[str]]:
 
 def check_together(settings: Settings, left: List[str]) -> None:
     """Refuse options that mean nothing for many reports."""
-    for name in (*RUNS, "--types", *GIVEN):
+    for name in (*RUNS, *GIVEN):
         if left_has(left, name):
             raise misuse(f"with {INTO} each report has its own files, so {name} means nothing")
 

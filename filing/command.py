@@ -16,10 +16,9 @@ from .cache import Cache, key_of
 from .cache_room import claimed
 from .catalog import CATALOG
 from .chain import Chain
-from .converter_lines import ConverterLines, for_terminal, put
 from .converter_program import require_counts, version_of
 from .dates import date_places, with_types_of_dates
-from .every_fault import Converter, Search, Unread, fault_list
+from .fault_names import name_places
 from .filed import filed_of
 from .final import check_final
 from .finding import Finder, Found
@@ -36,7 +35,7 @@ from .origins import Origins
 from .outputs import claim_outputs, refuse_outputs
 from .packages import Opened, Package, open_package
 from .page_lines import KeptLines
-from .page_run import ListPage, write_refusal_page, write_run_page
+from .page_run import write_refusal_page, write_run_page
 from .parameter_list import parameter_list
 from .parameters import check_parameters, check_references, require_parameters
 from .prefixes import Renaming, lost_prefixes
@@ -176,7 +175,7 @@ def run(
     stopping: Stopping,
     opened: Optional[Opened] = None,
 ) -> int:
-    """Make the two plain files and run xbrl-json over them, or print parameters or faults.
+    """Make the two plain files and run xbrl-json over them, or print the parameters.
 
     With `--prepare` the files go into its folder, else into a temporary one. Return the status.
     """
@@ -184,10 +183,6 @@ def run(
     check_asked(settings)
     if settings.summary is not None:
         require_counts(program)
-    if settings.types is not None:
-        with temporary_folder(temporary_place(), f"{NAME}-", stopping) as folder:
-            page = ListPage(settings, settings.report, {})
-            return tell_faults(here, settings.types, folder, None, page)
     open_packages = ExitStack()
     try:
         return run_opened(here, open_packages)
@@ -235,12 +230,9 @@ def convert(here: Run, joined: Joined) -> int:
     with temporary_folder(temporary_place(), f"{NAME}-", here.stopping) as folder:
         notes = RunNotes(settings, folder, here.program)
         written = write_files(folder, files, types, copy=False)
-        lines = KeptLines(origins, folder, written.names, notes.is_explained)
+        names = {**written.names, **notes.names()}
+        lines = KeptLines(origins, folder, names, notes.is_explained)
         meta, table = os.path.join(folder, META), os.path.join(folder, TYPES)
-        if settings.every_fault:
-            below = os.path.join(folder, os.urandom(8).hex())
-            os.mkdir(below)
-            return tell_faults(here, table, below, lines, ListPage(settings, meta, lines.names))
         here.progress.clear()
         words = [here.program, meta, "--types", table, *notes.words]
         heard = "--explain" in words or "--progress" not in settings.rest
@@ -252,6 +244,10 @@ def convert(here: Run, joined: Joined) -> int:
         more = lines.end()
         if more:
             tell(f"{NAME}: {printable(more)}")
+        if status <= WRONG:
+            with here.stopping.held():
+                name_places(notes.faults, lines)
+            notes.hand_on_faults()
         if any(asked_for(settings)) and status <= WRONG:
             sum_up(here, Converted(status, converting, files, written, lines, notes))
         return status
@@ -293,7 +289,7 @@ def sum_up(here: Run, made: Converted) -> None:
         version=version_of(here.program),
         seconds=time.monotonic() - here.began,
         converting=made.seconds,
-        faults=faults[1],
+        faults=faults.total,
         filed=filed,
         files=made.files,
     )
@@ -301,43 +297,6 @@ def sum_up(here: Run, made: Converted) -> None:
     if counts is not None and is_shown():
         for line in table_lines(filed):
             tell(line)
-
-
-def tell_faults(
-    here: Run, types: str, folder: str, lines: Optional[ConverterLines], page: ListPage
-) -> int:
-    """Print the faults of a report in plain form, and return status 1 if there are some.
-
-    `folder` is empty, and is used to look for them. If xbrl-json cannot list faults, hand on its
-    lines and return its status.
-    """
-    search = Search(page.meta, folder, Converter(here.program, types, folder, here.stopping))
-    try:
-        faults = search.faults_of_report(here.progress.say)
-    except Unread as unread:
-        here.progress.clear()
-        hand_on(unread.said, lines)
-        refuse_unloaded(here.program, unread.status)
-        return unread.status
-    here.progress.clear()
-    if lines is not None:
-        faults = [fault._replace(place=lines.place(fault.place)) for fault in faults]
-    put_out(fault_list(faults))
-    for table in filter(search.cut.get, search.faults):
-        tell(f"{NAME}: table {printable(table)}: {search.cut[table]}")
-    page.write(faults, search.cut)
-    return WRONG if faults else 0
-
-
-def hand_on(said: bytes, lines: Optional[ConverterLines]) -> None:
-    """Print all that xbrl-json has printed, in the names of a filing if it is one."""
-    if lines is None:
-        put(for_terminal(said))
-        return
-    lines.hear(said)
-    more = lines.end()
-    if more:
-        tell(f"{NAME}: {printable(more)}")
 
 
 def tell_parameters(report: Found, packages: List[Package], progress: Progress) -> int:

@@ -84,16 +84,6 @@ class ConverterLines:
         return self.names[name] + rest[len(name) :] if name else self.folder + rest
 
 
-def for_terminal(said: bytes) -> bytes:
-    """Return lines as standard error gets them.
-
-    If it is a terminal, control characters are escaped.
-    """
-    if not (sys.stderr and sys.stderr.isatty()):
-        return said
-    return "\n".join(escaped(line) for line in said.decode("utf-8", "surrogateescape").split("\n")).encode("utf-8", "surrogateescape")
-
-
 def put(text: bytes) -> None:
     """Write bytes to standard error, if there is one."""
     with suppress(OSError):

@@ -16,6 +16,7 @@ from .named import reference
 from .parameters import parameters_of_file
 from .prepared import Files
 from .refusals import wrong
+from .spots import spot_of
 from .strict_json import Object
 from .table_cells import is_pipe, pieces_of, rows_of
 from .types_table import quoted
@@ -47,9 +48,9 @@ DatePlaces = Dict[str, Dict[str, DateColumn]]
 
 
 class Cell(NamedTuple):
-    """A cell, and how lines name its table."""
+    """A cell, and the url of its table."""
 
-    label: str
+    url: str
     row: int
     column: str
     text: str
@@ -195,7 +196,6 @@ class SeenDates:
 
     def look_at(self, url: str, columns: Dict[str, DateColumn], given: Dict[str, str]) -> None:
         """Note the forms of the cells of a table."""
-        label = self.files.package.shown(self.files.name(url))
         rows = rows_of(self.files, url)
         header: List[str] = next(rows, [])
         places = [(at, name, columns[name]) for at, name in enumerate(header) if name in columns]
@@ -205,7 +205,7 @@ class SeenDates:
                 if at < len(row) and row[at]:
                     record = self.record(concept_of(column, cells, given))
                     if record:
-                        self.note(record, Cell(label, number, name, row[at]))
+                        self.note(record, Cell(url, number, name, row[at]))
 
     def note(self, record: bytes, cell: Cell) -> None:
         """Note the form of a cell, unless it is a special value other than the empty text."""
@@ -230,24 +230,25 @@ class SeenDates:
         pieces: List[bytes] = []
         done = 0
         for record, forms in sorted(self.forms.items(), key=lambda item: self.places[item[0]]):
-            word = chosen(forms)
+            word = self.chosen(forms)
             if word != DATE_TIME:
                 at = self.places[record]
                 pieces += [self.types[done:at], word.encode()]
                 done = at + len(DATE_TIME)
         return b"".join([*pieces, self.types[done:]])
 
-
-def chosen(forms: Dict[str, Cell]) -> str:
-    """Return the type of a concept with cells of these forms. Refuse a cell that has neither."""
-    if DATE not in forms:
-        return DATE_TIME
-    if DATE_TIME not in forms:
-        return DATE
-    if "" in forms:
-        label, row, column, text = forms[""]
-        raise wrong(label, f"row {row}, column {column}: '{text}' is neither a date nor a date with a time")
-    return OTHER
+    def chosen(self, forms: Dict[str, Cell]) -> str:
+        """Return the type of a concept with cells of these forms. Refuse a cell with neither."""
+        if DATE not in forms:
+            return DATE_TIME
+        if DATE_TIME not in forms:
+            return DATE
+        if "" in forms:
+            url, row, column, text = forms[""]
+            label = self.files.package.shown(self.files.name(url))
+            why = f"'{text}' is neither a date nor a date with a time"
+            raise wrong(label, why, spot_of(self.files, url, row, column))
+        return OTHER
 
 
 def concept_of(column: DateColumn, cells: Dict[str, str], given: Dict[str, str]) -> str:

@@ -15,6 +15,7 @@ from .metadata import Merged, objects
 from .named import reference
 from .prepared import Files
 from .refusals import Refusal, wrong
+from .spots import spot_of
 from .strict_json import Json, Object
 from .table_cells import cells_of, is_pipe, pieces_of
 
@@ -43,7 +44,8 @@ def refuse_lost_cells(merged: Merged, lost: Dict[str, str], files: Files, kind_o
                 old, label = found[1], files.package.shown(files.name(url))
                 why = f"'{text}' has the prefix '{old}', whose namespace has the prefix"
                 what = f"'{lost[old]}' here: write '{lost[old]}', or declare '{old}' instead of it"
-                raise wrong(label, f"row {row}, column {column}: {why} {what} in {files.report}")
+                spot = spot_of(files, url, row, column)
+                raise wrong(label, f"{why} {what} in {files.report}", spot)
 
 
 def unread(files: Files, url: str, lost: Dict[str, str]) -> Refusal:

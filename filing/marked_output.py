@@ -12,7 +12,7 @@ from typing import Iterable, Iterator, NamedTuple, Optional, Tuple
 from .outputs import same_file, stands_in
 from .page_style import MARK
 from .refusals import FILES, Refusal, cannot_write
-from .refused_faults import write_whole
+from .whole_files import write_whole
 from .words import Settings
 
 
@@ -45,7 +45,7 @@ def check_asked(settings: Settings) -> None:
         if own in others:
             raise cannot_write(path, OTHER)
         others.add(own)
-        check_inputs(path, [settings.report, *settings.taxonomy, settings.types or settings.report])
+        check_inputs(path, [settings.report, *settings.taxonomy])
     for what in ("faults", "counts"):
         file = next(settings.outputs([f"--{what}"]), None)
         if file is not None and os.path.lexists(file) and not os.path.isfile(file):
@@ -108,6 +108,6 @@ def write_marked(path: str, kind: Kind, text: str) -> None:
     """
     check_place(path, kind)
     try:
-        write_whole(path, text.encode())
+        write_whole(path, [text.encode()])
     except OSError as error:
         raise cannot_write(path, error) from None

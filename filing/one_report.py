@@ -20,6 +20,7 @@ from .outcomes import BUSY, FINAL, Outcome, read_outcome, write_outcome
 from .packages import Package, open_package
 from .page_run import write_refusal_page
 from .refusals import FILES, Refusal, cannot_write, printable
+from .refused_faults import record_refusal
 from .summary import write_refusal_summary
 from .words import Settings
 
@@ -184,6 +185,7 @@ def work(task: Task, told: Told, pipe: int, convert: Convert) -> int:
         remove_earlier(task, "", log)
         os.write(2, f"xbrl-filing: {printable(refusal.line)}\n".encode())
         settings = settings_of_refusal(task)
+        record_refusal(settings, refusal)
         write_refusal_page(settings, refusal)
         write_refusal_summary(settings, refusal, task.program, 0.0)
         return refusal.status
@@ -206,10 +208,11 @@ def work(task: Task, told: Told, pipe: int, convert: Convert) -> int:
 
 
 def settings_of_refusal(task: Task) -> Settings:
-    """Return the options of the page and the summary of a report that cannot be opened."""
+    """Return the options of what is written for a report that cannot be opened."""
     return Settings(
         task.report,
         task.taxonomy,
+        rest=("--faults", task.paths.faults),
         page=task.paths.page if task.has_page else None,
         summary=task.paths.summary if task.has_summary else None,
     )

@@ -8,9 +8,9 @@ import os
 import re
 from contextlib import suppress
 from dataclasses import asdict, dataclass, fields, replace
-from typing import Dict, Iterable, List, Optional, Tuple
+from typing import Dict, Iterable, Optional
 
-from .csv_text import record, records
+from .csv_text import record
 from .locks import write_aside
 from .refusals import FILES, WRONG, cannot_write
 
@@ -86,16 +86,6 @@ def write_outcome(path: str, outcome: Outcome) -> None:
         write_aside(path, aside, [outcome.json().encode()])
     except OSError as error:
         raise cannot_write(path, error) from None
-
-
-def count_faults(path: str) -> Tuple[int, List[int]]:
-    """Return how many faults a file of `--faults` has, and their numbers. No file has none."""
-    try:
-        with open(path, newline="", encoding="utf-8", errors="replace") as file:
-            _, *rest = records(file.read())
-        return len(rest), [int(fault[3]) for fault in rest]
-    except (OSError, ValueError, IndexError):
-        return 0, []
 
 
 def first_line(log: bytes) -> str:

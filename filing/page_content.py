@@ -2,21 +2,19 @@
 
 from __future__ import annotations
 
-import mmap
 import os
 from itertools import groupby
 from typing import Dict, List, Mapping, NamedTuple, Optional, Sequence, Tuple
 
 from .counts import Numbers
-from .every_fault import Fault
+from .faults import Fault
 from .filed import Filed
 from .metadata import objects
-from .page_rows import Budget, Near, all_spans, cells_of, read_table
+from .page_rows import Budget, Near, read_table
 from .prepared import is_plain
 from .strict_json import Object
 
 MOST = 10_000  # faults of a page
-LONGEST = 2_000  # characters of a field of the file of faults that are kept
 
 
 class Item(NamedTuple):
@@ -57,23 +55,6 @@ class TableFile(NamedTuple):
     table: str
     label: str
     path: str
-
-
-def faults_of(path: str) -> Tuple[List[Fault], int]:
-    """Return the first faults of a file of `--faults`, and how many it has.
-
-    Each field is cut, so a cell of a gigabyte takes no memory. Raise OSError or ValueError if the
-    file cannot be read, or is not one of faults.
-    """
-    faults: List[Fault] = []
-    count = -1
-    with open(path, "rb") as file, mmap.mmap(file.fileno(), 0, access=mmap.ACCESS_READ) as data:
-        for count, span in enumerate(all_spans(data)):
-            if 0 < count <= MOST:
-                table, *numbers, name, line, header, cell, place = cells_of(data, span, 9, LONGEST)
-                row, column, number = map(int, numbers)
-                faults.append(Fault(table, row, column, number, name, line, header, cell, place))
-    return faults, max(count, 0)
 
 
 def tables_of(value: Object, folder: str, names: Mapping[str, str]) -> List[TableFile]:

@@ -6,7 +6,7 @@ import re
 from typing import Dict, List, Optional, Tuple
 
 from .converter_lines import ConverterLines, put
-from .every_fault import Fault
+from .faults import Fault
 from .origins import Origins
 
 FAULT = re.compile(

@@ -7,9 +7,9 @@ from itertools import groupby
 from typing import Dict, Iterable, Iterator, List, Optional, Sequence, Tuple
 
 from .counts import Numbers
-from .every_fault import Fault
+from .faults import LONGEST, Fault
 from .filed import Filed
-from .page_content import LONGEST, Content, Item, TableLine
+from .page_content import Content, Item, TableLine
 from .page_remedies import FORMS, REMEDIES
 from .page_rows import LONGEST as SHORT
 from .page_rows import Near, Row

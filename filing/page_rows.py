@@ -6,11 +6,10 @@ import mmap
 import os
 import stat
 from contextlib import suppress
-from typing import BinaryIO, Dict, Iterable, Iterator, List, NamedTuple, Optional, Sequence, Tuple
+from typing import BinaryIO, Dict, Iterable, List, NamedTuple, Optional, Sequence
 
-from .every_fault import Fault
-from .page_text import cut
-from .table_copy import FIELD_END, LINE_ENDS, MARK, ONE_LINE_END, behind_quotes, record_end
+from .csv_spans import ONE_LINE_END, Span, all_spans, cells_of
+from .faults import Fault
 
 BEFORE, AFTER = 2, 1  # rows that are shown before and after the one with the fault
 WIDEST = 12  # columns that are shown; of a wider table, the first and those round the fault
@@ -19,7 +18,6 @@ LONGEST = 60  # characters of a cell
 MOST_COLUMNS = 4096  # as many as a template may have
 FAR = 1 << 20  # bytes between two rows, past which lines are not counted
 
-Span = Tuple[int, int]  # where a record begins and ends
 Cells = List[Optional[str]]  # None past the end of a record
 
 
@@ -167,46 +165,3 @@ def columns_near(column: int, width: int) -> List[int]:
 def chosen(cells: Sequence[str], columns: Iterable[int]) -> Cells:
     """Return the cells of some columns, None for those past the record's end."""
     return [cells[column - 1] if column <= len(cells) else None for column in columns]
-
-
-def all_spans(data: mmap.mmap) -> Iterator[Span]:
-    """Yield where each record of a CSV file begins and ends. Empty lines are not records."""
-    at = len(MARK) if data[: len(MARK)] == MARK else 0
-    size = len(data)
-    while True:
-        blank = LINE_ENDS.match(data, at)
-        start = blank.end() if blank else at
-        if start == size:
-            return
-        at = record_end(data, start)
-        yield start, at
-
-
-def cells_of(data: mmap.mmap, span: Span, most: int, longest: int) -> Iterator[str]:
-    """Yield the first cells of a record, each cut. Quotes count as they do for xbrl-json."""
-    at, end = span
-    for _ in range(most):
-        text, at = cell_at(data, at, end, longest)
-        yield text
-        if at >= end:
-            return
-        at += 1
-
-
-def cell_at(data: mmap.mmap, at: int, end: int, longest: int) -> Tuple[str, int]:
-    """Return the text of the cell that begins at a place, cut, and where the cell ends.
-
-    Text after a closing quote belongs to the cell.
-    """
-    most = 4 * longest + 4  # a character has at most four bytes
-    inside = b""
-    if at < end and data[at : at + 1] == b'"':
-        behind = behind_quotes(data, at)
-        quoted = data[at + 1 : min(behind, at + 2 * most)]
-        is_closed = at + 1 < behind <= at + 2 * most and quoted.endswith(b'"')
-        inside = (quoted[:-1] if is_closed else quoted).replace(b'""', b'"')
-        at = behind
-    found = FIELD_END.search(data, at, end)
-    behind = found.start() if found else end
-    text = inside + data[at : min(behind, at + most)]
-    return cut(text.decode("utf-8", "surrogateescape"), longest), behind

@@ -13,6 +13,7 @@ from .named import Places, reference
 from .prefixes import Renaming
 from .prepared import Files
 from .refusals import wrong
+from .spots import spot_of_parameter
 from .strict_json import Json, Object
 
 OF_EACH_FACT = ("entity", "period")  # what no fact of a filing does without
@@ -27,7 +28,8 @@ def check_parameters(merged: Merged, renaming: Renaming, files: Files) -> None:
         prefix = renaming.lost_in(text)
         if prefix is not None:
             stands = renaming.lost[prefix]
-            raise wrong(label, f"the parameter '{name}' has the prefix '{prefix}', whose namespace has the prefix '{stands}' here: write '{stands}' ({text})")
+            spot = spot_of_parameter(files, label, name, 2)
+            raise wrong(label, f"the parameter '{name}' has the prefix '{prefix}', whose namespace has the prefix '{stands}' here: write '{stands}' ({text})", spot)
 
 
 def check_references(merged: Merged, files: Files, named: Places) -> None:
@@ -48,7 +50,8 @@ def check_references(merged: Merged, files: Files, named: Places) -> None:
         template = template_without(name, owner, columns)
         if template is not None:
             what = f"nothing refers to the parameter '{other}', and the template '{template}' refers to '${name}', which is no parameter"
-            raise wrong(given[other], f"{what} and no column of it (names are compared exactly)")
+            spot = spot_of_parameter(files, given[other], other, 1)
+            raise wrong(given[other], f"{what} and no column of it (names are compared exactly)", spot)
 
 
 def require_parameters(merged: Merged, files: Files) -> None:
@@ -62,11 +65,14 @@ def require_parameters(merged: Merged, files: Files) -> None:
     given = {name for name, text in parameters.items() if text != ""} | {name for name, text, _ in parameters_of_file(files) if text}
     for key in OF_EACH_FACT:
         name = reference(key, dimensions.get(key))
-        table = None if name is None or name in given or name == ROW_NUMBER else table_without(key, name, merged, files)
+        if name is None or name in given or name == ROW_NUMBER:
+            continue
+        table = table_without(key, name, merged, files)
         if table is not None:
             label = files.report if files.parameters is None else files.package.shown(files.name(files.parameters))
             asker = f"'dimensions.{key}' of {merged.origin(('dimensions', key))}"
-            raise wrong(label, f"has no value for the parameter '{name}', to which {asker} refers: facts of the table '{table}' would have no {key}")
+            spot = spot_of_parameter(files, label, name, 2)
+            raise wrong(label, f"has no value for the parameter '{name}', to which {asker} refers: facts of the table '{table}' would have no {key}", spot)
 
 
 def table_without(key: str, name: str, merged: Merged, files: Files) -> Optional[str]:

@@ -2,28 +2,39 @@
 
 from __future__ import annotations
 
+from typing import NamedTuple, Optional
+
 WRONG = 1  # the report or the taxonomy is wrong
 WORDS = 2  # the command line is wrong
 FILES = 3  # a file does not exist, or cannot be read or written; or this program is at fault
 LONGEST_LINE = 2000
 
 
+class Spot(NamedTuple):
+    """A cell of a CSV file: the line at which its record begins, and its number. Both from 1."""
+
+    line: int
+    cell: int
+
+
 class Refusal(Exception):
     """A run that ends without a document.
 
-    The line is `FILE: what`, or only `what` if no file is at fault.
+    The line is `FILE: what`, or only `what` if no file is at fault. A cell of a file is named as
+    `FILE, line N, cell N`, as xbrl-json does it.
     """
 
-    def __init__(self, status: int, file: str, what: str) -> None:
+    def __init__(self, status: int, file: str, what: str, spot: Optional[Spot] = None) -> None:
         super().__init__(what)
         self.status = status
-        self.file, self.what = file, what
-        self.line = f"{file}: {what}" if file else what
+        self.what = what
+        self.place = f"{file}, line {spot.line}, cell {spot.cell}" if spot else file
+        self.line = f"{self.place}: {what}" if file else what
 
 
-def wrong(file: str, what: str) -> Refusal:
+def wrong(file: str, what: str, spot: Optional[Spot] = None) -> Refusal:
     """Return the refusal of a report or a taxonomy that is wrong."""
-    return Refusal(WRONG, file, what)
+    return Refusal(WRONG, file, what, spot)
 
 
 def cannot_read(file: str, error: OSError) -> Refusal:

@@ -4,16 +4,14 @@ from __future__ import annotations
 
 import os
 import stat
-from typing import Optional
 
-from .csv_text import record
-from .every_fault import Fault, fault_list
+from .faults import HEADER, Fault, fault_list, is_header
 from .outputs import stands_in
 from .refusals import WRONG, Refusal, cannot_write, printable
+from .whole_files import write_whole
 from .words import Settings
 
 NAME = "Refused"  # with the number 0, which no fault of xbrl-json has
-HEADER = record(Fault._fields).encode()
 
 
 def record_refusal(settings: Settings, refusal: Refusal) -> None:
@@ -26,11 +24,17 @@ def record_refusal(settings: Settings, refusal: Refusal) -> None:
     path = next(settings.outputs(["--faults"]), None)
     if refusal.status != WRONG or path is None or not is_free(path, settings):
         return
-    fault = Fault("", 0, 0, 0, NAME, "", "", printable(refusal.what), printable(refusal.file))
+    text = fault_list([fault_of_refusal(refusal)])
     try:
-        write_whole(path, fault_list([fault]).encode(errors="backslashreplace"))
+        write_whole(path, [text.encode(errors="backslashreplace")])
     except OSError as error:
         raise cannot_write(path, error) from None
+
+
+def fault_of_refusal(refusal: Refusal) -> Fault:
+    """Return the record of a refusal: why it is one, and the place."""
+    why, place = printable(refusal.what), printable(refusal.place)
+    return Fault("", 0, 0, 0, NAME, "", "", why, place)
 
 
 def is_free(path: str, settings: Settings) -> bool:
@@ -40,35 +44,13 @@ def is_free(path: str, settings: Settings) -> bool:
     if any(stands_in(place, os.path.realpath(path)) for path in inputs):
         return False
     try:
-        mode = os.stat(place).st_mode
+        mode = os.stat(path).st_mode
         if not stat.S_ISREG(mode):
             return not stat.S_ISDIR(mode)
-        with open(place, "rb") as file:
+        with open(path, "rb") as file:
             start = file.read(len(HEADER))
     except FileNotFoundError:
         return True
     except (OSError, ValueError):
         return False
-    return start in (b"", HEADER)
-
-
-def write_whole(path: str, text: bytes) -> None:
-    """Write a file aside and rename it; write straight to what is not a regular file."""
-    place = os.path.realpath(path)
-    known: Optional[os.stat_result] = os.stat(place) if os.path.exists(place) else None
-    if known is not None and not stat.S_ISREG(known.st_mode):
-        with open(place, "wb") as file:
-            file.write(text)
-        return
-    aside = f"{place}.{os.urandom(8).hex()}"
-    try:
-        with open(aside, "xb") as file:
-            file.write(text)
-            file.flush()
-            os.fsync(file.fileno())
-        if known is not None:
-            os.chmod(aside, stat.S_IMODE(known.st_mode))
-        os.replace(aside, place)
-    finally:
-        if os.path.lexists(aside):
-            os.unlink(aside)
+    return start == b"" or is_header(start)

@@ -17,8 +17,6 @@ Converts a filing to xBRL-JSON: a report package and its taxonomy packages.
     {USAGE}
     xbrl-filing REPORT --taxonomy PACKAGE.. --prepare FOLDER
     xbrl-filing REPORT --taxonomy PACKAGE.. --parameters
-    xbrl-filing REPORT --taxonomy PACKAGE.. --every-fault
-    xbrl-filing META --types FILE --every-fault
     xbrl-filing REPORT.. --taxonomy PACKAGE.. --into FOLDER [OPTIONS]
 
 It makes two plain files, a metadata file without `extends` and a types table,
@@ -33,10 +31,6 @@ REPORT                  a report package (a ZIP or an unpacked folder), or a
                         types.csv, and the report's tables and parameters
 --parameters            only print each parameter as CSV: its value, and where
                         the metadata refers to it
---every-fault           only print the first fault of every bad row, as CSV in
-                        the form of --faults
---types FILE            with --every-fault: the types table of META, a plain
-                        report without packages
 --page FILE             write a page for a browser: the outcome, the tables, and
                         each fault with the rows round it; with --into, FILE
                         lists the reports, and each has NAME.html
@@ -59,8 +53,9 @@ REPORT                  a report package (a ZIP or an unpacked folder), or a
 -V, --version           print the version of xbrl-json
 
 All other options go to xbrl-json: --out FILE, --whole, --workers N, --ring K,
---layout LAYOUT, --explain, --no-explain, --faults FILE, --counts FILE,
---progress (see `xbrl-json --help`).
+--layout LAYOUT, --explain, --no-explain, --faults FILE, --most-faults N,
+--counts FILE, --progress (see `xbrl-json --help`). FILE of --faults gets every
+fault of every row, or why the filing is refused before its rows are read.
 Nothing is ever downloaded: a URL that no package has is an error. Inputs are
 not changed.
 
@@ -72,15 +67,18 @@ name another xbrl-json.
 """
 # The options of xbrl-json.
 OUTPUTS = ("--out", "--faults", "--counts")
-WITH_VALUE = (*OUTPUTS, "--workers", "--ring", "--layout")
+WITH_VALUE = (*OUTPUTS, "--most-faults", "--workers", "--ring", "--layout")
 WITHOUT_VALUE = ("--progress", "--explain", "--no-explain", "--whole")
 TAXONOMY, LIMIT = "--taxonomy", "--unpacked-limit"
-OWN_WITH_VALUE = ("--prepare", "--cache", "--types", "--page", "--summary")
-OWN_WITHOUT_VALUE = ("--parameters", "--every-fault")
+OWN_WITH_VALUE = ("--prepare", "--cache", "--page", "--summary")
+PARAMETERS = "--parameters"
 # The options that are each a run of its own, in which nothing is converted.
-RUNS = ("--prepare", "--parameters", "--every-fault")
-# What means nothing with --types: it is of packages.
-OF_PACKAGES = (TAXONOMY, "--cache", LIMIT)
+RUNS = ("--prepare", PARAMETERS)
+# What is refused, and what to do instead.
+INSTEAD = {
+    "--every-fault": "--every-fault is gone: --faults FILE has every fault of every row",
+    "--types": "--types is made from the taxonomy, and a plain report is one for xbrl-json",
+}
 # The options that ask for something instead of a run, and what.
 ASKING = {"-h": "--help", "--help": "--help", "-V": "--version", "--version": "--version"}
 HIDDEN = "\0"  # before a word that argparse must not take as an option; no word has it
@@ -94,8 +92,6 @@ class Settings:
     taxonomy: Tuple[str, ...] = ()
     prepare: Optional[str] = None
     parameters: bool = False
-    every_fault: bool = False
-    types: Optional[str] = None
     cache: Optional[str] = None
     page: Optional[str] = None
     summary: Optional[str] = None
@@ -126,7 +122,7 @@ def asked(words: List[str]) -> Optional[str]:
     for word in left:
         if word in ASKING:
             return ASKING[word]
-        if word in WITH_VALUE or word in OWN_WITH_VALUE or word == LIMIT:
+        if word in (*WITH_VALUE, *OWN_WITH_VALUE, LIMIT, "--types"):
             next(left, None)
     return None
 
@@ -180,10 +176,8 @@ def shown(word: str) -> str:
     return word.replace(HIDDEN, "")
 
 
-class Once(Action):
-    """Takes the value of an option, which is given once at most."""
-
-    twice = "{} stands twice"
+class Taken(Action):
+    """Takes an option by its name and its values. Refuses one with status 2."""
 
     def __call__(
         self,
@@ -192,49 +186,63 @@ class Once(Action):
         values: Any,
         option_string: Optional[str] = None,
     ) -> None:
+        """Take an option. Without a value, `values` is empty or None."""
+        self.take(namespace, str(option_string), values or "")
+
+    def take(self, namespace: Namespace, name: str, values: Sequence[str]) -> None:
+        """Set what the option is for."""
+        raise NotImplementedError
+
+
+class Once(Taken):
+    """Takes the value of an option, which is given once at most."""
+
+    twice = "{} stands twice"
+
+    def take(self, namespace: Namespace, name: str, values: Sequence[str]) -> None:
         """Take a value. Without one it is the empty text."""
-        value, name = shown(values or ""), str(option_string)
-        if value == "" or value in ASKING:
-            raise misuse(f"{name} needs a value")
+        value = value_of(name, values)
         if getattr(namespace, self.dest) is not None:
             raise misuse(self.twice.format(name))
         setattr(namespace, self.dest, value)
 
 
-class Packages(Action):
+class Packages(Taken):
     """Takes the packages of one --taxonomy."""
 
-    def __call__(
-        self,
-        parser: ArgumentParser,
-        namespace: Namespace,
-        values: Any,
-        option_string: Optional[str] = None,
-    ) -> None:
+    def take(self, namespace: Namespace, name: str, values: Sequence[str]) -> None:
         """Add the packages to those of the options before."""
-        packages = list(map(shown, values or ()))
+        packages = list(map(shown, values))
         if not packages or "" in packages:
-            raise misuse(f"{TAXONOMY} names no package")
+            raise misuse(f"{name} names no package")
         namespace.taxonomy = [*(namespace.taxonomy or ()), *packages]
 
 
-class Limit(Action):
+class Limit(Taken):
     """Takes a number of bytes. The last one counts."""
 
-    def __call__(
-        self,
-        parser: ArgumentParser,
-        namespace: Namespace,
-        values: Any,
-        option_string: Optional[str] = None,
-    ) -> None:
+    def take(self, namespace: Namespace, name: str, values: Sequence[str]) -> None:
         """Take a value. Without one it is the empty text."""
-        value = shown(values or "")
-        if value == "" or value in ASKING:
-            raise misuse(f"{LIMIT} needs a value")
+        value = value_of(name, values)
         if not (value.isascii() and value.isdigit() and len(value) < 20):
-            raise misuse(f"{LIMIT} is a number of bytes, and '{value}' is none")
+            raise misuse(f"{name} is a number of bytes, and '{value}' is none")
         namespace.limit = int(value)
+
+
+class Instead(Taken):
+    """Refuses an option, and says what to do instead."""
+
+    def take(self, namespace: Namespace, name: str, values: Sequence[str]) -> None:
+        """Refuse it."""
+        raise misuse(INSTEAD[name])
+
+
+def value_of(name: str, values: Sequence[str]) -> str:
+    """Return the value of an option that needs one."""
+    value = shown("".join(values))
+    if value == "" or value in ASKING:
+        raise misuse(f"{name} needs a value")
+    return value
 
 
 @lru_cache(maxsize=1)
@@ -245,9 +253,10 @@ def parser_of_words() -> Parser:
     parser.option(TAXONOMY, nargs="*", action=Packages)
     for name in OWN_WITH_VALUE:
         parser.option(name, nargs="?", action=Once)
-    for name in OWN_WITHOUT_VALUE:
-        parser.option(name, action="store_true", default=None)
+    parser.option(PARAMETERS, action="store_true", default=None)
     parser.option(LIMIT, nargs="?", dest="limit", action=Limit)
+    for name in INSTEAD:
+        parser.option(name, nargs="?", action=Instead)
     return parser
 
 
@@ -257,7 +266,7 @@ def read_words(words: Sequence[str]) -> Settings:
     if found.report == "":
         raise misuse("'' is one word too many")
     refuse_more(left)
-    own = (TAXONOMY, LIMIT, *OWN_WITH_VALUE, *OWN_WITHOUT_VALUE)
+    own = (TAXONOMY, LIMIT, *OWN_WITH_VALUE, PARAMETERS)
     given = frozenset(name for name in own if getattr(found, dest_of(name)) is not None)
     return checked(
         Settings(
@@ -265,8 +274,6 @@ def read_words(words: Sequence[str]) -> Settings:
             taxonomy=tuple(found.taxonomy or ()),
             prepare=found.prepare,
             parameters=bool(found.parameters),
-            every_fault=bool(found.every_fault),
-            types=found.types,
             cache=found.cache,
             page=found.page,
             summary=found.summary,
@@ -301,16 +308,8 @@ def checked(settings: Settings) -> Settings:
     runs = [name for name in RUNS if name in settings.given]
     if len(runs) > 1:
         raise misuse(f"{runs[0]} and {runs[1]} stand together, and each is a run of its own")
-    if settings.types is not None:
-        if not settings.every_fault:
-            why = "else it is made from the taxonomy"
-            raise misuse(f"--types stands with --every-fault alone: {why}")
-        beside = next((name for name in OF_PACKAGES if name in settings.given), None)
-        if beside:
-            why = f"so {beside} means nothing"
-            raise misuse(f"--types is of a report without packages, {why}")
     unused = list(settings.rest[:1])
-    if settings.page is not None and not settings.every_fault:
+    if settings.page is not None:
         unused.insert(0, "--page")
     if settings.summary is not None:
         unused.insert(0, "--summary")

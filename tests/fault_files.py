@@ -12,7 +12,8 @@ from typing import Any
 from tests.harness import TYPES, Done, TestCase, metadata
 
 WORDS = ["r/m.json", "--types", "t.csv"]
-NAMES = ["table", "row", "column", "number", "name", "line", "header", "cell", "place"]
+NAMES = ["table_id", "table_row", "table_column", "fault_number", "fault_name", "line"]
+NAMES += ["header_cell", "row_cell", "place"]
 HEADER = (",".join(NAMES) + "\n").encode()
 REFUSED = HEADER + b"t1,1,1,40,BadNumber,2,cash,x,\n"
 

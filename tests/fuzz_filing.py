@@ -433,7 +433,7 @@ WAYS: List[Tuple[List[str], List[str]]] = [
     (["--explain"], []),
     (["--cache", "kept", "--prepare", "out"], ["kept", "out"]),
     (["--parameters"], []),
-    (["--every-fault"], []),
+    (["--page", "page.html", "--faults", "faults.csv"], ["page.html", "faults.csv"]),
     (["--unpacked-limit", "5000", "--prepare", "out"], ["out"]),
 ]
 
@@ -546,7 +546,7 @@ def faults_of(case: Case, run: Run, before: Dict[str, Tuple[int, bytes]], folder
         faults.append(f"{run.seconds:.0f} seconds")
     if run.memory > MOST_MEMORY:
         faults.append(f"{run.memory >> 20} MB")
-    if run.status and not run.said and "--every-fault" not in case.words:
+    if run.status and not run.said:
         faults.append("no line")
     if "xbrl-json: " not in run.said and (len(own) > 1 or run.said.count("\n") > len(own)):
         faults.append("more than one line")

@@ -10,7 +10,8 @@ command that shows it again; `--keep` leaves its files in a new folder. Without 
 
 Two cases of three are reports by the rules, of which every second has faults. Columns, levels,
 references, property groups, row identifiers, cells and long texts are chosen by chance. The output,
-the lines and the status must be those of `tests/own_reading.py`, with one worker and with several.
+the lines and the status must be those of `tests/own_reading.py`, with one worker and with several,
+and so must be all records of the file of faults.
 
 In each third case bytes of the metadata, the types table or a table are changed. Then the run must
 end with status 0 or 1, with one worker as with several, and a document must be JSON. No run may
@@ -43,6 +44,7 @@ CASES, LONGEST_RUN = 600, 3_000
 # What a run may take: seconds of the processor, and bytes with the stacks of its threads
 MOST_SECONDS, MOST_MEMORY = 20, 1 << 30
 EG = "http://example.com/eg"
+FAULTS = "faults.csv"
 NAMESPACES = {
     "eg": EG,
     "iso4217": "http://www.xbrl.org/2003/iso4217",
@@ -76,11 +78,15 @@ NOTES = ["", "a", "#empty", "#nil", "##", "##nil", 'x "y"', "two\nlines", "z" * 
 
 
 class Case(NamedTuple):
-    """A case: its files, the ways in which it is converted, and what it must end with, if known."""
+    """A case: its files, the ways in which it is converted, and what it must end with, if known.
+
+    `faults` are the records that the file of faults must have, if they are known.
+    """
 
     files: dict[str, bytes]
     ways: list[list[str]]
     told: Optional[Told]
+    faults: Optional[list[list[str]]] = None
 
 
 class Ended(NamedTuple):
@@ -273,9 +279,11 @@ def case_of(seed: int, number: int) -> Case:
     files = files_of(chance, report)
     workers, ring = chance.choice([2, 4, 4, 9]), chance.choice([1, 3, 1_024])
     ways = [["--workers", "1"], ["--workers", str(workers), "--ring", str(ring)]]
+    for words in ways:
+        words += ["--faults", FAULTS]
     if number % 3 == 2:
         return Case(broken(chance, files), ways, None)
-    return Case(files, ways, report.told())
+    return Case(files, ways, report.told(), report.fault_records(files))
 
 
 def limit() -> None:
@@ -332,6 +340,18 @@ def broken_fault_of(run: Ended) -> Optional[str]:
     return None if not run.err else f"status 0 with lines {run.err!r:.400}"
 
 
+def listed_fault_of(folder: Path, wanted: list[list[str]]) -> Optional[str]:
+    """Returns what is wrong with the file of faults, or None."""
+    with open(folder / FAULTS, newline="", encoding="utf-8") as file:
+        _, *found = csv.reader(file, strict=True)
+    if found == wanted:
+        return None
+    for at, (one, other) in enumerate(zip(found, wanted)):
+        if one != other:
+            return f"record {at} of the faults: wanted {other!r:.400}, found {one!r:.400}"
+    return f"faults: wanted {len(wanted)} records, found {len(found)}"
+
+
 def judged(program: str, folder: Path, case: Case) -> Optional[str]:
     """Converts a case in its ways, and returns what is wrong, or None."""
     told = case.told
@@ -340,6 +360,8 @@ def judged(program: str, folder: Path, case: Case) -> Optional[str]:
         if run.seconds >= MOST_SECONDS:
             return f"{' '.join(words)}: {run.seconds:.1f} s"
         why = broken_fault_of(run) if told is None else fault_of(run, told)
+        if why is None and case.faults is not None:
+            why = listed_fault_of(folder, case.faults)
         if why:
             return f"{' '.join(words)}: {why}"
         told = told or Told(run.status, run.out, run.err)

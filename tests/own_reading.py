@@ -6,12 +6,15 @@ periods only as instants and durations of full dates with times, which a documen
 are, and tables as lists of cells.
 
 `Report.told` gives what a run must write: the document, or the line of each table that has a fault.
+`Report.fault_records` gives the records of the file of faults, with all faults of all tables.
 """
 from __future__ import annotations
 
+import csv
 import json
 import re
-from collections.abc import Iterator
+import sys
+from collections.abc import Iterator, Mapping
 from typing import Any, NamedTuple, Optional
 
 # Names of faults by their numbers, as docs/FAULTS.md has them.
@@ -110,6 +113,20 @@ def least(faults: list[int]) -> None:
     """Raises the fault with the least number, if there is one."""
     if faults:
         raise Fault(min(faults))
+
+
+def lines_of(content: bytes) -> list[int]:
+    """Returns the line at which each record of a file begins."""
+    csv.field_size_limit(sys.maxsize)
+    text = content.decode("utf-8-sig", "surrogateescape")
+    reader = csv.reader(re.findall(r"[^\r\n]*(?:\r\n|\r|\n)|[^\r\n]+", text))
+    found = []
+    before = 0
+    for record in reader:
+        if record:
+            found.append(before + 1)
+        before = reader.line_num
+    return found
 
 
 class Cell(NamedTuple):
@@ -362,6 +379,56 @@ class Report:
             if found is not None:
                 facts.append((f"{table}.{identifier}.{found[0]}", found[1]))
         return facts
+
+    def faults_of_row(
+        self, table: str, header: list[str], record: list[str], number: int, ids: set[str]
+    ) -> list[tuple[int, int]]:
+        """Returns all faults of a row: the column and the number of each."""
+        if len(record) != len(header):
+            return [(0, 26)]
+        row = {name: text for name, text in zip(header, record) if name}
+        place = self.template(table).get("rowIdColumn")
+        if place is not None:
+            fault = self.id_fault(row[place], ids)
+            if fault:
+                return [(header.index(place) + 1, fault)]
+            ids.add(row[place])
+        found = []
+        for at, name in enumerate(header, 1):
+            if not name or "dimensions" not in self.template(table)["columns"][name]:
+                continue
+            try:
+                Cell(self, table, row, number, name).fact()
+            except Fault as fault_of_cell:
+                found.append((at, fault_of_cell.number))
+        return found
+
+    def faults_of(self, table: str) -> list[tuple[int, int, int]]:
+        """Returns all faults of a table: the row, the column and the number of each."""
+        header, *records = self.tables[table]
+        try:
+            self.test_header(table, header)
+        except Fault as fault:
+            return [(0, fault.column, fault.number)]
+        ids: set[str] = set()
+        found = []
+        for number, record in enumerate(records, 1):
+            faults = self.faults_of_row(table, header, record, number, ids)
+            found += [(number, column, fault) for column, fault in faults]
+        return found
+
+    def fault_records(self, contents: Mapping[str, bytes]) -> list[list[str]]:
+        """Returns the records of the file of faults, given the tables' files by their names."""
+        found = []
+        for table in sorted(self.tables):
+            records = self.tables[table]
+            lines = lines_of(contents[f"{table}.csv"])
+            for row, column, number in self.faults_of(table):
+                place = [str(row), str(column), str(number), NAMES[number], str(lines[row])]
+                named = records[0][column - 1] if column else ""
+                held = records[row][column - 1] if row and column else ""
+                found.append([table, *place, named, held, ""])
+        return found
 
     @staticmethod
     def id_fault(identifier: str, ids: set[str]) -> int:

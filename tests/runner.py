@@ -48,7 +48,6 @@ LONGEST = [
     "tests.test_refused",
     "tests.test_page",
     "tests.test_filing_size",
-    "tests.test_every_fault_rows",
     "tests.test_stress",
     "tests.test_run",
 ]

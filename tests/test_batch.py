@@ -28,6 +28,10 @@ from pathlib import Path
 from typing import Any, Dict, List, Optional, Tuple
 
 TOP = Path(__file__).resolve().parent.parent
+sys.path.insert(0, str(TOP))
+
+from filing.faults import HEADER, faults_of  # noqa: E402
+
 FILING = str(TOP / "xbrl-filing")
 EXAMPLE = TOP / "examples/filing"
 EXPECTED = (EXAMPLE / "expected.json").read_bytes()
@@ -184,7 +188,7 @@ class TestDocuments(Case):
         for name in "abc":
             self.assertEqual((self.out / f"{name}.json").read_bytes(), EXPECTED)
             faults = (self.out / f"{name}.faults.csv").read_text()
-            self.assertEqual(faults, "table,row,column,number,name,line,header,cell,place\n")
+            self.assertEqual(faults, HEADER.decode())
             self.assertEqual((self.out / f"{name}.log").read_bytes(), b"")
 
     def test_a_refused_report_does_not_hurt_the_others(self) -> None:
@@ -199,6 +203,9 @@ class TestDocuments(Case):
         self.assertTrue(any(it.startswith(line) for it in err.split("\n")), err)
         self.assertIn("has no xBRL-CSV report", self.outcome("wrong")["line"])
         self.assertFalse((self.out / "wrong.json").exists())
+        for name in ("wrong", "broken"):
+            (fault,) = faults_of(str(self.out / f"{name}.faults.csv"), 2).faults
+            self.assertEqual((fault.name, self.outcome(name)["faults"]), ("Refused", 1))
 
     def test_faults_are_counted_and_the_first_is_shown(self) -> None:
         tables = EXAMPLE / "report/reports"

@@ -156,9 +156,9 @@ def fault(table: int, row: int, column: int) -> str:
     return f"xbrl-json: table t{table}, row {row}, column {column}: {WRONG}"
 
 
-def neither(table: int, row: int, column: str, text: str) -> str:
-    """Returns the line of xbrl-filing for a cell that is not a date."""
-    place = f"xbrl-filing: r/reports/t{table}.csv: row {row}, column {column}"
+def neither(table: int, row: int, cell: int, text: str) -> str:
+    """Returns the line of xbrl-filing for a cell that is not a date, of a file without quotes."""
+    place = f"xbrl-filing: r/reports/t{table}.csv, line {row + 1}, cell {cell}"
     return f"{place}: '{text}' is neither a date nor a date with a time"
 
 
@@ -203,7 +203,7 @@ class TestColumns(DatesTest):
         both = "Note,Closed\nx,2025-01-01\nx,2025-01-01T00:00:00\n"
         for bad in ("2025-13-40", "#empty", "##x"):
             with self.subTest(bad):
-                self.refuses(neither(10, 3, "Closed", bad), ("columns", f"{both},{bad}\n"))
+                self.refuses(neither(10, 3, 2, bad), ("columns", f"{both},{bad}\n"))
         text = f"{both},#what\n"
         line = "xbrl-json: table t10, row 3, column 2: UnknownSpecial (31)"
         self.refuses(line, ("columns", text))
@@ -226,7 +226,7 @@ class TestLevels(DatesTest):
         self.converts(values, ("points", f"point,more,value\n{rows}"))
         self.refuses(fault(10, 6, 3), ("points", f"point,more,value\n{rows}Opened,,soon\n"))
         both = f"point,more,value\n{rows}Opened,,2025-01-01T00:00:00\nNote,,late\nOpened,,soon\n"
-        self.refuses(neither(10, 8, "value", "soon"), ("points", both))
+        self.refuses(neither(10, 8, 3, "soon"), ("points", both))
 
     def test_templates(self) -> None:
         """A template gives the concept after groups, and a column before it."""
@@ -234,7 +234,7 @@ class TestLevels(DatesTest):
         values = ["2025-01-01", "a", "x", "b", "2025-01-01T00:00:00", "c"]
         self.converts(values, ("outer", f"point,value,other\n{rows}"))
         bad = f"point,value,other\n{rows}none,soon,d\n"
-        self.refuses(neither(10, 4, "value", "soon"), ("outer", bad))
+        self.refuses(neither(10, 4, 2, "soon"), ("outer", bad))
 
     def test_references(self) -> None:
         """A cell or a parameter names the concept."""
@@ -244,7 +244,7 @@ class TestLevels(DatesTest):
         values = ["2025-01-01", "2025-01-01T00:00:00", "x"]
         self.converts(values, ("named", text), t10={"parameter": "eg:Opened"})
         bad = f"{text}eg:Opened,soon,\n"
-        line = neither(10, 3, "value", "soon")
+        line = neither(10, 3, 2, "soon")
         self.refuses(line, ("named", bad), t10={"parameter": "eg:Opened"})
         self.refuses(fault(10, 3, 2), ("named", bad), t10={"parameter": "eg:Closed"})
 
@@ -267,7 +267,7 @@ class TestCache(DatesTest):
                 folder = f"p{len(kept)}{len(words)}"
                 given = {"t12": {"parameter": "eg:Opened"}}
                 status, _, err = self.convert(tables, ("--prepare", folder, *words), **given)
-                self.assertEqual((status, err), (1, f"{neither(10, 1, 'Opened', rows)}\n") if rows == "soon" else (0, ""))
+                self.assertEqual((status, err), (1, f"{neither(10, 1, 1, rows)}\n") if rows == "soon" else (0, ""))
                 if status == 0:
                     made.append((self.folder / folder / "types.csv").read_bytes())
             self.assertEqual(made, made[:1] * len(made))

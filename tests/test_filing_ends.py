@@ -411,7 +411,7 @@ class TestRuns(FilingTest):
         # As the system's loader does for a program that needs a newer C library.
         fake.write_text("#!/bin/sh\necho too old >&2\nexit 1\n")
         line = f"too old\nxbrl-filing: {fake}: cannot run (too old)\n"
-        for word in ("--explain", "--every-fault", "--progress"):
+        for word in ("--explain", "--whole", "--progress"):
             seen = start(["r", "--taxonomy", "t", word], folder, env=settings)
             self.case(f"a program that does not load, {word}", (seen[0], seen[2]), (3, line))
         copy = folder / "copy"

@@ -11,6 +11,7 @@ from pathlib import Path
 from typing import Any, NoReturn
 
 from filing import command, library, refusals, stopping
+from filing.faults import HEADER, OLD_HEADER
 from tests.filing_samples import (
     EG,
     Files,
@@ -46,7 +47,7 @@ whole_stopping: Any = stopping
 ENDLESS = 10 * PATIENCE
 # What each program does here that ends with status 1: it tells its version, so it is one that runs.
 RUNS = '[ "$1" = --version ] && exit'
-HEADER_OF_FAULTS = "table,row,column,number,name,line,header,cell,place\n"
+HEADER_OF_FAULTS = HEADER.decode()
 
 
 def joined_of(
@@ -326,6 +327,10 @@ class TestRuns(FilingTest):
             self.case(
                 f"what is no file of faults stays: {name}", (status, listing(folder)), (1, before)
             )
+        for older in (OLD_HEADER + b"t,1,1,40,BadNumber,2,a,x,\n", HEADER[:-1] + b",more\n"):
+            (folder / "f.csv").write_bytes(older)
+            run(["bad", "--taxonomy", "t", "--faults", "f.csv"], folder)
+            self.case(f"over {older!r}", (folder / "f.csv").read_text(), refused)
         for words, status in (
             (["bad", "--faults", "f.csv", "--workers"], 1),
             (["none", "--faults", "f.csv"], 3),

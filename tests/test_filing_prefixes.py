@@ -97,9 +97,9 @@ class Prefixes(unittest.TestCase):
         """Check that a cell is refused by a line that names both prefixes."""
         why = "has the prefix 'mem', whose namespace has the prefix 'mem2' here"
         what = f"write 'mem2', or declare 'mem' instead of it in {REPORT}"
-        line = f"xbrl-filing: f.zip/reports/t.csv: {place} {why}: {what}\n"
+        line = f"xbrl-filing: f.zip/reports/t.csv, {place} {why}: {what}\n"
         files = {**filing(dimensions, rows, OWN), **(more or {})}
-        for words in ((), ("--cache", "kept"), ("--cache", "kept"), ("--every-fault",)):
+        for words in ((), ("--cache", "kept"), ("--cache", "kept"), ("--explain",)):
             with self.subTest(rows=rows, words=words):
                 self.assertEqual(self.run_over(files, *words), (1, "", line))
 
@@ -114,10 +114,10 @@ class Prefixes(unittest.TestCase):
 
     def test_texts_that_are_copied(self) -> None:
         """A typed dimension, and a fact that is a name, cannot have a prefix that is gone."""
-        self.refused(TYPED, "a,eg:x\na,mem:x1\n", "row 2, column x: 'mem:x1'")
-        self.refused(TYPED, 'a,"eg:a mem:x1"\n', "row 1, column x: 'eg:a mem:x1'")
-        self.refused(NAME, "mem:x1,\n", "row 1, column v: 'mem:x1'")
-        self.refused({"concept": "$x"}, "mem:x1,eg:Name\n", "row 1, column v: 'mem:x1'")
+        self.refused(TYPED, "a,eg:x\na,mem:x1\n", "line 3, cell 2: 'mem:x1'")
+        self.refused(TYPED, 'a,"eg:a mem:x1"\n', "line 2, cell 2: 'eg:a mem:x1'")
+        self.refused(NAME, "mem:x1,\n", "line 2, cell 1: 'mem:x1'")
+        self.refused({"concept": "$x"}, "mem:x1,eg:Name\n", "line 2, cell 1: 'mem:x1'")
 
     def test_module_of_two_prefixes(self) -> None:
         """A module may displace its own prefix. Then it may be kept, too."""
@@ -127,7 +127,7 @@ class Prefixes(unittest.TestCase):
             "reg/mod.json": meta({"extends": ["base.json"], "namespaces": OWN}),
             "reg/base.json": module,
         }
-        self.refused(TYPED, "a,mem:x1\n", "row 1, column x: 'mem:x1'", own)
+        self.refused(TYPED, "a,mem:x1\n", "line 2, cell 2: 'mem:x1'", own)
         taxonomy = {**filing(TYPED, "", {}), **own}
         pack(self.folder / "t.zip", {it: taxonomy[it] for it in taxonomy if it[:3] != "rep"})
         for rows, status in (("a,mem2:x\n", 0), ("a,mem:x\n", 1), ("a,mem2:x\n", 0)):
@@ -156,7 +156,7 @@ class Prefixes(unittest.TestCase):
         first = "a," + "z" * (before - len("v,x\n") - len("a,\na,")) + "\n"
         rows = f"{first}a,mem:x1\n"
         self.assertEqual(f"v,x\n{rows}".index("mem:x1"), before)
-        self.refused(TYPED, rows, "row 2, column x: 'mem:x1'")
+        self.refused(TYPED, rows, "line 3, cell 2: 'mem:x1'")
 
 
 if __name__ == "__main__":

@@ -439,7 +439,7 @@ class TestBadFilings(SchemaTest):
         cells = ("eba_GA:AT", "ga:AT eba_GA:x1")
         tables = [columns({"when": END, "es1": it}) for it in cells]
         self.refused([(it, "row 1, column 2: BadFactValue (44)") for it in tables], **given)
-        line = "xbrl-filing: r/reports/t10.csv: row 2, column value: 'eba_GA:AT' has the prefix"
+        line = "xbrl-filing: r/reports/t10.csv, line 3, cell 2: 'eba_GA:AT' has the prefix"
         table = points("st1,text", "es1,eba_GA:AT")  # a point may be a text that is copied
         for words in ((), ("--cache", "c"), ("--cache", "c")):
             status, _, err = self.convert([table], words=words, **given)
@@ -454,13 +454,14 @@ class TestBadFilings(SchemaTest):
         self.refused([(it, f"row 1, column 7: {fault}") for it, fault in rows])
 
     def test_every_fault(self) -> None:
-        """Lists the first fault of each row, also those that only schemas know of."""
+        """Lists the fault of each row, also those that only schemas know of."""
         changes: list[dict[str, str]] = [{"unit": "#none"}, {"when": "2025"}]
         changes += [{"geo": "eba_GA:XX"}, {"mi1": "x"}, {}]
         rows = (",".join({**ROW, **it}.values()) for it in changes)
         table = Table("open", "".join(f"{it}\n" for it in (",".join(ROW), *rows)))
-        status, out, _ = self.convert([table], words=("--every-fault",))
-        seen = [it.split(",")[:4] for it in out.decode().splitlines()[1:]]
+        words = "--faults", str(self.folder / "f.csv")
+        status, _, _ = self.convert([table], words=words)
+        seen = [it.split(",")[:4] for it in (self.folder / "f.csv").read_text().splitlines()[1:]]
         faults = ("45", "46", "47", "40")
         wanted = [["t10", str(row), "7", it] for row, it in enumerate(faults, 1)]
         self.assertEqual((status, seen), (1, wanted))

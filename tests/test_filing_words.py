@@ -15,6 +15,8 @@ from tests.harness import PATIENCE, PROGRAM, write
 # The module with the names that it imports.
 whole_command: Any = command
 
+GONE = "--every-fault is gone: --faults FILE has every fault of every row"
+MADE = "--types is made from the taxonomy, and a plain report is one for xbrl-json"
 USAGE: list[tuple[list[str], str]] = [
     ([], "there is no REPORT"),
     (
@@ -34,41 +36,14 @@ USAGE: list[tuple[list[str], str]] = [
     (["r", "--out=x", "yes"], "'yes' is one word too many"),
     (["r", "--explain", "yes"], "'yes' is one word too many"),
     (["r", "--whole", "yes"], "'yes' is one word too many"),
-    (
-        ["r", "--taxonomy", "t", "--types", "x"],
-        "--types stands with --every-fault alone: else it is made from the taxonomy",
-    ),
-    (
-        ["r", "--types=x"],
-        "--types stands with --every-fault alone: else it is made from the taxonomy",
-    ),
-    (
-        ["r", "--types", "x", "--every-fault", "--taxonomy", "t"],
-        "--types is of a report without packages, so --taxonomy means nothing",
-    ),
-    (
-        ["r", "--types", "x", "--every-fault", "--cache", "c"],
-        "--types is of a report without packages, so --cache means nothing",
-    ),
-    (
-        ["r", "--types", "x", "--every-fault", "--unpacked-limit=1"],
-        "--types is of a report without packages, so --unpacked-limit means nothing",
-    ),
-    (["r", "--types", "x", "--types", "y", "--every-fault"], "--types stands twice"),
-    (["r", "--every-fault", "--types"], "--types needs a value"),
-    (
-        ["r", "--every-fault", "--out", "b"],
-        "with --every-fault nothing is converted, so '--out' means nothing",
-    ),
-    (
-        ["r", "--every-fault", "--prepare", "b"],
-        "--prepare and --every-fault stand together, and each is a run of its own",
-    ),
-    (
-        ["r", "--every-fault", "--parameters"],
-        "--parameters and --every-fault stand together, and each is a run of its own",
-    ),
-    (["r", "--every-fault=b"], "--every-fault has no value"),
+    (["r", "--taxonomy", "t", "--types", "x"], MADE),
+    (["r", "--types=x"], MADE),
+    (["r", "--types", "x", "--every-fault"], MADE),
+    (["r", "--every-fault"], GONE),
+    (["r", "--taxonomy", "t", "--every-fault", "--out", "b"], GONE),
+    (["r", "--every-fault=b"], GONE),
+    (["--every-fault"], GONE),
+    (["r", "r2", "--every-fault", "--into", "i"], GONE),
     (["r", "--prepare"], "--prepare needs a value"),
     (["r", "--prepare", "--out", "x"], "--prepare needs a value"),
     (["r", "--prepare", "a", "--prepare", "b"], "--prepare stands twice"),
@@ -177,7 +152,7 @@ class TestRuns(FilingTest):
             (["--whole", "-h"], help_text),
         ):
             self.case(f"the first of several words: {given}", start(given, folder), (0, wanted, ""))
-        for option in ("--prepare", "--cache", "--types", "--unpacked-limit"):
+        for option in ("--prepare", "--cache", "--unpacked-limit"):
             for word in ("-V", "-h", "--help", "--version"):
                 self.case(
                     f"{word} is no value of {option}",

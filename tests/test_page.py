@@ -32,8 +32,8 @@ TOP = Path(__file__).resolve().parent.parent
 sys.path.insert(0, str(TOP))
 
 from filing.converter_program import has_counts  # noqa: E402
-from filing.every_fault import Fault, read_faults  # noqa: E402
-from filing.page_content import MOST, Content, TableFile, faults_of, filled  # noqa: E402
+from filing.faults import FIELDS, MORE, Fault, count_faults, faults_of  # noqa: E402
+from filing.page_content import MOST, Content, TableFile, filled  # noqa: E402
 from filing.page_index import Listed, index  # noqa: E402
 from filing.page_markup import GROUP, page  # noqa: E402
 from filing.page_remedies import FORMS, REMEDIES  # noqa: E402
@@ -48,7 +48,6 @@ from tests.filing_bounds import yardstick  # noqa: E402
 
 FILING = str(TOP / "xbrl-filing")
 EXAMPLE = TOP / "examples/filing"
-REFUSED = TOP / "examples/refused"
 PROGRAM = os.path.abspath(os.environ.get("XBRL_JSON") or TOP / "dist/xbrl-json")
 PATIENCE = 600
 # Cells of the many faults, of which a browser could make something else than text.
@@ -164,6 +163,11 @@ class Shown(NamedTuple):
     file: str
     marked: Optional[str]
     lines: List[List[str]]  # the cells of the rows, with the line and the number first
+
+
+def read_faults(path: str) -> List[Fault]:
+    """Return the faults of a file of `--faults`."""
+    return faults_of(path, MOST).faults
 
 
 def shown_faults(top: Element) -> List[Shown]:
@@ -386,7 +390,8 @@ class TestRefused(Case):
         self.assertIn("parameters.csv, line 3, cell 2", said[0])
         same = [it for it in said if it.startswith("the same cause as in table ")]
         self.assertEqual(len(said), 1 + len(same))
-        self.assertEqual(len({it.sentence for it in shown_faults(self.top())}), 1)
+        firsts = {it.table: it.sentence for it in reversed(shown_faults(self.top()))}
+        self.assertEqual(len(set(firsts.values())), 1)
         self.assertNotIn(str(self.temporary), self.page.read_text())
 
     def test_of_the_metadata(self) -> None:
@@ -431,31 +436,29 @@ class TestRefused(Case):
         self.assertEqual(self.top().all("title")[0].text(), "Refused: report")
 
     def test_every_fault(self) -> None:
-        """Shows each bad row, and prints the same list as without a page."""
+        """Shows each faulty cell of each row, and what a cut list leaves out."""
         rows = "".join(f"dp{1 + it % 2},{'x' if it % 3 else it}\n" for it in range(20))
         self.edit("l_01.csv", "datapoint,factValue\n" + rows)
-        done = self.convert("--every-fault", status=1)
-        words = ["--taxonomy", "taxonomy", "--every-fault"]
-        self.assertEqual(self.run_filing("report", *words).stdout, done.stdout)
-        (self.folder / "list.csv").write_text(done.stdout)
-        faults = read_faults(str(self.folder / "list.csv"))
-        self.assertEqual(len(faults), 13)
-        for it in self.check_agrees(faults):
-            self.assertEqual(it.marked, "x")
+        self.edit("l_02.csv", "counterparty,due,amount,standing\nA,term,y,z\n")
+        self.convert("--faults", "f.csv", "--out", "o.json", status=1)
+        faults = read_faults(str(self.folder / "f.csv"))
+        self.assertEqual([it.table for it in faults], ["l_01"] * 13 + ["l_02"] * 2)
+        marked = [it.marked for it in self.check_agrees(faults)]
+        self.assertEqual(marked, ["x"] * 13 + ["y", "z"])
+        words = ["--most-faults", "4", "--faults", "f.csv", "--out", "o.json"]
+        self.assertIn("f.csv is cut", self.convert(*words, status=1).stderr)
+        self.check_agrees([*faults[:4], *faults[13:]])
+        text = self.top().text()
+        self.assertIn("6 faults were found.", text)
+        self.assertIn("More faults than the list may have are in: l_01.", text)
 
-    def test_every_fault_of_a_plain_report(self) -> None:
-        """Shows the bad rows of a report without packages."""
-        words = [str(REFUSED / "meta.json"), "--types", str(REFUSED / "types.csv")]
-        done = self.run_filing(*words, "--every-fault", "--page", "page.html")
-        self.assertEqual(done.returncode, 1)
-        (self.folder / "list.csv").write_text(done.stdout)
-        shown = self.check_agrees(read_faults(str(self.folder / "list.csv")))
-        self.assertEqual([it.marked for it in shown], ["main", "1,050", "990"])
-
-    def test_no_fault_of_every(self) -> None:
-        """Says that no fault was found, if nothing was converted."""
-        self.convert("--every-fault")
-        self.assertEqual(self.top().all("title")[0].text(), "No fault: report")
+    def test_without_a_file_of_faults(self) -> None:
+        """Names no temporary file, if only the page has all faults."""
+        self.edit("l_01.csv", "datapoint,factValue\ndp1,x\ndp2,y\n")
+        done = self.convert("--explain", "--out", "o.json", status=1)
+        self.assertEqual(len(shown_faults(self.top())), 2)
+        self.assertNotIn(str(self.temporary), done.stderr)
+        self.assertIn("    and 1 more in this table: see page.html\n", done.stderr)
 
 
 HOSTILE = [
@@ -585,16 +588,6 @@ class TestWhere(Case):
         self.refused(f"taxonomy/new.html: {INSIDE}", "--page", "taxonomy/new.html")
         self.assertEqual(os.listdir(self.folder / "taxonomy"), os.listdir(EXAMPLE / "taxonomy"))
 
-    def test_not_over_an_empty_table_of_a_plain_report(self) -> None:
-        """Leaves a table that is empty as it is."""
-        shutil.copytree(REFUSED, self.folder / "plain")
-        (self.folder / "plain/north.csv").write_bytes(b"")
-        words = ["plain/meta.json", "--types", "plain/types.csv", "--every-fault"]
-        done = self.run_filing(*words, "--page", "plain/north.csv")
-        line = "xbrl-filing: plain/north.csv: cannot write (it is an input of this run)\n"
-        self.assertEqual((done.returncode, done.stderr), (3, line))
-        self.assertEqual((self.folder / "plain/north.csv").read_bytes(), b"")
-
     def test_faults_in_a_pipe(self) -> None:
         """Refuses a file of faults that cannot be read again."""
         os.mkfifo(self.folder / "pipe")
@@ -661,16 +654,20 @@ class TestBounds(Case):
     def test_the_file_of_faults(self) -> None:
         """Reads the first records, cuts long cells, and counts all."""
         path = self.folder / "f.csv"
-        header = ",".join(Fault._fields)
-        path.write_text(f"{header}\n" + f't,1,2,40,N,2,h,"{"y" * 9_999}",\n' * (MOST + 7))
-        faults, count = faults_of(str(path))
-        self.assertEqual((len(faults), count), (MOST, MOST + 7))
-        self.assertEqual(faults[0].cell, "y" * 2_000 + "\u2026")
+        header = ",".join(FIELDS)
+        more = f'"t,""1""",0,0,0,{MORE},,,,\n'
+        text = f"{header}\n" + f't,1,2,40,N,2,h,"{"y" * 9_999}",\n' * (MOST + 7) + more
+        path.write_text(text)
+        found = faults_of(str(path), MOST)
+        self.assertEqual((len(found.faults), found.total), (MOST, MOST + 7))
+        self.assertEqual((found.faults[0].cell, found.cut), ("y" * 2_000 + "\u2026", ['t,"1"']))
+        self.assertEqual(count_faults(str(path)), (MOST + 7, frozenset({40})))
         path.write_text(f"{header}\n")
-        self.assertEqual(faults_of(str(path)), ([], 0))
+        self.assertEqual(faults_of(str(path), MOST), ([], 0, []))
         for text in ("", f"{header}\nt,1\n", f"{header}\nt,x,2,40,N,2,h,c,\n"):
             path.write_text(text)
-            self.assertRaises(ValueError, faults_of, str(path))
+            self.assertRaises(ValueError, faults_of, str(path), MOST)
+            self.assertEqual(count_faults(str(path)), (0, frozenset()))
 
     def test_wide_tables(self) -> None:
         """Shows the first column and those round the fault."""
@@ -1043,14 +1040,14 @@ class TestBrowser(Case):
                 records.append([name, row, 2, number, kind, row + 1, "b & c", cell, ""])
         faults = self.folder / "f.csv"
         with open(faults, "w", newline="", encoding="utf-8") as file:
-            csv.writer(file, lineterminator="\n").writerows([list(Fault._fields), *records])
+            csv.writer(file, lineterminator="\n").writerows([list(FIELDS), *records])
         return faults, tables
 
     def page_of_the_most(self) -> Path:
         """Write the page of the most faults, and return the file that has them."""
         path, tables = self.file_of_faults()
-        found, count = faults_of(str(path))
-        content = filled(Content("Refused", "r", "", [], count), tables, found, {})
+        found = faults_of(str(path), MOST)
+        content = filled(Content("Refused", "r", "", [], found.total), tables, found.faults, {})
         self.page.write_text(page(content), encoding="utf-8")
         return path
 
@@ -1067,14 +1064,15 @@ class TestBrowser(Case):
             self.assertEqual(browser.console, [])
         with open(path, newline="", encoding="utf-8") as file:
             records = list(csv.DictReader(file))
-        titles = ["Table {table}, row {row}, column {column} {name} ({number})".format(**it) for it in records]
+        title = "Table {table_id}, row {table_row}, column {table_column} {fault_name} ({fault_number})"
+        titles = [title.format(**it) for it in records]
         self.assertEqual([it[0] for it in shown], titles)
         for (_, why, mark, _), record in zip(shown, records):
-            sentence = re.sub("[`]", "", REMEDIES[int(record["number"])][0])
-            cell = None if mark is None else read(markup(record["cell"], 60)).text()
+            sentence = re.sub("[`]", "", REMEDIES[int(record["fault_number"])][0])
+            cell = None if mark is None else read(markup(record["row_cell"], 60)).text()
             self.assertEqual((why, mark), (sentence, cell))
         self.assertGreater(sum(it[2] is not None for it in shown), 500)
-        periods = [it for it, record in zip(titles, records) if record["number"] == "37"]
+        periods = [it for it, record in zip(titles, records) if record["fault_number"] == "37"]
         self.assertEqual([it[0] for it in shown if it[3]], periods)
         self.assertEqual((told, picked), ("10,000 of 10,000 shown", f"{len(periods):,} of 10,000 shown"))
         self.assertLess(seconds, MOST_YARDSTICKS * yardstick())

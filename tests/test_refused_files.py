@@ -142,12 +142,15 @@ class TestPermissions(RefusedTest):
 
 FAULT = re.compile(r"xbrl-json: table (\w+), row (\d+), column (\d+): (\w+) \((\d+)\)")
 OF_THE_REPORT = re.compile(r"xbrl-json: (?:report|types|parameters): (\w+) \((\d+)\)")
-FAULT_HEADER = "table,row,column,number,name,line,header,cell,place"
+FAULT_HEADER = "table_id,table_row,table_column,fault_number,fault_name,line,header_cell,row_cell,place"
 KINDS = ("memory", *FILE_KINDS)
 
 
 def agrees(content: bytes | None, err: str) -> bool:
-    """Returns whether a file of faults is whole and agrees with the lines."""
+    """Returns whether a file of faults is whole and agrees with the lines.
+
+    The list of a table may end with the failure of the second reading.
+    """
     if content is None or not content.endswith(b"\n"):
         return False
     header, *rows = content.decode().splitlines()
@@ -156,7 +159,9 @@ def agrees(content: bytes | None, err: str) -> bool:
         for table, row, column, name, number in FAULT.findall(err)
     ]
     said += [f",0,0,{number},{name}" for name, number in OF_THE_REPORT.findall(err)]
-    return header == FAULT_HEADER and [",".join(it.split(",")[:5]) for it in rows] == said
+    found = [",".join(it.split(",")[:5]) for it in rows]
+    ended = [it for it in found if it.endswith((",0,0,42,Memory", ",0,0,21,Read"))]
+    return header == FAULT_HEADER and (found == said or found == [*said, *ended[:1]])
 
 
 @for_each(

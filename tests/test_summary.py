@@ -374,7 +374,7 @@ class TestWhere(Case):
 
     def test_words(self) -> None:
         """Means nothing in a run that converts nothing, and is given once."""
-        for words in (["--prepare", "new"], ["--parameters"], ["--every-fault"]):
+        for words in (["--prepare", "new"], ["--parameters"]):
             line = self.run_filing("report", "--summary", "s.json", *words, status=2)
             why = f"with {words[0]} nothing is converted, so '--summary' means nothing"
             self.assertEqual(line, f"xbrl-filing: {why}; try --help\n")

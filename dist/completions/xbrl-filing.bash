@@ -21,8 +21,8 @@ _xbrl_filing() {
             ;;
         --workers | --ring | --jobs | --time-limit | --memory-limit | --unpacked-limit) return ;;
     esac
-    if [[ $word == -* && $before != --taxonomy && $before != --types && $before != --page && $before != --summary && $before != --out && $before != --outcomes && $before != --faults && $before != --counts ]]; then
-        mapfile -t COMPREPLY < <(compgen -W "--taxonomy --prepare --parameters --every-fault --types --page --summary --cache --unpacked-limit --into --jobs --outcomes --again --time-limit --memory-limit --out --whole --workers --ring --layout --explain --no-explain --faults --counts --progress -h --help -V --version" -- "$word")
+    if [[ $word == -* && $before != --taxonomy && $before != --page && $before != --summary && $before != --out && $before != --outcomes && $before != --faults && $before != --counts ]]; then
+        mapfile -t COMPREPLY < <(compgen -W "--taxonomy --prepare --parameters --page --summary --cache --unpacked-limit --into --jobs --outcomes --again --time-limit --memory-limit --out --whole --workers --ring --layout --explain --no-explain --faults --most-faults --counts --progress -h --help -V --version" -- "$word")
     else
         compopt -o filenames 2>/dev/null
         mapfile -t COMPREPLY < <(compgen -f -- "$word")

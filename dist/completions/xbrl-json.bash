@@ -14,10 +14,10 @@ _xbrl_json() {
             mapfile -t COMPREPLY < <(compgen -W "compact lines" -- "$word")
             return
             ;;
-        --workers | --ring) return ;;
+        --workers | --ring | --most-faults) return ;;
     esac
     if [[ $word == -* && $before != --types && $before != --out && $before != --faults && $before != --counts ]]; then
-        mapfile -t COMPREPLY < <(compgen -W "--types --workers --ring --out --whole --layout --progress --explain --no-explain --faults --counts -h --help -V --version" -- "$word")
+        mapfile -t COMPREPLY < <(compgen -W "--types --workers --ring --out --whole --layout --progress --explain --no-explain --faults --most-faults --counts -h --help -V --version" -- "$word")
     else
         compopt -o filenames 2>/dev/null
         mapfile -t COMPREPLY < <(compgen -f -- "$word")

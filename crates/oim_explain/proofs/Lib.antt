@@ -1,1 +1,3 @@
 mod ExamplesExplain
+mod ExamplesListedFaults
+mod FaultTexts

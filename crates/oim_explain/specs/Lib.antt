@@ -1,2 +1,3 @@
 pub mod Explanations
+pub mod ListedFaults
 pub mod TablePlaces

@@ -112,6 +112,30 @@ impl<'r> RowOfFault<'r> {
         place_of_text(self.cells, column)
     }
 
+    /// Returns whether the template has a column of this name.
+    pub(crate) fn has_column(&self, name: &str) -> bool {
+        for column in self.columns {
+            if column.id.as_str() == name {
+                return true;
+            }
+        }
+        false
+    }
+
+    /// Returns the place of the header's empty cell, if it has exactly one.
+    pub(crate) fn unnamed_cell(&self) -> Option<usize> {
+        let mut found = None;
+        for place in 0..self.cells.header.len() {
+            if text_at(&self.cells.header, place) == Some("") {
+                if found.is_some() {
+                    return None;
+                }
+                found = Some(place);
+            }
+        }
+        found
+    }
+
     /// Returns the row's cell in the column of this name, empty if it does not exist.
     pub(crate) fn cell_of(&self, column: &str) -> &'r str {
         match self.place_in_file(column) {

@@ -9,7 +9,12 @@
 //! - over a folder whose files are known, `explained_fault` names a place in a table's file only if
 //!   the file's first fault is that fault, by the definition of the table's stream. It gives the
 //!   line of the fault's record, if that is known, and its column (`specs/TablePlaces.antt`);
-//! - `explanation_text` gives all lines of an explanation.
+//! - `explanation_text` gives all lines of an explanation;
+//! - over a folder whose files are known, `list_faults` writes the records of all faults of a
+//!   refused table, in their order and up to its limit, with what is at their places
+//!   (`specs/ListedFaults.antt`). If the file cannot be read to its end, it writes those of the
+//!   first rows and then the failure. If the file's first fault is another one or it cannot be read
+//!   again, it writes only the record of the run's fault.
 //!
 //! It exports what `oim_places` has for the place of a fault and for the file of faults.
 //!
@@ -38,6 +43,7 @@ mod causes;
 mod entries;
 mod explanation;
 mod facts;
+mod fault_list;
 mod files;
 mod filings;
 mod forms;
@@ -57,6 +63,7 @@ mod tables;
 
 pub use again::{explain_report, report_explanation};
 pub use explanation::{Explanation, explanation_text};
+pub use fault_list::{ListedFaults, RefusedTable, list_faults};
 pub use metadata::explain_metadata;
 pub use oim_places::{
     FaultPlace, ReportAgain, fault_header, fault_place, fault_row, lines_are_of_records,

@@ -56,6 +56,15 @@ fn is_of_decimals(fault: CellFault) -> bool {
     matches!(fault, CellFault::BadDecimals | CellFault::UnknownSpecial)
 }
 
+/// Returns the dimension whose value is not what the concept wants, if the fault is of that.
+fn unwanted(fault: CellFault) -> Option<&'static str> {
+    match fault {
+        CellFault::BadUnit => Some("unit"),
+        CellFault::WrongPeriod => Some("period"),
+        _ => None,
+    }
+}
+
 /// Returns the first of the fact's properties after its concept that has this fault.
 fn bad_property<'r>(
     alloc: Global,
@@ -69,7 +78,10 @@ fn bad_property<'r>(
     if is_of_decimals(fault) && row.decimals().is_some() {
         return Ok(Some(Origin::Decimals));
     }
-    Ok(None)
+    match unwanted(fault) {
+        Some(name) => Ok(Some(Origin::Dimension(name))),
+        None => Ok(None),
+    }
 }
 
 /// Returns what causes a fault of a cell, in the order of the three steps of a cell. Returns `None`
@@ -128,6 +140,13 @@ impl<'r, 's> Lines<'r, 's> {
         let name = name.as_str();
         let found = format!(in self.alloc; "the header has no column {name}")?;
         let place = place_in_file(self.alloc, self.row.path, self.row.line, None)?;
+        self.put(place, found)
+    }
+
+    /// Writes a cell of the header, which begins at this line.
+    fn put_header_cell(&mut self, line: Option<u64>, place: usize) -> Result<(), AllocError> {
+        let found = cell_shown(self.alloc, &self.row.cells.header, place)?;
+        let place = place_in_file(self.alloc, self.row.path, line, Some(place))?;
         self.put(place, found)
     }
 
@@ -222,6 +241,22 @@ fn put_parameter<R: Read + Drop, F: Folder<R>>(
     put_given(lines, folder, name, text)
 }
 
+/// Writes that the header has no column of this name: the header's empty cell, if it has just one,
+/// or else the row.
+fn put_missing<R: Read + Drop, F: Folder<R>>(
+    lines: &mut Lines<'_, '_>,
+    folder: &mut F,
+    name: &str,
+) -> Result<(), AllocError> {
+    match lines.row.unnamed_cell() {
+        Some(place) => {
+            let line = line_again(lines.alloc, folder, lines.row.path, 0);
+            lines.put_header_cell(line, place)
+        }
+        None => lines.put_cell_or_none(name),
+    }
+}
+
 /// Writes the place of what a reference names: the row's cell, unless it is empty and a parameter
 /// has that name.
 fn put_referred<R: Read + Drop, F: Folder<R>>(
@@ -233,6 +268,9 @@ fn put_referred<R: Read + Drop, F: Folder<R>>(
         if let Some(text) = lines.row.parameter(name) {
             return put_parameter(lines, folder, name, text);
         }
+    }
+    if lines.row.has_column(name) && lines.row.place_in_file(name).is_none() {
+        return put_missing(lines, folder, name);
     }
     lines.put_cell(name)
 }

@@ -26,7 +26,7 @@ quote = 34 ∷ []
 
 -- ---- the text of the file
 
-header : row_text default_writer fault_names ≡ codes "table,row,column,number,name,line,header,cell,place" ++ lf
+header : row_text default_writer fault_names ≡ codes "table_id,table_row,table_column,fault_number,fault_name,line,header_cell,row_cell,place" ++ lf
 unfolding is_blank fields_text escaped
 header = refl
 

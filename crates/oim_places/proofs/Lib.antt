@@ -6,4 +6,5 @@ mod ExamplesFilePlaces
 mod LineCounts
 mod LineLaws
 mod Rereads
+mod FaultLists
 mod FaultPlaces

@@ -15,7 +15,8 @@ use Rattle.oim_places.specs.declared.fault_places.FaultPlace.{FaultPlace}
 
 -- What the fields are.
 abbrev pub fault_names : Record
-fault_names = codes "table" ∷ codes "row" ∷ codes "column" ∷ codes "number" ∷ codes "name" ∷ codes "line" ∷ codes "header" ∷ codes "cell" ∷ codes "place" ∷ []
+fault_names =
+    codes "table_id" ∷ codes "table_row" ∷ codes "table_column" ∷ codes "fault_number" ∷ codes "fault_name" ∷ codes "line" ∷ codes "header_cell" ∷ codes "row_cell" ∷ codes "place" ∷ []
 
 -- A line's number, or nothing if it is not known.
 abbrev pub line_field : Option ℕ → Field
@@ -27,6 +28,10 @@ line_field (Some line) = decimal line
 abbrev pub fault_fields : List ℕ → TableFault → FaultPlace → Record
 fault_fields id f p =
     id ∷ decimal f.row ∷ decimal f.column ∷ decimal (number_of f.kind) ∷ name_of f.kind ∷ line_field p.line ∷ p.header ∷ p.cell ∷ [] ∷ []
+
+-- The fields of the record that ends the list of a table which has more faults than are listed.
+abbrev pub more_fields : List ℕ → Record
+more_fields id = id ∷ decimal 0 ∷ decimal 0 ∷ decimal 0 ∷ codes "MoreFaults" ∷ [] ∷ [] ∷ [] ∷ [] ∷ []
 
 -- The fields of a fault of the metadata, the types table or the parameters file. It has no table,
 -- row or column: its place and what is there are texts.

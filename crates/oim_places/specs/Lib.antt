@@ -1,4 +1,5 @@
 pub mod Cells
+pub mod FaultLists
 pub mod FaultPlaces
 pub mod FaultRows
 pub mod FilePlaces

@@ -1,3 +1,6 @@
+pub mod FaultLists
 pub mod FaultPlaces
 pub mod FaultRows
 pub mod Pointers
+pub mod RecordLines
+pub mod RecordWalks

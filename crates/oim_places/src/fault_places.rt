@@ -1,21 +1,20 @@
 //! What is at the place of a table's fault, for which the table's file is read again.
 
-ghost use Rattle.std.specs.Prelude.{◌≡◌, ◌⊎◌, ◌<◌, IfOk, IfSome, false, length, string_bytes, true};
-ghost use Rattle.csv.specs.Records.{fields_of};
+ghost use Rattle.std.specs.Prelude.{◌≡◌, ◌⊎◌, ◌<◌, IfOk, IfSome, length, string_bytes, true};
 ghost use Rattle.oim_places.specs.FaultPlaces as spec;
-ghost use Rattle.oim_places.specs.FaultPlaces.{HasRecordOf, IsPlaceAt, IsPlaceOf, IsTableFault, IsTablePath, column_place, column_text, unknown_place};
-ghost use Rattle.oim_places.specs.FolderFiles.{FoundAt, HoldsAt};
-ghost use Rattle.oim_places.specs.LineNumbers.{IsLineOf};
-ghost use Rattle.oim_places.specs.state.FaultPlaces.{ReadsFault};
+ghost use Rattle.oim_places.specs.FaultPlaces.{HasRecordOf, IsPlaceAt, IsPlaceOf, IsTablePath, column_place, unknown_place};
+ghost use Rattle.oim_places.specs.FaultLists.{IsStartOf};
+ghost use Rattle.oim_places.specs.FolderFiles.{FoundAt};
+ghost use Rattle.oim_places.specs.state.FaultPlaces.{AreReadersOf, IsFirstIn};
 
-use crate::cells::field_as_text;
-use crate::file_places::line_again;
-use crate::records::{RowAgain, fault_again, row_again};
+use crate::bad_rows::BadRows;
+use crate::record_walk::RowAgain;
 use crate::reread::ReportAgain;
 use oim_files::{Folder, folder_of, path_in};
 use oim_meta::Report;
 use oim_names::Text;
 use oim_rows::{TableFault, TableKind};
+use oim_table_faults::first_fault_is_of_stream;
 use std::alloc::{AllocError, Global};
 use std::io::Read;
 
@@ -41,6 +40,17 @@ impl FaultPlace {
             cell: Text::new(String::new(alloc)),
         })
     }
+
+    /// Copies a place.
+    fn copied(&self) -> Result<FaultPlace, AllocError>
+        ensures { IfOk result (λ p. p ≡ self.now) }
+    {
+        Ok(FaultPlace {
+            line: self.line,
+            header: self.header.clone()?,
+            cell: self.cell.clone()?,
+        })
+    }
 }
 
 /// Returns the place in a record that a fault names, if it names one.
@@ -50,57 +60,6 @@ pub fn place_in_record(fault: &TableFault) -> Option<usize>
     match fault.column {
         0 => None,
         column => Some(column as usize - 1),
-    }
-}
-
-/// Returns whether a table, whose file is read again, has this fault first.
-fn has_fault<R: Read + Drop>(alloc: Global, report: &Report, fault: &TableFault, reader: R) -> bool
-    requires { (fault.now).table < length report.now.tables }
-    ensures { result ≡ true → IfSome (R.remaining reader) (λ bytes. IsTableFault report.now (fault.now).table bytes fault.now) }
-{
-    match fault_again(alloc, report, fault.table, reader) {
-        Some(found) => found == *fault,
-        None => false,
-    }
-}
-
-/// Returns a reader of the file at a path, if its table still has the fault.
-fn with_fault<R: Read + Drop, F: Folder<R>>(
-    alloc: Global,
-    folder: &mut F,
-    path: &str,
-    report: &Report,
-    fault: &TableFault,
-) -> Option<R>
-    requires { (fault.now).table < length report.now.tables }
-    ensures same { F.files folder.new ≡ F.files folder.old }
-    ensures fault { IfSome result (λ reader. FoundAt (F.files folder.old) path.now (ReadsFault (R.remaining reader) report.now fault.now)) }
-{
-    let Some(reader) = folder.open(path) else {
-        return None;
-    };
-    if has_fault(alloc, report, fault, reader) {
-        folder.open(path)
-    } else {
-        None
-    }
-}
-
-/// Returns the record of a fault, if the file still has the fault.
-fn record_again<R: Read + Drop, F: Folder<R>>(
-    alloc: Global,
-    folder: &mut F,
-    path: &str,
-    report: &Report,
-    fault: &TableFault,
-) -> Result<Option<RowAgain>, AllocError>
-    requires { (fault.now).table < length report.now.tables }
-    ensures same { F.files folder.new ≡ F.files folder.old }
-    ensures row { IfOk result (λ o. IfSome o (λ a. FoundAt (F.files folder.old) path.now (HasRecordOf report.now fault.now a))) }
-{
-    match with_fault(alloc, folder, path, report, fault) {
-        Some(reader) => row_again(alloc, reader, fault.row as usize),
-        None => Ok(None),
     }
 }
 
@@ -131,29 +90,6 @@ pub fn table_path(
     path_in(alloc, folder_of(meta), report.table_url(table))
 }
 
-/// Returns what is in a record at the place of a fault. The file at this path is read again for the
-/// line of the record.
-fn place_again<R: Read + Drop, F: Folder<R>>(
-    alloc: Global,
-    folder: &mut F,
-    path: &str,
-    fault: &TableFault,
-    cells: &RowAgain,
-) -> Result<FaultPlace, AllocError>
-    ensures same { F.files folder.new ≡ F.files folder.old }
-    ensures header { IfOk result (λ p. p.header ≡ column_text (fields_of cells.now.header) (fault.now).column) }
-    ensures cell { IfOk result (λ p. p.cell ≡ column_text (fields_of cells.now.row) (fault.now).column) }
-    ensures line { IfOk result (λ p. HoldsAt (F.files folder.old) path.now (λ bytes. IsLineOf (fault.now).row bytes p.line)) }
-{
-    let line = line_again(alloc, folder, path, fault.row as usize);
-    let column = place_in_record(fault);
-    Ok(FaultPlace {
-        line,
-        header: field_as_text(alloc, &cells.header, column)?,
-        cell: field_as_text(alloc, &cells.row, column)?,
-    })
-}
-
 /// The record of a fault, read again, and what is at the fault's place.
 #[derive(Drop)]
 pub struct FaultRecord {
@@ -163,24 +99,60 @@ pub struct FaultRecord {
     pub place: FaultPlace,
 }
 
-/// Returns these cells with what is at the place of a fault in them.
-fn with_place<R: Read + Drop, F: Folder<R>>(
+/// Returns the readers of the file at a path for `BadRows`, if it can be opened.
+fn opened<R: Read + Drop, F: Folder<R>>(folder: &mut F, path: &str) -> Option<(R, R, R)>
+    ensures same { F.files folder.new ≡ F.files folder.old }
+    ensures readers { IfSome result (λ readers. FoundAt (F.files folder.old) path.now (AreReadersOf (R.remaining readers.0) (R.remaining readers.1) (R.remaining readers.2))) }
+{
+    Some((folder.open(path)?, folder.open(path)?, folder.open(path)?))
+}
+
+/// Opens the file at a path as that of the table at place `table` of the report. Returns `None` if
+/// it cannot be read again.
+pub fn bad_rows_at<'a, R: Read + Drop, F: Folder<R>>(
     alloc: Global,
     folder: &mut F,
     path: &str,
-    fault: &TableFault,
-    cells: RowAgain,
-) -> Result<Option<FaultRecord>, AllocError>
+    report: &'a Report,
+    table: usize,
+) -> Option<BadRows<'a, R>>
+    requires { table < length report.now.tables }
     ensures same { F.files folder.new ≡ F.files folder.old }
-    ensures cells { IfOk result (λ o. IfSome o (λ r. r.cells ≡ cells)) }
-    ensures header { IfOk result (λ o. IfSome o (λ r. r.place.header ≡ column_text (fields_of cells.header) (fault.now).column)) }
-    ensures cell { IfOk result (λ o. IfSome o (λ r. r.place.cell ≡ column_text (fields_of cells.row) (fault.now).column)) }
-    ensures line { IfOk result (λ o. IfSome o (λ r. HoldsAt (F.files folder.old) path.now (λ bytes. IsLineOf (fault.now).row bytes r.place.line))) }
+    ensures table { IfSome result (λ rows. rows.table ≡ table) }
+    ensures faults { IfSome result (λ rows. FoundAt (F.files folder.old) path.now (IsStartOf report.now table rows)) }
 {
-    match place_again(alloc, folder, path, fault, &cells) {
-        Ok(place) => Ok(Some(FaultRecord { cells, place })),
-        Err(error) => Err(error),
+    let (faults, cells, lines) = opened(folder, path)?;
+    BadRows::open(alloc, report, table, faults, cells, lines).ok()
+}
+
+/// Returns whether a fault that is found again is this one.
+fn is_same(found: TableFault, fault: &TableFault) -> bool
+    ensures { result ≡ true → found ≡ fault.now }
+{
+    found == *fault
+}
+
+/// Returns the record of a fault with its place, if it is the first of those that are left.
+fn first_record<R: Read + Drop>(
+    alloc: Global,
+    rows: &mut BadRows<'_, R>,
+    fault: &TableFault,
+) -> Result<Option<FaultRecord>, AllocError>
+    ensures { IfOk result (λ o. IfSome o (IsFirstIn rows.old fault.now)) }
+{
+    let Ok(Some(located)) = rows.next_row(alloc) else {
+        return Ok(None);
+    };
+    let Some(first) = located.as_slice().first() else {
+        return Ok(None);
+    };
+    if is_same(first.fault, fault) {
+        return Ok(Some(FaultRecord {
+            cells: rows.cells().copied()?,
+            place: first.place.copied()?,
+        }));
     }
+    Ok(None)
 }
 
 /// Returns the record of a fault in the table's file at this path, and what is at its place. The
@@ -203,8 +175,9 @@ pub fn fault_record<R: Read + Drop, F: Folder<R>>(
     if is_of_file(fault.kind) {
         return Ok(None);
     }
-    match record_again(alloc, folder, path, report, fault)? {
-        Some(cells) => with_place(alloc, folder, path, fault, cells),
+    first_fault_is_of_stream();
+    match bad_rows_at(alloc, folder, path, report, fault.table) {
+        Some(mut rows) => first_record(alloc, &mut rows, fault),
         None => Ok(None),
     }
 }

@@ -4,7 +4,7 @@ ghost use Rattle.std.specs.Prelude.{◌≡◌, [], IfOk};
 ghost use Rattle.std.specs.Fmt.{decimal};
 ghost use Rattle.csv.specs.Records.{fields_of, partial_of};
 ghost use Rattle.csv.specs.Writing.{default_writer, row_text};
-ghost use Rattle.oim_places.specs.FaultRows.{IsRecordText, fault_fields, fault_names, line_field, report_fault_fields};
+ghost use Rattle.oim_places.specs.FaultRows.{IsRecordText, fault_fields, fault_names, line_field, more_fields, report_fault_fields};
 ghost use Rattle.oim_places.specs.state.FaultRows.{PutsField};
 
 use crate::fault_places::FaultPlace;
@@ -17,7 +17,7 @@ use std::alloc::{AllocError, Global};
 pub fn fault_header() -> &'static str
     ensures { IsRecordText fault_names result.now }
 {
-    "table,row,column,number,name,line,header,cell,place\n"
+    "table_id,table_row,table_column,fault_number,fault_name,line,header_cell,row_cell,place\n"
 }
 
 /// Returns the text of a record.
@@ -114,6 +114,32 @@ pub fn fault_row(
 {
     let mut row = ByteRecord::new(alloc);
     put_fields(alloc, &mut row, id, fault, place)?;
+    record_text(alloc, &row)
+}
+
+/// Puts the fields of the record that ends the list of a table with more faults into an empty one.
+fn put_more_fields(alloc: Global, row: &mut ByteRecord, id: &str) -> Result<(), AllocError>
+    requires { (fields_of row.old ≡ []) × (partial_of row.old ≡ []) }
+    ensures { IfOk result (λ u. fields_of row.new ≡ more_fields id.now) }
+{
+    row.push_field(id.as_bytes())?;
+    put_number(alloc, row, 0)?;
+    put_number(alloc, row, 0)?;
+    put_number(alloc, row, 0)?;
+    row.push_field(b"MoreFaults")?;
+    row.push_field(b"")?;
+    row.push_field(b"")?;
+    row.push_field(b"")?;
+    row.push_field(b"")
+}
+
+/// Returns the record that ends the list of a table with more faults than are listed: the table's
+/// identifier, 0, 0 and 0, the name MoreFaults, and four empty fields, with a line feed.
+pub fn more_faults_row(alloc: Global, id: &str) -> Result<Vec<u8>, AllocError>
+    ensures { IfOk result (λ v. IsRecordText (more_fields id.now) v.items) }
+{
+    let mut row = ByteRecord::new(alloc);
+    put_more_fields(alloc, &mut row, id)?;
     record_text(alloc, &row)
 }
 

@@ -5,7 +5,7 @@ ghost use Rattle.oim_places.specs.FilePlaces.{cell_part, line_part, place_text};
 ghost use Rattle.oim_places.specs.FolderFiles.{HoldsAt};
 ghost use Rattle.oim_places.specs.LineNumbers.{IsLineOf};
 
-use crate::line_number::line_of;
+use crate::record_lines::RecordLines;
 use crate::terminal::shown;
 use oim_files::Folder;
 use std::alloc::{AllocError, Global};
@@ -66,8 +66,6 @@ pub fn line_again<R: Read + Drop, F: Folder<R>>(
     ensures same { F.files folder.new ≡ F.files folder.old }
     ensures line { HoldsAt (F.files folder.old) path.now (λ bytes. IsLineOf number bytes result) }
 {
-    match folder.open(path) {
-        Some(reader) => line_of(alloc, reader, number),
-        None => None,
-    }
+    let mut lines = RecordLines::open(alloc, folder.open(path)?).ok()?;
+    lines.line_of(number).unwrap_or(None)
 }

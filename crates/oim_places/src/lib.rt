@@ -1,16 +1,20 @@
-//! Places in the files of a report, which are read again: where the fault of a table is, what is
-//! there, and its record in the file of faults. Places and what is at them are texts that are safe
-//! to show on a terminal.
+//! Places in the files of a report, which are read again: where the faults of a table are, what is
+//! there, and their records in the file of faults. Places and what is at them are texts that are
+//! safe to show on a terminal.
 //!
 //! What is proved:
 //!
+//! - `BadRows` gives all faults of a table's file in order, by the definition of `oim_table_faults`,
+//!   row by row, each with its line and its cells of the header and of the row. It ends early only
+//!   if a reader fails or memory runs out (`specs/FaultLists.antt`);
 //! - over a folder whose files are known, `fault_place` names a place in a table's file only if the
 //!   file's first fault is that fault, by the definition of the table's stream. It gives the line
 //!   of the fault's record, if that is known, and the cells of the header and of the row in its
 //!   column (`specs/FaultPlaces.antt`). The same holds for `fault_record`, which also gives that
 //!   record and the header;
 //! - `report_again` gives the report that the files give (`specs/Reports.antt`);
-//! - the line of a record (`line_of_record`), which `line_again` gives, is that of its first byte
+//! - the line of a record (`line_of_record`), which `line_again` and `BadRows` give, is that of its
+//!   first byte
 //!   (`lines_are_of_records`, `specs/LineNumbers.antt`);
 //! - `fault_row` and `report_fault_row` give the record of a fault in the file of faults. It is
 //!   read as its nine fields, whatever follows it (`specs/FaultRows.antt`);
@@ -40,6 +44,7 @@
 //! ```
 #![tactic(auto)]
 
+mod bad_rows;
 mod cells;
 mod excerpts;
 mod fault_places;
@@ -49,21 +54,26 @@ mod json_values;
 mod line_number;
 mod parts;
 mod pointers;
+mod record_lines;
+mod record_walk;
 mod records;
 mod reread;
 mod terminal;
 
+pub use bad_rows::{BadRows, LocatedFault, fault_records_are_by_row};
 pub use cells::{cell_shown, record_shown, text_at};
 pub use excerpts::excerpt;
 pub use fault_places::{
-    FaultPlace, FaultRecord, fault_place, fault_record, is_of_file, place_in_record, table_path,
+    FaultPlace, FaultRecord, bad_rows_at, fault_place, fault_record, is_of_file, place_in_record,
+    table_path,
 };
-pub use fault_rows::{fault_header, fault_row, report_fault_row};
+pub use fault_rows::{fault_header, fault_row, more_faults_row, report_fault_row};
 pub use file_places::{line_again, place_in_file};
 pub use json_values::{quoted, standing};
 pub use line_number::lines_are_of_records;
 pub use parts::part_at;
 pub use pointers::{pointer, pointer_to};
-pub use records::{RowAgain, first_record_with};
+pub use record_walk::RowAgain;
+pub use records::first_record_with;
 pub use reread::{ReportAgain, report_again};
 pub use terminal::shown;

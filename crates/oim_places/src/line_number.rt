@@ -1,13 +1,11 @@
 //! The line of a file at which a record begins, counted over its bytes.
 
-ghost use Rattle.std.specs.Prelude.{◌≡◌, IfSome, Some, fold};
+ghost use Rattle.std.specs.Prelude.{◌≡◌, ◌≤◌, IfSome, false, fold, length, take, true};
 ghost use Rattle.oim_records.specs.Lines.{ends_line};
 ghost use Rattle.oim_places.specs.LineNumbers as spec;
-ghost use Rattle.oim_places.specs.LineNumbers.{IsLineOf, after_byte, after_spot, counter_for};
-
-use oim_records::PieceReader;
-use std::alloc::Global;
-use std::io::Read;
+ghost use Rattle.oim_places.specs.LineNumbers.{after_byte, after_spot, counter_for};
+ghost use Rattle.oim_places.specs.state.RecordLines as steps;
+ghost use Rattle.oim_places.specs.state.RecordLines.{StopsAt};
 
 /// Where the next byte of a file of records is.
 #[derive(Clone, Copy)]
@@ -146,12 +144,45 @@ impl LineCounter {
         }
     }
 
-    /// Reads more bytes of the file.
-    pub(crate) fn pass(&mut self, bytes: &[u8])
-        ensures { self.new ≡ fold after_byte self.old bytes.now }
+    /// Reads bytes of the file until the record begins, at most all. Returns the counter after them
+    /// and how many they are.
+    pub(crate) fn until_begun(self, bytes: &[u8]) -> (LineCounter, usize)
+        requires { self.has_begun ≡ false }
+        ensures within { result.1 ≤ length bytes.now }
+        ensures counter { result.0 ≡ fold after_byte self (take result.1 bytes.now) }
+        ensures found { result.0.has_begun ≡ true → StopsAt self bytes.now result.1 }
+        ensures all { result.0.has_begun ≡ false → result.1 ≡ length bytes.now }
     {
-        for byte in bytes {
-            *self = self.next(*byte);
+        let mut lines = self;
+        let mut at = 0;
+        while at < bytes.len() {
+            lines = lines.next(bytes[at]);
+            at += 1;
+            if lines.has_begun {
+                return (lines, at);
+            }
+        }
+        (lines, at)
+    }
+
+    /// Returns the counter for the record that many after the one that is looked for, which has not
+    /// begun. Returns `None` if the number is too large.
+    pub(crate) fn further(self, records: usize) -> Option<LineCounter>
+        ensures { IfSome result (λ c. c ≡ steps.further records self) }
+    {
+        Some(LineCounter {
+            before: self.before.checked_add(records)?,
+            ..self
+        })
+    }
+
+    /// Returns the counter for the next record, after the first byte of the one that has begun.
+    pub(crate) fn resumed(self) -> LineCounter
+        ensures { result ≡ steps.resumed self }
+    {
+        LineCounter {
+            has_begun: false,
+            ..self
         }
     }
 
@@ -165,31 +196,6 @@ impl LineCounter {
             None
         }
     }
-}
-
-/// How many bytes of a file are looked at once, or some thousand more, up to the end of a record.
-const PIECE: usize = 65_536;
-
-/// Returns the line at which the record with this number begins. The header has number 0. Returns
-/// `None` if the record does not exist, the reader fails, or memory runs out.
-pub(crate) fn line_of<R: Read + Drop>(alloc: Global, reader: R, number: usize) -> Option<u64>
-    ensures { IfSome (R.remaining reader) (λ bytes. IsLineOf number bytes result) }
-{
-    let mut pieces = PieceReader::new(alloc, reader);
-    if pieces.skip_mark().is_err() {
-        return None;
-    }
-    let mut lines = LineCounter::of(number);
-    for _ in 0..u64::MAX {
-        let Ok(Some(piece)) = pieces.next(PIECE, false) else {
-            return None;
-        };
-        lines.pass(piece.bytes.as_slice());
-        if let Some(line) = lines.line() {
-            return Some(line);
-        }
-    }
-    None
 }
 
 /// Proves that the line of a record (`line_of_record`) is that of its first byte.

@@ -60,7 +60,7 @@ abbrev least : List Text
 least = codes "m.json" ∷ codes "--types" ∷ codes "t.csv" ∷ []
 
 abbrev full : List Text
-full = codes "--out" ∷ codes "o.json" ∷ codes "--workers" ∷ codes "64" ∷ codes "--ring=2" ∷ codes "--layout" ∷ codes "lines" ∷ codes "--progress" ∷ codes "--whole" ∷ codes "--explain" ∷ codes "--no-explain" ∷ codes "--faults" ∷ codes "f.csv" ∷ codes "--counts" ∷ codes "c.json" ∷ least
+full = codes "--out" ∷ codes "o.json" ∷ codes "--workers" ∷ codes "64" ∷ codes "--ring=2" ∷ codes "--layout" ∷ codes "lines" ∷ codes "--progress" ∷ codes "--whole" ∷ codes "--explain" ∷ codes "--no-explain" ∷ codes "--faults" ∷ codes "f.csv" ∷ codes "--most-faults" ∷ codes "7" ∷ codes "--counts" ∷ codes "c.json" ∷ least
 
 abbrev given : List Text → List Row
 given words = matches_of (command_line layouts) words
@@ -174,6 +174,14 @@ least_faults = refl
 full_faults : first_of (codes "faults") (given full) ≡ Some (codes "f.csv")
 unfolding clap_on_literals command_line
 full_faults = refl
+
+least_most_faults : one_of (codes "most-faults") (given least) ≡ Some (codes "1000000")
+unfolding clap_on_literals command_line
+least_most_faults = refl
+
+full_most_faults : one_of (codes "most-faults") (given full) ≡ Some (codes "7")
+unfolding clap_on_literals command_line
+full_most_faults = refl
 
 least_counts : first_of (codes "counts") (given least) ≡ None
 unfolding clap_on_literals command_line

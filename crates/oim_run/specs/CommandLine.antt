@@ -52,10 +52,15 @@ inputs = with_rule
 abbrev pub AreLayouts : Words → Type 0
 AreLayouts words = map (λ w. w.now) words.now ≡ codes "compact" ∷ codes "lines" ∷ []
 
+-- The largest value of `--most-faults`.
+abbrev pub largest_fault_count : ℕ
+largest_fault_count = 4294967295
+
 -- META --types FILE [--workers N] [--ring K] [--out FILE] [--whole] [--layout compact|lines]
--- [--progress] [--explain] [--no-explain] [--faults FILE] [--counts FILE]
+-- [--progress] [--explain] [--no-explain] [--faults FILE] [--most-faults N] [--counts FILE]
 unfoldable pub command_line : Words → App
 command_line layouts = with_rule
+    (with_rule
     (with_rule
     (with_rule
     (with_rule
@@ -74,6 +79,7 @@ command_line layouts = with_rule
     (flag (codes "explain")))
     (flag (codes "no-explain")))
     (option (codes "faults")))
+    (number_option (codes "most-faults") largest_fault_count (codes "1000000")))
     (option (codes "counts"))
 
 -- The option has a text, which is n in decimal digits.
@@ -100,8 +106,8 @@ HasSettings rows s = (first_of (codes "meta") rows ≡ Some s.meta)
     × (first_of (codes "out") rows ≡ s.out)
     × IsLayoutOf (first_of (codes "layout") rows) s.layout
 
--- The request: the settings, the flags that do not concern a run, and the files of the faults and
--- of the counts.
+-- The request: the settings, the flags that do not concern a run, the file of the faults with the
+-- most faults of a table, and the file of the counts.
 abbrev pub HasRequest : List Row → Request → Type 0
 HasRequest rows q = HasSettings rows q.settings
     × (q.whole ≡ is_given (first_of (codes "whole") rows))
@@ -109,6 +115,7 @@ HasRequest rows q = HasSettings rows q.settings
     × (q.explain ≡ is_given (first_of (codes "explain") rows))
     × (q.no_explain ≡ is_given (first_of (codes "no-explain") rows))
     × (first_of (codes "faults") rows ≡ q.faults)
+    × IsNumberOf (one_of (codes "most-faults") rows) q.most_faults
     × (first_of (codes "counts") rows ≡ q.counts)
 
 -- Whether explanations are printed, by whether --explain and --no-explain are given and whether

@@ -8,7 +8,9 @@ ghost use Rattle.oim_ring.specs.Limits.{IsRingSize};
 ghost use Rattle.oim_run.specs.CommandLine as spec;
 ghost use Rattle.oim_run.specs.CommandLine.{Answers, AreLayouts, HasRequest, HasSettings, Words, command_line};
 
-use crate::settings::{Settings, command, is_given, path_of, settings_in};
+use crate::settings::{
+    LARGEST_FAULT_COUNT, Settings, command, is_given, number_between, path_of, settings_in,
+};
 use clap::{ArgMatches, Error};
 use oim_names::Text;
 use std::alloc::{AllocError, Global};
@@ -31,6 +33,8 @@ pub struct Request {
     pub no_explain: bool,
     /// The path of the file for the faults (`--faults`), or `None`.
     pub faults: Option<Text>,
+    /// How many faults of one table that file gets at most (`--most-faults`).
+    pub most_faults: usize,
     /// The path of the file for the counts (`--counts`), or `None`.
     pub counts: Option<Text>,
 }
@@ -52,6 +56,9 @@ fn request_in(alloc: Global, matches: &ArgMatches<'_>) -> Result<Option<Request>
     ensures workers { IfOk result (λ o. IfSome o (λ q. IsWorkerCount q.settings.workers)) }
     ensures ring { IfOk result (λ o. IfSome o (λ q. IsRingSize q.settings.ring)) }
 {
+    let Some(most_faults) = number_between(matches, "most-faults", 1, LARGEST_FAULT_COUNT) else {
+        return Ok(None);
+    };
     match settings_in(alloc, matches)? {
         Some(settings) => Ok(Some(Request {
             settings,
@@ -60,6 +67,7 @@ fn request_in(alloc: Global, matches: &ArgMatches<'_>) -> Result<Option<Request>
             explain: is_given(matches, "explain"),
             no_explain: is_given(matches, "no-explain"),
             faults: path_of(alloc, matches, "faults")?,
+            most_faults,
             counts: path_of(alloc, matches, "counts")?,
         })),
         None => Ok(None),
@@ -90,9 +98,9 @@ fn request_by<'a>(
 
 /// Reads the command line's arguments, without the program's name: `META --types FILE [--workers N]
 /// [--ring K] [--out FILE] [--whole] [--layout compact|lines] [--progress] [--explain]
-/// [--no-explain] [--faults FILE] [--counts FILE]`. The defaults are 4 workers, rings of 1,024
-/// blocks and the compact layout. There are 1 to 64 workers, and a ring's size is 1 to 65,536
-/// blocks.
+/// [--no-explain] [--faults FILE] [--most-faults N] [--counts FILE]`. The defaults are 4 workers,
+/// rings of 1,024 blocks, the compact layout and 1,000,000 faults. There are 1 to 64 workers, a
+/// ring's size is 1 to 65,536 blocks, and the most faults are 1 to 4,294,967,295.
 ///
 /// Fails exactly if the definition of the command line refuses the arguments, with one of its
 /// kinds, if they ask for help or the version, or if memory runs out. The error has the text to

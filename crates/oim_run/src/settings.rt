@@ -15,7 +15,7 @@ use oim_names::Text;
 use std::alloc::{AllocError, Global};
 
 /// The program's version, and the kit that proves it, as `rt version` prints it.
-pub const VERSION: &str = "0.21.0 (proved with rattle-kit-13f logic dac8208d650f15bf)";
+pub const VERSION: &str = "0.22.0 (proved with rattle-kit-13f logic dac8208d650f15bf)";
 
 /// The help of each argument.
 const META_HELP: &str = "The metadata file of the report";
@@ -41,7 +41,9 @@ const EXPLAIN_HELP: &str =
 
 const NO_EXPLAIN_HELP: &str = "Print the faults alone, also on a terminal";
 
-const FAULTS_HELP: &str = "The file for the faults, as CSV";
+const FAULTS_HELP: &str = "The file for all faults of all tables, as CSV";
+
+const MOST_FAULTS_HELP: &str = "How many faults of one table FILE of --faults gets";
 
 const COUNTS_HELP: &str = "The file for the facts and rows of each table, as JSON";
 
@@ -71,6 +73,9 @@ Exit status:
   2  the command line is wrong
   3  META, the types table or the parameters file cannot be opened, an output
      cannot be written, or memory ran out"#;
+
+/// The largest value of `--most-faults`.
+pub(crate) const LARGEST_FAULT_COUNT: usize = 4_294_967_295;
 
 /// The settings of a run.
 #[derive(Drop)]
@@ -218,6 +223,15 @@ pub(crate) fn command<'a>(alloc: Global, layouts: &'a [&'a str]) -> Result<Comma
     let no_explain = flag(alloc, "no-explain", NO_EXPLAIN_HELP);
     let command = with(command, no_explain);
     let command = with(command, option(alloc, "faults", "FILE", FAULTS_HELP));
+    let most_faults = number_option(
+        alloc,
+        "most-faults",
+        "N",
+        LARGEST_FAULT_COUNT as u64,
+        "1000000",
+        MOST_FAULTS_HELP,
+    );
+    let command = with(command, most_faults);
     with(command, option(alloc, "counts", "FILE", COUNTS_HELP))
 }
 
@@ -253,7 +267,12 @@ pub(crate) fn is_given(matches: &ArgMatches<'_>, id: &str) -> bool
 }
 
 /// Returns the number that the option `id` has, if it is between `least` and `most`.
-fn number_between(matches: &ArgMatches<'_>, id: &str, least: usize, most: usize) -> Option<usize>
+pub(crate) fn number_between(
+    matches: &ArgMatches<'_>,
+    id: &str,
+    least: usize,
+    most: usize,
+) -> Option<usize>
     ensures { IfSome result (λ n. (least ≤ n) × (n ≤ most)
         × IsNumberOf (one_of id.now (rows_of (found_of matches.now))) n) }
 {

@@ -5,12 +5,13 @@ use oim_files::Texts;
 use oim_meta::Records;
 use oim_names::Text;
 use oim_places::{
-    FaultPlace, FaultRecord, ReportAgain, RowAgain, cell_shown, excerpt, fault_place, fault_record,
-    first_record_with, is_of_file, line_again, part_at, place_in_file, place_in_record, pointer,
-    pointer_to, quoted, record_shown, report_again, standing, table_path, text_at,
+    BadRows, FaultPlace, FaultRecord, LocatedFault, ReportAgain, RowAgain, bad_rows_at, cell_shown,
+    excerpt, fault_place, fault_record, fault_records_are_by_row, first_record_with, is_of_file,
+    line_again, more_faults_row, part_at, place_in_file, place_in_record, pointer, pointer_to,
+    quoted, record_shown, report_again, standing, table_path, text_at,
 };
 use oim_rows::{TableFault, TableKind};
-use oim_run::{METADATA, TYPES};
+use oim_run::{ListedFaults, METADATA, RefusedTable, TYPES, list_faults};
 use serde_json::Value;
 use std::alloc::{AllocError, Global};
 
@@ -67,12 +68,81 @@ fn finds_a_record(
     }
 }
 
+/// Returns whether these are one fault in the second line.
+fn is_in_the_second_line(located: &[LocatedFault]) -> bool {
+    match located.first() {
+        Some(first) => located.len() == 1 && first.place.line == Some(2),
+        None => false,
+    }
+}
+
+/// Returns whether a copy of the records at hand has that cell.
+fn copies_the_cell(rows: &BadRows<'_, &[u8]>) -> bool {
+    match rows.cells().copied() {
+        Ok(cells) => has_the_cell(&cells),
+        Err(_) => false,
+    }
+}
+
+/// Returns whether the rows are one bad row in the second line, with that cell.
+fn is_one_row(alloc: Global, rows: &mut BadRows<'_, &[u8]>) -> bool {
+    let is_there = match rows.next_row(alloc) {
+        Ok(Some(located)) => is_in_the_second_line(located.as_slice()),
+        _ => false,
+    };
+    is_there && copies_the_cell(rows) && matches!(rows.next_row(alloc), Ok(None))
+}
+
+/// Returns whether the table's file has one bad row.
+fn lists_the_row(alloc: Global, folder: &mut Texts<'_>, again: &ReportAgain) -> bool {
+    if again.report.tables() == 0 {
+        return false;
+    }
+    match bad_rows_at(alloc, folder, "f/t1.csv", &again.report, 0) {
+        Some(mut rows) => is_one_row(alloc, &mut rows),
+        None => false,
+    }
+}
+
+/// Returns whether a list has one fault and is whole.
+fn is_of_one(listed: ListedFaults) -> bool {
+    listed.count == 1 && !listed.is_cut
+}
+
+/// Returns whether the table has one record in the file of faults.
+fn lists_the_record(alloc: Global, folder: &mut Texts<'_>, again: &ReportAgain) -> bool {
+    let table = RefusedTable {
+        meta: "f/m.json",
+        id: "t1",
+        fault: &FAULT,
+        most: 1,
+    };
+    let mut records = Vec::new(alloc);
+    let is_listed = match list_faults(alloc, folder, again, table, &mut records) {
+        Ok(listed) => is_of_one(listed),
+        Err(_) => false,
+    };
+    is_listed && records.as_slice() == b"t1,1,1,40,BadNumber,2,cash,x,\n"
+}
+
+/// Returns whether the record of a cut list is this one.
+fn ends_a_list(alloc: Global) -> bool {
+    fault_records_are_by_row();
+    match more_faults_row(alloc, "t1") {
+        Ok(record) => record.as_slice() == b"t1,0,0,0,MoreFaults,,,,\n",
+        Err(_) => false,
+    }
+}
+
 /// Returns whether both are found in the files of a folder.
 fn finds_the_fault(alloc: Global, folder: &mut Texts<'_>) -> bool {
     match report_again(alloc, "f/m.json", "t.csv", folder) {
         Ok(again) => {
             let is_there = matches!(finds_the_cell(alloc, folder, &again, &FAULT), Ok(true));
-            is_there && finds_a_record(alloc, folder, &again, &FAULT)
+            is_there
+                && finds_a_record(alloc, folder, &again, &FAULT)
+                && lists_the_row(alloc, folder, &again)
+                && lists_the_record(alloc, folder, &again)
         }
         Err(_) => false,
     }
@@ -101,7 +171,7 @@ fn hold(alloc: Global) -> bool {
         ("f/t1.csv", b"cash\nx\n".as_slice()),
     ];
     let folder = &mut Texts { files: &files };
-    finds_the_fault(alloc, folder) && tells_the_line(alloc, folder)
+    finds_the_fault(alloc, folder) && tells_the_line(alloc, folder) && ends_a_list(alloc)
 }
 
 #[test]

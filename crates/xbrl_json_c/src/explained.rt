@@ -6,8 +6,8 @@ use oim_meta::Finding;
 use oim_names::Text;
 use oim_rows::TableFault;
 use oim_run::{
-    EarlyFault, Explanation, FaultPlace, MOST_TABLES, Outcome, ReportAgain, Source,
-    explained_faults, explanation_text, fault_header, fault_place, fault_row, line, lines_below,
+    EarlyFault, Explanation, FaultPlace, MOST_TABLES, Outcome, RefusedTable, ReportAgain, Source,
+    explained_faults, explanation_text, fault_header, fault_row, line, lines_below, list_faults,
     report_again, report_explanation, report_fault_row, status, table_line,
 };
 use std::alloc::{AllocError, Global};
@@ -86,48 +86,44 @@ fn lines_of_tables(
     Ok(lines)
 }
 
-/// Returns the place of a table's fault, which has no line, header and cell if the report cannot be
-/// read again.
-fn place_of(
-    alloc: Global,
-    mut files: Files<'_>,
-    meta: &str,
-    again: &Result<ReportAgain, EarlyFault>,
-    fault: &TableFault,
-) -> Result<FaultPlace, AllocError> {
-    match again {
-        Ok(again) => fault_place(alloc, meta, &mut files, again, fault),
-        Err(_) => FaultPlace::unknown(alloc),
-    }
-}
+/// How many faults of one table are listed at most, as without `--most-faults`.
+const MOST_FAULTS: usize = 1_000_000;
 
-/// Returns the record of a table's fault.
-fn record_of(
+/// Appends the records of a refused table's faults.
+fn put_faults(
     alloc: Global,
-    files: Files<'_>,
-    meta: &str,
+    files: &mut Files<'_>,
     again: &Result<ReportAgain, EarlyFault>,
-    id: &str,
-    fault: &TableFault,
-) -> Result<Vec<u8>, AllocError> {
-    match place_of(alloc, files, meta, again, fault) {
-        Ok(place) => fault_row(alloc, id, fault, &place),
-        Err(error) => Err(error),
+    table: RefusedTable<'_>,
+    to: &mut Vec<u8>,
+) -> Result<(), AllocError> {
+    let Ok(again) = again else {
+        let place = FaultPlace::unknown(alloc)?;
+        return put_record(to, fault_row(alloc, table.id, table.fault, &place));
+    };
+    match list_faults(alloc, files, again, table, to) {
+        Ok(_) => Ok(()),
+        Err(_) => Err(AllocError),
     }
 }
 
 /// Returns the header and the records of refused tables.
 fn records_of_tables(
     alloc: Global,
-    files: Files<'_>,
+    mut files: Files<'_>,
     meta: &str,
     again: &Result<ReportAgain, EarlyFault>,
     tables: &[(Text, TableFault)],
 ) -> Result<Vec<u8>, AllocError> {
     let mut records = Vec::from_slice(alloc, fault_header().as_bytes())?;
     for (id, fault) in tables {
-        let record = record_of(alloc, files, meta, again, id.as_str(), fault);
-        put_record(&mut records, record)?;
+        let table = RefusedTable {
+            meta,
+            id: id.as_str(),
+            fault,
+            most: MOST_FAULTS,
+        };
+        put_faults(alloc, &mut files, again, table, &mut records)?;
     }
     Ok(records)
 }

@@ -1,19 +1,18 @@
-//! Prints the places and causes of a run's faults. It reads the report's files again, and returns
-//! what the file of faults has too.
+//! Prints the places and causes of a run's faults, for which it reads the report's files again.
 //!
 //! Not proved: all of this file.
 
 use crate::colours::Colours;
 use crate::files_again::FilesAgain;
+use crate::known::{Found, Known, KnownTables};
 use crate::reason::{why_unread, why_unwritten};
 use crate::write_failure::WriteFailure;
 use oim_meta::{Finding, MetaFault};
 use oim_names::Text;
 use oim_rows::TableFault;
 use oim_run::{
-    EarlyFault, ExplainedFault, Explanation, MOST_TABLES, Outcome, ReportAgain, Settings, Source,
-    explained_faults, explanation_text, lines_below, report_again, report_explanation, shown,
-    table_line,
+    ExplainedFault, ListedFaults, MOST_TABLES, Outcome, Request, Settings, Source,
+    explained_faults, explanation_text, lines_below, report_explanation, shown, table_line,
 };
 use std::alloc::{AllocError, Global};
 use std::fs;
@@ -27,43 +26,14 @@ const CHANGED: &str = "    the report cannot be read again, or has changed\n";
 /// What is printed if memory runs out for an explanation.
 const NO_MEMORY: &str = "    memory ran out for an explanation\n";
 
-/// What the explanation of a run's faults found out, which the file of faults has too.
-#[derive(Drop)]
-pub enum Known {
-    /// Nothing.
-    Nothing,
-    /// The explanation of the fault of the metadata, the types table or the parameters file.
-    Report(Explanation),
-    /// What was found out about refused tables.
-    Tables(KnownTables),
-}
-
-/// The report of a run with refused tables, read again.
-#[derive(Drop)]
-pub struct KnownTables {
-    /// The report, or why it cannot be read again.
-    pub report: Result<ReportAgain, EarlyFault>,
-    /// What was found out about the faults of the first tables.
-    pub told: Vec<ExplainedFault>,
-}
-
-impl KnownTables {
-    /// Reads the report again.
-    pub fn read(alloc: Global, settings: &Settings, files: &mut FilesAgain<'_>) -> KnownTables {
-        let (meta, types) = (settings.meta.as_str(), settings.types.as_str());
-        KnownTables {
-            report: report_again(alloc, meta, types, files),
-            told: Vec::new(alloc),
-        }
-    }
-}
-
 /// What explains the faults of a run.
 #[derive(Drop)]
 pub struct Explainer<'a> {
     rt: &'a HostRuntime,
     alloc: Global,
     settings: &'a Settings,
+    /// The path of the file of faults, if there is one.
+    faults: Option<&'a str>,
     colours: Colours,
     failure: &'a WriteFailure,
 }
@@ -74,13 +44,18 @@ impl<'a> Explainer<'a> {
     pub fn new(
         rt: &'a HostRuntime,
         alloc: Global,
-        settings: &'a Settings,
+        request: &'a Request,
         failure: &'a WriteFailure,
     ) -> Explainer<'a> {
+        let faults = match &request.faults {
+            Some(path) => Some(path.as_str()),
+            None => None,
+        };
         Explainer {
             rt,
             alloc,
-            settings,
+            settings: &request.settings,
+            faults,
             colours: Colours::of(rt),
             failure,
         }
@@ -96,27 +71,29 @@ impl<'a> Explainer<'a> {
         }
     }
 
-    /// Prints the explanation below the line of a fault of the metadata, the types table or the
-    /// parameters file, and returns it.
-    fn explain_early(
+    /// Returns the lines of the explanation of a fault of the metadata, the types table or the
+    /// parameters file, whose file is read again if nothing is known.
+    fn early_lines(
         &self,
-        files: &mut FilesAgain<'_>,
+        found: &mut Found<'_>,
         source: Source,
         finding: &Finding,
-    ) -> Known {
+    ) -> Result<String, AllocError> {
+        if let Known::Report(explanation) = &found.known {
+            return explanation_text(self.alloc, explanation);
+        }
         let (meta, types) = (self.settings.meta.as_str(), self.settings.types.as_str());
-        match report_explanation(self.alloc, meta, types, files, source, finding) {
-            Ok(explanation) => {
-                self.print(explanation_text(self.alloc, &explanation));
-                if matches!(source, Source::Report) && finding.fault == MetaFault::Read {
-                    self.explain_folder(meta);
-                }
-                Known::Report(explanation)
-            }
-            Err(_) => {
-                let _ = self.rt.eprint(NO_MEMORY);
-                Known::Nothing
-            }
+        let files = &mut found.files;
+        let told = report_explanation(self.alloc, meta, types, files, source, finding)?;
+        explanation_text(self.alloc, &told)
+    }
+
+    /// Prints the explanation below the line of a fault of the metadata, the types table or the
+    /// parameters file.
+    fn explain_early(&self, found: &mut Found<'_>, source: Source, finding: &Finding) {
+        self.print(self.early_lines(found, source, finding));
+        if matches!(source, Source::Report) && finding.fault == MetaFault::Read {
+            self.explain_folder(self.settings.meta.as_str());
         }
     }
 
@@ -146,18 +123,15 @@ impl<'a> Explainer<'a> {
         self.print(line);
     }
 
-    /// Prints the explanation below the line of an outcome without refused tables, and returns what
-    /// it found out.
-    pub fn explain_fault(&self, files: &mut FilesAgain<'_>, outcome: &Outcome) -> Known {
+    /// Prints the explanation below the line of an outcome without refused tables. `found` has what
+    /// is known of its fault.
+    pub fn explain_fault(&self, found: &mut Found<'_>, outcome: &Outcome) {
         let reason = match outcome {
-            Outcome::Done | Outcome::Tables(_) => return Known::Nothing,
+            Outcome::Done | Outcome::Tables(_) => return,
             Outcome::Report(source, finding) => {
-                return self.explain_early(files, *source, finding);
+                return self.explain_early(found, *source, finding);
             }
-            Outcome::Output(_) => {
-                self.explain_write();
-                return Known::Nothing;
-            }
+            Outcome::Output(_) => return self.explain_write(),
             Outcome::CannotRead(path) => why_unread(self.rt, path.as_str()),
             Outcome::CannotWrite(path) => match self.failure.noted() {
                 Some(why) => why,
@@ -166,7 +140,6 @@ impl<'a> Explainer<'a> {
             Outcome::Run(fault) => fault.explanation(),
         };
         let _ = eprint!(self.rt; "    {reason}\n");
-        Known::Nothing
     }
 
     /// Prints the line of a refused table, unless memory runs out for it.
@@ -176,45 +149,89 @@ impl<'a> Explainer<'a> {
         }
     }
 
+    /// Returns the line that names how many more faults of a table the file of faults has.
+    fn more_line(&self, path: &str, listed: ListedFaults) -> Result<String, AllocError> {
+        let more = listed.count.saturating_sub(1);
+        let path = shown(self.alloc, path)?;
+        let path = path.as_str();
+        if listed.is_cut {
+            return format!(in self.alloc;
+                "    and more than {more} others in this table: see {path}\n"
+            );
+        }
+        format!(in self.alloc; "    and {more} more in this table: see {path}\n")
+    }
+
+    /// Prints how many more faults of a table the file of faults has, if that is known.
+    fn print_more(&self, known: &KnownTables, index: usize) {
+        let (Some(path), Some(listed)) = (self.faults, known.listed.get(index)) else {
+            return;
+        };
+        if listed.count > 1 || listed.is_cut {
+            match self.more_line(path, *listed) {
+                Ok(line) => {
+                    let _ = self.rt.eprint(line.as_str());
+                }
+                Err(_) => {
+                    let _ = self.rt.eprint(NO_MEMORY);
+                }
+            }
+        }
+    }
+
+    /// Returns what is told of each of the first `MOST_TABLES`, or nothing if the report cannot be
+    /// read again or memory runs out.
+    fn told_of(
+        &self,
+        files: &mut FilesAgain<'_>,
+        known: &KnownTables,
+        tables: &[(Text, TableFault)],
+    ) -> Vec<ExplainedFault> {
+        let meta = self.settings.meta.as_str();
+        match &known.report {
+            Ok(report) => match explained_faults(self.alloc, meta, files, report, tables) {
+                Ok(told) => told,
+                Err(_) => Vec::new(self.alloc),
+            },
+            Err(_) => Vec::new(self.alloc),
+        }
+    }
+
     /// Prints the line of each refused table, with what is told of each of the first `MOST_TABLES`.
-    /// Returns what it found out.
     fn explain_each(
         &self,
         files: &mut FilesAgain<'_>,
+        known: &KnownTables,
         tables: &[(Text, TableFault)],
-    ) -> KnownTables {
-        let mut known = KnownTables::read(self.alloc, self.settings, files);
-        if let Ok(report) = &known.report {
-            let meta = self.settings.meta.as_str();
-            if let Ok(told) = explained_faults(self.alloc, meta, files, report, tables) {
-                known.told = told;
-            }
-        }
+    ) {
+        let told = self.told_of(files, known, tables);
+        let told = told.as_slice();
         for (index, (id, fault)) in tables.iter().enumerate() {
             self.print_line(id.as_str(), fault);
-            let told = known.told.as_slice();
             if index < told.len() {
                 self.print(lines_below(self.alloc, tables, told, index));
             } else if index < MOST_TABLES {
                 let is_read = known.report.is_ok();
                 let _ = self.rt.eprint(if is_read { NO_MEMORY } else { CHANGED });
             }
+            self.print_more(known, index);
         }
-        known
     }
 
-    /// Prints the lines of all refused tables, and how many of them are not explained. Returns what
-    /// it found out.
-    pub fn explain_tables(
-        &self,
-        files: &mut FilesAgain<'_>,
-        tables: &[(Text, TableFault)],
-    ) -> Known {
-        let known = self.explain_each(files, tables);
+    /// Prints the lines of all refused tables, and how many of them are not explained. The report
+    /// is read again if nothing is known.
+    pub fn explain_tables(&self, found: &mut Found<'_>, tables: &[(Text, TableFault)]) {
+        let Found { files, known } = found;
+        match known {
+            Known::Tables(known) => self.explain_each(files, known, tables),
+            _ => {
+                let known = KnownTables::read(self.alloc, self.settings, files);
+                self.explain_each(files, &known, tables);
+            }
+        }
         if tables.len() > MOST_TABLES {
             let more = tables.len() - MOST_TABLES;
             let _ = eprint!(self.rt; "    (and {more} more)\n");
         }
-        Known::Tables(known)
     }
 }

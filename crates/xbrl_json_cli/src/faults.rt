@@ -1,12 +1,12 @@
-//! Writes the file of `--faults`, after the run has ended.
+//! Writes the file of `--faults`, after the run has ended and before it is told.
 //!
 //! Not proved: what is written to the system's files.
 
 ghost use Rattle.std.specs.Prelude.{IfSome};
 ghost use Rattle.oim_run.specs.Outputs.{IsLeftUnwritten};
 
-use crate::explain::{Known, KnownTables};
 use crate::files_again::FilesAgain;
+use crate::known::{Found, Known, KnownTables};
 use crate::target::Target;
 use crate::whole_file::{Content, can_be_made, write_whole};
 use crate::write_failure::WriteFailure;
@@ -14,9 +14,9 @@ use oim_meta::Finding;
 use oim_names::Text;
 use oim_rows::TableFault;
 use oim_run::{
-    EarlyFault, Explanation, FaultPlace, Outcome, ReportAgain, Request, Settings, Source,
-    cannot_write, fault_header, fault_place, fault_row, report_explanation, report_fault_row,
-    status,
+    EarlyFault, Explanation, FaultPlace, ListedFaults, Outcome, RefusedTable, ReportAgain, Request,
+    Settings, Source, cannot_write, fault_header, fault_row, list_faults, report_explanation,
+    report_fault_row, status,
 };
 use std::alloc::{AllocError, Global};
 use std::io;
@@ -56,60 +56,47 @@ pub fn refused_before(rt: &HostRuntime, alloc: Global, request: &Request) -> Opt
     Some(cannot_write(alloc, path))
 }
 
-/// Returns the record of a refused table whose place is not known yet. It has the text at the
-/// fault's place if the report was read again.
-fn row_again(
+/// Writes the records of a refused table whose place is not known. It has no place if the report
+/// was not read again.
+fn write_table<W: Write>(
     alloc: Global,
-    meta: &str,
     files: &mut FilesAgain<'_>,
     report: &Result<ReportAgain, EarlyFault>,
-    id: &str,
-    fault: &TableFault,
-) -> Result<Vec<u8>, AllocError> {
-    let place = match report {
-        Ok(report) => fault_place(alloc, meta, files, report, fault)?,
-        Err(_) => FaultPlace::unknown(alloc)?,
-    };
-    fault_row(alloc, id, fault, &place)
+    table: RefusedTable<'_>,
+    to: &mut W,
+) -> io::Result<ListedFaults> {
+    if let Ok(again) = report {
+        return list_faults(alloc, files, again, table, to);
+    }
+    let row = fault_row(alloc, table.id, table.fault, &FaultPlace::unknown(alloc)?)?;
+    to.write_all(row.as_slice())?;
+    Ok(ListedFaults {
+        count: 1,
+        is_cut: false,
+    })
 }
 
-/// Writes the records of refused tables, given what is known of them.
-fn write_each<W: Write>(
+/// Writes the records of refused tables. Reads the report again for them, and returns what it found
+/// out.
+fn write_tables<W: Write>(
     alloc: Global,
-    meta: &str,
+    request: &Request,
     files: &mut FilesAgain<'_>,
-    known: &KnownTables,
     tables: &[(Text, TableFault)],
     to: &mut W,
-) -> io::Result<()> {
-    for (index, (id, fault)) in tables.iter().enumerate() {
-        let id = id.as_str();
-        let row = match known.told.get(index) {
-            Some(told) => fault_row(alloc, id, fault, &told.place)?,
-            None => row_again(alloc, meta, files, &known.report, id, fault)?,
+) -> io::Result<KnownTables> {
+    let mut known = KnownTables::read(alloc, &request.settings, files);
+    for (id, fault) in tables {
+        let table = RefusedTable {
+            meta: request.settings.meta.as_str(),
+            id: id.as_str(),
+            fault,
+            most: request.most_faults,
         };
-        to.write_all(row.as_slice())?;
+        let listed = write_table(alloc, files, &known.report, table, to)?;
+        known.listed.push(listed)?;
     }
-    Ok(())
-}
-
-/// Writes the records of refused tables. Reads the report again for them if nothing is known.
-fn write_rows<W: Write>(
-    alloc: Global,
-    settings: &Settings,
-    files: &mut FilesAgain<'_>,
-    known: &Known,
-    tables: &[(Text, TableFault)],
-    to: &mut W,
-) -> io::Result<()> {
-    let meta = settings.meta.as_str();
-    match known {
-        Known::Tables(known) => write_each(alloc, meta, files, known, tables, to),
-        _ => {
-            let known = KnownTables::read(alloc, settings, files);
-            write_each(alloc, meta, files, &known, tables, to)
-        }
-    }
+    Ok(known)
 }
 
 /// Returns the record of a fault of the metadata, the types table or the parameters file, by its
@@ -123,48 +110,50 @@ fn row_of_report(
     report_fault_row(alloc, finding.fault, place, found)
 }
 
-/// Returns the record of a fault of the metadata, the types table or the parameters file. Reads the
-/// file again for it if nothing is known.
-fn report_row(
+/// Writes the record of a fault of the metadata, the types table or the parameters file. Reads the
+/// file again for it, and returns what it found out.
+fn write_report<W: Write>(
     alloc: Global,
     settings: &Settings,
     files: &mut FilesAgain<'_>,
-    known: &Known,
     source: Source,
     finding: &Finding,
-) -> Result<Vec<u8>, AllocError> {
-    if let Known::Report(told) = known {
-        return row_of_report(alloc, finding, told);
-    }
+    to: &mut W,
+) -> io::Result<Explanation> {
     let (meta, types) = (settings.meta.as_str(), settings.types.as_str());
     let told = report_explanation(alloc, meta, types, files, source, finding)?;
-    row_of_report(alloc, finding, &told)
+    to.write_all(row_of_report(alloc, finding, &told)?.as_slice())?;
+    Ok(told)
 }
 
 /// The records of a run's faults.
 #[derive(Drop)]
 struct FaultRecords<'a, 'b> {
     alloc: Global,
-    settings: &'a Settings,
+    request: &'a Request,
     outcome: &'a Outcome,
-    files: &'a mut FilesAgain<'b>,
-    known: &'a Known,
+    found: &'a mut Found<'b>,
 }
 
 impl<'a, 'b> FaultRecords<'a, 'b> {
     /// Writes the records.
     fn write_records<W: Write>(&mut self, to: &mut W) -> io::Result<()> {
-        let (alloc, settings, known) = (self.alloc, self.settings, self.known);
+        let alloc = self.alloc;
         match self.outcome {
             Outcome::Tables(tables) => {
-                write_rows(alloc, settings, self.files, known, tables.as_slice(), to)
+                let files = &mut self.found.files;
+                let known = write_tables(alloc, self.request, files, tables.as_slice(), to)?;
+                self.found.known = Known::Tables(known);
             }
             Outcome::Report(source, finding) => {
-                let row = report_row(alloc, settings, self.files, known, *source, finding)?;
-                to.write_all(row.as_slice())
+                let settings = &self.request.settings;
+                let files = &mut self.found.files;
+                let told = write_report(alloc, settings, files, *source, finding, to)?;
+                self.found.known = Known::Report(told);
             }
-            _ => Ok(()),
+            _ => {}
         }
+        Ok(())
     }
 }
 
@@ -186,7 +175,7 @@ fn write_file(
     path: &str,
     failure: &WriteFailure,
 ) -> bool {
-    if Target::of(rt, path).is_at(rt, document_path(records.settings)) {
+    if Target::of(rt, path).is_at(rt, document_path(&records.request.settings)) {
         return false;
     }
     let alloc = records.alloc;
@@ -195,16 +184,15 @@ fn write_file(
 
 /// Writes the file of the faults, if the command line names one and the exit status is 0 or 1.
 ///
-/// The file gets its header and a record for each refused table, or for the fault of another file
-/// of the report. `known` is what is known of them. It is replaced only by a whole one. Returns the
-/// outcome that it cannot be written, if so; `failure` then gets why a write failed.
+/// The file gets its header and the records of each refused table, or that of the fault of another
+/// file of the report. It is replaced only by a whole one. `found` gets what was found out for it.
+/// Returns the outcome that it cannot be written, if so; `failure` then gets why a write failed.
 pub fn write_faults(
     rt: &HostRuntime,
     alloc: Global,
     request: &Request,
     outcome: &Outcome,
-    files: &mut FilesAgain<'_>,
-    known: &Known,
+    found: &mut Found<'_>,
     failure: &WriteFailure,
 ) -> Option<Outcome>
     ensures { IfSome result (λ last. IsLeftUnwritten request.now.faults outcome.now last) }
@@ -213,10 +201,9 @@ pub fn write_faults(
     let path = path.as_str();
     let records = &mut FaultRecords {
         alloc,
-        settings: &request.settings,
+        request,
         outcome,
-        files,
-        known,
+        found,
     };
     if status(outcome) > 1 || write_file(rt, records, path, failure) {
         return None;

@@ -1,9 +1,9 @@
 //! `xbrl-json`: converts a report in xBRL-CSV 1.0 to xBRL-JSON 1.0.
 //!
 //! `xbrl-json META --types FILE [--workers N] [--ring K] [--out FILE] [--whole] [--layout LAYOUT]
-//! [--progress] [--explain] [--no-explain] [--faults FILE] [--counts FILE]` converts the report
-//! whose metadata file is META, to standard output or to the file of `--out`. Without arguments it
-//! converts its built-in report to standard output.
+//! [--progress] [--explain] [--no-explain] [--faults FILE] [--most-faults N] [--counts FILE]`
+//! converts the report whose metadata file is META, to standard output or to the file of `--out`.
+//! Without arguments it converts its built-in report to standard output.
 //!
 //! The crate `oim_run` proves what a run writes and which faults it answers. This crate is the
 //! edge: it opens the system's files, shows the progress, and prints. Proved here:
@@ -44,6 +44,7 @@ mod explain;
 mod faults;
 mod files_again;
 mod json_place;
+mod known;
 mod new_file;
 mod noted;
 mod output;

@@ -3,13 +3,13 @@
 ghost use Rattle.std.specs.Prelude.{◌≡◌, ◌⊎◌, IfSome};
 ghost use Rattle.clap.specs.Values.{kind_of};
 ghost use Rattle.oim_run.specs.Lines.{status_of, unprinted_status, words_status};
-ghost use Rattle.oim_run.specs.Outputs.{EndsFor, EndsTold, IsLeftOut, Says, SaysLast};
+ghost use Rattle.oim_run.specs.Outputs.{EndsFor, EndsTold, IsLeftOut, IsLeftUnwritten, Says, SaysLast};
 
 use crate::colours::Colours;
 use crate::counts_file::write_counts;
-use crate::explain::{Explainer, Known};
+use crate::explain::Explainer;
 use crate::faults::write_faults;
-use crate::files_again::FilesAgain;
+use crate::known::{Found, Known};
 use crate::noted::Noted;
 use crate::write_failure::WriteFailure;
 use oim_run::{Folder, Outcome, Outputs, Request, Teller, convert_as, shown, status, tell};
@@ -53,46 +53,63 @@ impl<'a> Teller for StandardError<'a> {
 }
 
 /// Tells the lines of an outcome, with the places of its faults if they are asked for. Then the
-/// lines of tables are printed one by one, past the teller. Returns what was found out for them.
+/// lines of tables are printed one by one, past the teller. `found` has what is known of its faults.
 fn told_as_asked<L: Teller>(
     rt: &HostRuntime,
     alloc: Global,
     request: &Request,
     failure: &WriteFailure,
     outcome: &Outcome,
-    files: &mut FilesAgain<'_>,
+    found: &mut Found<'_>,
     to: &mut L,
-) -> Known
+)
     ensures says { Says (L.terminal to.old) outcome.now (L.said to.old) (L.said to.new) }
     ensures same { L.terminal to.new ≡ L.terminal to.old }
 {
     if !request.explains(to.is_terminal()) {
         tell(to, alloc, outcome);
-        return Known::Nothing;
+        return;
     }
-    let explainer = Explainer::new(rt, alloc, &request.settings, failure);
+    let explainer = Explainer::new(rt, alloc, request, failure);
     if let Outcome::Tables(tables) = outcome {
-        return explainer.explain_tables(files, tables.as_slice());
+        explainer.explain_tables(found, tables.as_slice());
+        return;
     }
     tell(to, alloc, outcome);
-    explainer.explain_fault(files, outcome)
+    explainer.explain_fault(found, outcome);
 }
 
-/// Writes the files of the faults and of the counts of a run with this outcome. `known` is what is
-/// known of its faults, and `noted` gets why a write failed. Returns the outcome that one of them
-/// cannot be written, if so.
+/// Prints of how many tables the file of the faults has only the first ones, if there are any.
+fn tell_cut(rt: &HostRuntime, alloc: Global, request: &Request, known: &Known) {
+    let (Some(path), count) = (&request.faults, known.cut_tables()) else {
+        return;
+    };
+    if count == 0 {
+        return;
+    }
+    if let Ok(path) = shown(alloc, path.as_str()) {
+        let (path, most) = (path.as_str(), request.most_faults);
+        let _ = eprint!(rt;
+            "xbrl-json: {path} is cut: more than {most} faults in {count} of the tables\n"
+        );
+    }
+}
+
+/// Writes the file of the counts of a run with this outcome, unless that of the faults could not be
+/// written: then `unwritten` is the outcome that says so. `noted` gets why a write failed. Returns
+/// the outcome that one of them cannot be written, if so.
 fn left_out(
     rt: &HostRuntime,
     alloc: Global,
     request: &Request,
     outcome: &Outcome,
-    files: &mut FilesAgain<'_>,
-    known: &Known,
+    unwritten: Option<Outcome>,
     noted: &Noted<'_>,
 ) -> Option<Outcome>
+    requires { IfSome unwritten (λ last. IsLeftUnwritten request.now.faults outcome.now last) }
     ensures { IfSome result (λ last. IsLeftOut request.now.faults request.now.counts outcome.now last) }
 {
-    match write_faults(rt, alloc, request, outcome, files, known, noted.beside) {
+    match unwritten {
         Some(unwritten) => Some(unwritten),
         None => write_counts(rt, alloc, request, outcome, noted.counts, noted.beside),
     }
@@ -112,8 +129,8 @@ fn told_alone<L: Teller>(
     ensures status { result ≡ status_of outcome.now }
     ensures says { Says (L.terminal to.old) outcome.now (L.said to.old) (L.said to.new) }
 {
-    let files = &mut FilesAgain::new(rt, alloc);
-    told_as_asked(rt, alloc, request, failure, outcome, files, to);
+    let found = &mut Found::new(rt, alloc);
+    told_as_asked(rt, alloc, request, failure, outcome, found, to);
     status(outcome)
 }
 
@@ -170,8 +187,8 @@ fn convert_apart<
     convert_as(threads, alloc, request, folder, outputs)
 }
 
-/// Converts as the command line asks, tells the outcome, and writes the files of the faults and of
-/// the counts. Returns the exit status of what was told last. `threads` starts the workers, and
+/// Converts as the command line asks, writes the file of the faults, tells the outcome, and writes
+/// the file of the counts. Returns the exit status of what was told last. `threads` starts the workers, and
 /// `noted` is what folder and outputs note.
 pub fn convert_and_tell<
     R: Read + Drop + Send,
@@ -193,10 +210,12 @@ pub fn convert_and_tell<
 {
     let alloc = rt.alloc();
     let outcome = convert_apart(rt, threads, alloc, request, folder, outputs);
-    let files = &mut FilesAgain::new(rt, alloc);
+    let found = &mut Found::new(rt, alloc);
+    let unwritten = write_faults(rt, alloc, request, &outcome, found, noted.beside);
     let failure = noted.failure_of(&outcome);
-    let known = told_as_asked(rt, alloc, request, failure, &outcome, files, to);
-    let left = left_out(rt, alloc, request, &outcome, files, &known, noted);
+    told_as_asked(rt, alloc, request, failure, &outcome, found, to);
+    tell_cut(rt, alloc, request, &found.known);
+    let left = left_out(rt, alloc, request, &outcome, unwritten, noted);
     last_told(rt, alloc, request, &outcome, left, noted.beside, to)
 }
 

@@ -38,8 +38,8 @@ class ConversionError(Exception):
     """A report was not converted.
 
     `status` is the exit status of xbrl-json: 1 if the report has a fault, 3 if memory ran out or a
-    file does not exist. `lines` is what xbrl-json prints with `--explain`. `faults` has a fault for
-    each refused table, or that of another file; it is empty if memory runs out.
+    file does not exist. `lines` is what xbrl-json prints with `--explain`. `faults` has all
+    faults of each refused table, or that of another file; it is empty if memory runs out.
     """
 
     def __init__(self, status: int, lines: str, faults: List[Fault]) -> None:

@@ -1,18 +1,23 @@
 -- How the record of a table's fault is found in the files.
-use Rattle.std.specs.Prelude.{◌≡◌, ◌+◌, ℕ, List, Option, Some, IfSome, drop, slice_get}
+use Rattle.std.specs.Prelude.{◌≡◌, ◌+◌, ℕ, List, ◌∷◌, Option, Some, IfSome, drop, slice_get}
+use Rattle.csv.specs.Records.{fields_of}
 use Rattle.oim_records.specs.Grids.{Record, grid}
-use Rattle.oim_report.specs.ReportValue.{ReportValue}
 use Rattle.oim_rows.specs.declared.fault.TableFault.{TableFault}
-use Rattle.oim_places.specs.FaultPlaces.{HasRow, IsTableFault}
+use Rattle.oim_places.specs.FaultLists.{LocatedLeft}
+use Rattle.oim_places.specs.FaultPlaces.{HasRow, stands_at}
+use Rattle.oim_places.specs.declared.fault_places.FaultRecord.{FaultRecord}
 
--- The file of these bytes, if they are known, has this header and this row of that number.
-abbrev pub FileHasRow : Option (List ℕ) → ℕ → Record → Record → Type 0
-FileHasRow file number header row = IfSome file (λ bytes. HasRow (grid bytes) number header row)
-
--- The reader's bytes are known to be these, and have the fault.
-abbrev pub ReadsFault : Option (List ℕ) → ReportValue → TableFault → List ℕ → Type 0
-ReadsFault told report f bytes = (told ≡ Some bytes) × IsTableFault report f.table bytes f
+-- The three readers have these bytes.
+abbrev pub AreReadersOf : Option (List ℕ) → Option (List ℕ) → Option (List ℕ) → List ℕ → Type 0
+AreReadersOf one two three bytes = (one ≡ Some bytes) × (two ≡ Some bytes) × (three ≡ Some bytes)
 
 -- The record `before` places after the next one, and those that are left after it.
 abbrev pub TakesNth : List Record → ℕ → Record → Option (List Record) → Type 0
 TakesNth left before row after = (slice_get left before ≡ Some row) × (after ≡ Some (drop (before + 1) left))
+
+-- The fault is the first of those that are left, and this is its record with its place.
+pub record IsFirstIn (rows : LocatedLeft) (f : TableFault) (r : FaultRecord) : Type 0 where
+  pub first : IfSome rows.left (λ left. (others : List TableFault) × (later : List (List TableFault)) × (left ≡ (f ∷ others) ∷ later))
+  pub cells : IfSome rows.cells (λ bytes. HasRow (grid bytes) f.row (fields_of r.cells.header) (fields_of r.cells.row))
+  pub texts : IfSome rows.cells (λ bytes. (r.place.header ≡ (stands_at bytes f.row f.column).header) × (r.place.cell ≡ (stands_at bytes f.row f.column).cell))
+  pub line : IfSome rows.lines (λ bytes. r.place.line ≡ (stands_at bytes f.row f.column).line)

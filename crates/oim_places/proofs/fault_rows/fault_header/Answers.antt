@@ -7,5 +7,5 @@ use Rattle.oim_places.proofs.fault_rows.fault_header.Goals as goal
 pub returns : goal.returns
 unfolding is_blank fields_text escaped
 returns c =
-    text_of_record (codes "table") (codes "row")
-    (codes "column" ∷ codes "number" ∷ codes "name" ∷ codes "line" ∷ codes "header" ∷ codes "cell" ∷ codes "place" ∷ []) _ refl
+    text_of_record (codes "table_id") (codes "table_row")
+    (codes "table_column" ∷ codes "fault_number" ∷ codes "fault_name" ∷ codes "line" ∷ codes "header_cell" ∷ codes "row_cell" ∷ codes "place" ∷ []) _ refl

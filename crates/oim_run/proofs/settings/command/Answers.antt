@@ -13,4 +13,5 @@ returns c =
     let seven = c.with-command-7.ensures _ _ six c.flag-explain.ensures.rule in
     let eight = c.with-command-8.ensures _ _ seven c.flag-no_explain.ensures.rule in
     let nine = c.with-command-9.ensures _ _ eight c.option-2.ensures.rule in
-    c.with.ensures _ _ nine c.option-3.ensures.rule
+    let ten = c.with-command-10.ensures _ _ nine c.number_option-most_faults.ensures.rule in
+    c.with.ensures _ _ ten c.option-3.ensures.rule

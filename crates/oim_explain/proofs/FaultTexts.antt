@@ -1,0 +1,286 @@
+-- The records of the file of faults that are written for a table, up to a limit.
+use Rattle.std.proofs.Common.{◌≡◌, ◌∙◌, ◌++◌, ◌+◌, ◌≤◌, ◌<◌, ℕ, zero, suc, List, [], ◌∷◌, Option, Some, None, Result, Ok, Err, IfOk, IfSome, false, ap, append-nil, append_assoc, drop, get_or, inl, inr, length, map, refl, subst, sym}
+use Rattle.std.specs.Io.KnownBytes.{Appends}
+use Rattle.std.proofs.lemmas.List.{drop_all, drop_more, map-append}
+use Rattle.std.proofs.lemmas.List.Elements.{All-head, All-tail}
+use Rattle.csv.proofs.WriteFacts.{appends-more, appends-none}
+use Rattle.csv.specs.Writing.{default_writer, row_text}
+use Rattle.oim_files.specs.Folders.{Files}
+use Rattle.oim_files.specs.Metadata.{profile}
+use Rattle.oim_records.specs.Grids.{Record, grid}
+use Rattle.oim_report.specs.ReportValue.{ReportValue}
+use Rattle.oim_rows.specs.Streams.{IsOutside}
+use Rattle.oim_rows.specs.declared.fault.TableFault.{TableFault}
+use Rattle.oim_rows.specs.Header.{file_header_fault}
+use Rattle.oim_table_faults.specs.Laws.{FirstIsOfStream, first_in}
+use Rattle.oim_table_faults.specs.TableFaults.{alone_or, bad_rows_of, faults_of_rows}
+use Rattle.oim_places.specs.FaultLists.{ArePlacesIn, GivesRow, HasPlaceIn, IsStartOf, LocatedLeft, faults_by_row, header_or, record_of}
+use Rattle.oim_places.specs.FaultPlaces.{IsTablePath, fault_of_file, is_of_file, unknown_place}
+use Rattle.oim_places.specs.FolderFiles.{FoundAt}
+use Rattle.oim_places.specs.FaultRows.{fault_fields}
+use Rattle.oim_places.specs.declared.bad_rows.LocatedFault.{LocatedFault}
+use Rattle.oim_explain.specs.ListedFaults.{ListsAlone, ListsRows, ListsTable, StartsRows, StartsWith, Writes, WritesRows, fault_text, listed_of, located_records, more_text, room_after, texts_of, up_to}
+use Rattle.oim_explain.specs.declared.fault_list.ListedFaults.{ListedFaults}
+
+-- ---- records
+
+-- No record.
+pub writes_none : (a : Option (List ℕ)) (id : List ℕ) (room : ℕ) → Writes a a id room [] (Some room)
+writes_none a id room = (appends-none a, refl)
+
+-- One record before the others.
+pub writes_one : (a b c : Option (List ℕ)) (id : List ℕ) (room less : ℕ) (r : Record) (rows : List Record) (after : Option ℕ) → room ≡ suc less → Appends a b (row_text default_writer r)
+    → Writes b c id less rows after → Writes a c id room (r ∷ rows) after
+writes_one a b c id room less r rows after is one others =
+    rw is (appends-more a b c (row_text default_writer r) (texts_of (up_to id less rows)) one others.0, others.1)
+
+-- The record that there are more.
+pub writes_more : (a b : Option (List ℕ)) (id : List ℕ) (room : ℕ) (r : Record) (rows : List Record) → room ≡ 0 → Appends a b (more_text id) → Writes a b id room (r ∷ rows) None
+writes_more a b id room r rows is more = rw is (subst (Appends a b) (sym (append-nil (more_text id))) more, refl)
+
+room_then : (room less : ℕ) (xs ys : List Record) → Some less ≡ room_after room xs → room_after room (xs ++ ys) ≡ room_after less ys
+room_then room less [] ys is = ap (λ n. room_after n ys) (sym (cc is))
+room_then zero less (x ∷ xs) ys is = cc is
+room_then (suc room) less (x ∷ xs) ys is = room_then room less xs ys is
+
+room_cut : (room : ℕ) (xs ys : List Record) → None ≡ room_after room xs → room_after room (xs ++ ys) ≡ None
+room_cut room [] ys is = cc is
+room_cut zero (x ∷ xs) ys is = refl
+room_cut (suc room) (x ∷ xs) ys is = room_cut room xs ys is
+
+up_to_then : (id : List ℕ) (room less : ℕ) (xs ys : List Record) → Some less ≡ room_after room xs → up_to id room (xs ++ ys) ≡ up_to id room xs ++ up_to id less ys
+up_to_then id room less [] ys is = ap (λ n. up_to id n ys) (sym (cc is))
+up_to_then id zero less (x ∷ xs) ys is = cc is
+up_to_then id (suc room) less (x ∷ xs) ys is = ap (λ t. x ∷ t) (up_to_then id room less xs ys is)
+
+up_to_cut : (id : List ℕ) (room : ℕ) (xs ys : List Record) → None ≡ room_after room xs → up_to id room (xs ++ ys) ≡ up_to id room xs
+up_to_cut id room [] ys is = cc is
+up_to_cut id zero (x ∷ xs) ys is = refl
+up_to_cut id (suc room) (x ∷ xs) ys is = ap (λ t. x ∷ t) (up_to_cut id room xs ys is)
+
+texts-append : (xs ys : List Record) → texts_of (xs ++ ys) ≡ texts_of xs ++ texts_of ys
+texts-append [] ys = refl
+texts-append (x ∷ xs) ys = ap (λ t. row_text default_writer x ++ t) (texts-append xs ys) ∙ sym (append_assoc (row_text default_writer x) (texts_of xs) (texts_of ys))
+
+-- The others after the first ones.
+writes_then : (a b c : Option (List ℕ)) (id : List ℕ) (room less : ℕ) (xs ys : List Record) (after : Option ℕ) → Writes a b id room xs (Some less) → Writes b c id less ys after
+    → Writes a c id room (xs ++ ys) after
+writes_then a b c id room less xs ys after first others = (
+  subst (Appends a c) (sym (ap texts_of (up_to_then id room less xs ys first.1) ∙ texts-append (up_to id room xs) (up_to id less ys)))
+      (appends-more a b c (texts_of (up_to id room xs)) (texts_of (up_to id less ys)) first.0 others.0),
+  others.1 ∙ sym (room_then room less xs ys first.1),
+)
+
+-- Only the first ones, if there is no room for the others.
+writes_cut : (a b : Option (List ℕ)) (id : List ℕ) (room : ℕ) (xs ys : List Record) → Writes a b id room xs None → Writes a b id room (xs ++ ys) None
+writes_cut a b id room xs ys first = (
+  subst (Appends a b) (sym (ap texts_of (up_to_cut id room xs ys first.1))) first.0,
+  sym (room_cut room xs ys first.1),
+)
+
+-- ---- rows
+
+records_then : (rec : TableFault → Record) (faults : List TableFault) (later : List (List TableFault)) → map rec faults ++ map rec (faults_of_rows later) ≡ map rec (faults_of_rows (faults ∷ later))
+records_then rec faults later = sym (map-append rec faults (faults_of_rows later))
+
+-- No row is left.
+pub rows_end : (a : Option (List ℕ)) (table : ℕ) (id : List ℕ) (rec : TableFault → Record) (room : ℕ) (rows : List (List TableFault)) → rows ≡ []
+    → WritesRows a a table id rec room rows (Some room)
+rows_end a table id rec room rows is = rw is (inl (writes_none a id room))
+
+-- The reader or memory failed.
+pub rows_failed : (a b : Option (List ℕ)) (table : ℕ) (id : List ℕ) (rec : TableFault → Record) (room : ℕ) (rows : List (List TableFault)) (e : TableFault) → IsOutside table e
+    → Appends a b (fault_text id e unknown_place) → WritesRows a b table id rec room rows (Some room)
+rows_failed a b table id rec room rows e outside ends =
+    inr (record { front = []; rest = rows; failure = e; between = a; outside = outside; begins = refl; fits = refl; written = writes_none a id room; ends = ends })
+
+-- One row before the others.
+pub rows_then : (a b c : Option (List ℕ)) (table : ℕ) (id : List ℕ) (rec : TableFault → Record) (room less : ℕ) (faults : List TableFault) (later : List (List TableFault)) (after : Option ℕ)
+    → Writes a b id room (map rec faults) (Some less) → WritesRows b c table id rec less later after → WritesRows a c table id rec room (faults ∷ later) after
+rows_then a b c table id rec room less faults later after first (inl all) =
+    inl (subst (λ rows. Writes a c id room rows after) (records_then rec faults later) (writes_then a b c id room less (map rec faults) (map rec (faults_of_rows later)) after first all))
+rows_then a b c table id rec room less faults later after first (inr short) =
+    inr (record {
+      front = faults ∷ short.front;
+      rest = short.rest;
+      failure = short.failure;
+      between = short.between;
+      outside = short.outside;
+      begins = ap (λ rows. faults ∷ rows) short.begins;
+      fits = short.fits;
+      written = subst (λ rows. Writes a short.between id room rows after) (records_then rec faults short.front)
+          (writes_then a b short.between id room less (map rec faults) (map rec (faults_of_rows short.front)) after first short.written);
+      ends = short.ends;
+    })
+
+-- One row for which there is no room.
+pub rows_cut : (a b : Option (List ℕ)) (table : ℕ) (id : List ℕ) (rec : TableFault → Record) (room : ℕ) (faults : List TableFault) (later : List (List TableFault))
+    → Writes a b id room (map rec faults) None → WritesRows a b table id rec room (faults ∷ later) None
+rows_cut a b table id rec room faults later first =
+    inl (subst (λ rows. Writes a b id room rows None) (records_then rec faults later) (writes_cut a b id room (map rec faults) (map rec (faults_of_rows later)) first))
+
+-- ---- places
+
+record_is : (id bytes : List ℕ) (l : LocatedFault) → HasPlaceIn (Some bytes) (Some bytes) l → fault_fields id l.fault l.place ≡ record_of id bytes l.fault
+record_is id bytes l has = rw (has.0.0, has.0.1, has.1) refl
+
+-- The records of faults with their places are those of the faults.
+pub records_are : (id bytes : List ℕ) (located : List LocatedFault) → ArePlacesIn (Some bytes) (Some bytes) located
+    → located_records id located ≡ map (record_of id bytes) (map (λ l. l.fault) located)
+records_are id bytes [] places = refl
+records_are id bytes (l ∷ located) places =
+    let one : fault_fields id l.fault l.place ≡ record_of id bytes l.fault = record_is id bytes l (All-head (HasPlaceIn (Some bytes) (Some bytes)) l located places) in
+    let others = records_are id bytes located (All-tail (HasPlaceIn (Some bytes) (Some bytes)) l located places) in
+    ap (λ r. r ∷ located_records id located) one ∙ ap (λ rs. record_of id bytes l.fault ∷ rs) others
+
+-- The record at a place of the faults, and those after it.
+pub next_record_is : (id : List ℕ) (located : List LocatedFault) (i : ℕ) (l : LocatedFault) → l ≡ get_or located i l → i < length located
+    → located_records id (drop i located) ≡ fault_fields id l.fault l.place ∷ located_records id (drop (i + 1) located)
+next_record_is id located i l is lt = ap (located_records id) (drop_more located i l lt ∙ ap (λ x. x ∷ drop (i + 1) located) (sym is))
+
+pub no_record_is : (id : List ℕ) (located : List LocatedFault) (i : ℕ) → length located ≤ i → located_records id (drop i located) ≡ []
+no_record_is id located i le = ap (located_records id) (drop_all i located le)
+
+-- ---- the rows that are left
+
+-- What is still to be written of the rows that are left completes what was written of all rows.
+abbrev pub Completes : (from now : Option (List ℕ)) → (table : ℕ) → (id : List ℕ) → (TableFault → Record) → (room less : ℕ) → (start : List (List TableFault)) → (left : Option (List (List TableFault))) → Type 0
+Completes from now table id rec room less start None = ⊥
+Completes from now table id rec room less start (Some later) = (out : Option (List ℕ)) (after : Option ℕ) → WritesRows now out table id rec less later after → WritesRows from out table id rec room start after
+
+pub completes_first : (a : Option (List ℕ)) (table : ℕ) (id : List ℕ) (rec : TableFault → Record) (room : ℕ) (left : Option (List (List TableFault))) → IfSome left (λ start. Completes a a table id rec room room start left)
+completes_first a table id rec room None = tt
+completes_first a table id rec room (Some rows) = λ out after given. given
+
+pub completes_more : (from a b : Option (List ℕ)) (table : ℕ) (id bytes : List ℕ) (room less rest : ℕ) (all left next : Option (List (List TableFault))) (located : List LocatedFault)
+    → IfSome all (λ start. Completes from a table id (record_of id bytes) room less start left) → IfSome left (λ rows. GivesRow table rows (Ok (Some located)) next)
+    → ArePlacesIn (Some bytes) (Some bytes) located → Writes a b id less (located_records id located) (Some rest) → IfSome all (λ start. Completes from b table id (record_of id bytes) room rest start next)
+completes_more from a b table id bytes room less rest None left next located completes gives places written = tt
+completes_more from a b table id bytes room less rest (Some start) None next located completes gives places written = absurd completes
+completes_more from a b table id bytes room less rest (Some start) (Some rows) None located completes gives places written = absurd gives
+completes_more from a b table id bytes room less rest (Some start) (Some rows) (Some later) located completes gives places written = λ out after others.
+    completes out after (subst (λ rs. WritesRows a out table id (record_of id bytes) less rs after) (sym gives)
+    (rows_then a b out table id (record_of id bytes) less rest (map (λ l. l.fault) located) later after
+    (subst (λ rs. Writes a b id less rs (Some rest)) (records_are id bytes located places) written) others))
+
+pub completes_cut : (from a b : Option (List ℕ)) (table : ℕ) (id bytes : List ℕ) (room less : ℕ) (all left next : Option (List (List TableFault))) (located : List LocatedFault)
+    → IfSome all (λ start. Completes from a table id (record_of id bytes) room less start left) → IfSome left (λ rows. GivesRow table rows (Ok (Some located)) next)
+    → ArePlacesIn (Some bytes) (Some bytes) located → Writes a b id less (located_records id located) None → IfSome all (λ start. WritesRows from b table id (record_of id bytes) room start None)
+completes_cut from a b table id bytes room less None left next located completes gives places written = tt
+completes_cut from a b table id bytes room less (Some start) None next located completes gives places written = absurd completes
+completes_cut from a b table id bytes room less (Some start) (Some rows) None located completes gives places written = absurd gives
+completes_cut from a b table id bytes room less (Some start) (Some rows) (Some later) located completes gives places written =
+    completes b None (subst (λ rs. WritesRows a b table id (record_of id bytes) less rs None) (sym gives)
+    (rows_cut a b table id (record_of id bytes) less (map (λ l. l.fault) located) later
+    (subst (λ rs. Writes a b id less rs None) (records_are id bytes located places) written)))
+
+pub completes_end : (from a : Option (List ℕ)) (table : ℕ) (id : List ℕ) (rec : TableFault → Record) (room less : ℕ) (all left next : Option (List (List TableFault)))
+    → IfSome all (λ start. Completes from a table id rec room less start left) → IfSome left (λ rows. GivesRow table rows (Ok None) next)
+    → IfSome all (λ start. WritesRows from a table id rec room start (Some less))
+completes_end from a table id rec room less None left next completes gives = tt
+completes_end from a table id rec room less (Some start) None next completes gives = absurd completes
+completes_end from a table id rec room less (Some start) (Some rows) next completes gives = completes a (Some less) (rows_end a table id rec less rows gives)
+
+pub completes_failed : (from a b : Option (List ℕ)) (table : ℕ) (id : List ℕ) (rec : TableFault → Record) (room less : ℕ) (all left next : Option (List (List TableFault))) (e : TableFault)
+    → IfSome all (λ start. Completes from a table id rec room less start left) → IfSome left (λ rows. GivesRow table rows (Err e) next) → Appends a b (fault_text id e unknown_place)
+    → IfSome all (λ start. WritesRows from b table id rec room start (Some less))
+completes_failed from a b table id rec room less None left next e completes gives ends = tt
+completes_failed from a b table id rec room less (Some start) None next e completes gives ends = absurd completes
+completes_failed from a b table id rec room less (Some start) (Some rows) next e completes gives ends = completes b (Some less) (rows_failed a b table id rec less rows e gives ends)
+
+-- The cells and lines of a file whose bytes are known.
+pub places_known : (cells lines : Option (List ℕ)) (bytes : List ℕ) (located : List LocatedFault) → cells ≡ Some bytes → lines ≡ Some bytes → ArePlacesIn cells lines located
+    → ArePlacesIn (Some bytes) (Some bytes) located
+places_known cells lines bytes located is are places = subst (λ o. ArePlacesIn (Some bytes) o located) are (subst (λ o. ArePlacesIn o lines located) is places)
+
+-- ---- the first row
+
+first_row_starts : (f : TableFault) (located : List LocatedFault) (rows later : List (List TableFault)) → StartsWith f located → rows ≡ map (λ l. l.fault) located ∷ later → StartsRows f rows
+first_row_starts f located rows later (first, others, are, same) gives =
+    (map (λ l. l.fault) others, later, gives ∙ ap (λ ls. map (λ l. l.fault) ls ∷ later) are ∙ ap (λ e. (e ∷ map (λ l. l.fault) others) ∷ later) same)
+
+-- The rows begin with the fault, and their records were written.
+pub rows_listed : (from a out : Option (List ℕ)) (table : ℕ) (id bytes : List ℕ) (f : TableFault) (most less : ℕ) (left next : Option (List (List TableFault))) (located : List LocatedFault) (after : Option ℕ)
+    → StartsWith f located → IfSome left (λ rows. GivesRow table rows (Ok (Some located)) next) → ArePlacesIn (Some bytes) (Some bytes) located
+    → Writes from a id most (located_records id located) (Some less) → IfSome next (λ later. WritesRows a out table id (record_of id bytes) less later after)
+    → IfSome left (λ rows. ListsRows from out table id f most (record_of id bytes) rows (listed_of most after))
+rows_listed from a out table id bytes f most less None next located after starts gives places first others = tt
+rows_listed from a out table id bytes f most less (Some rows) None located after starts gives places first others = absurd gives
+rows_listed from a out table id bytes f most less (Some rows) (Some later) located after starts gives places first others =
+    inr (
+      first_row_starts f located rows later starts gives,
+      (
+        after,
+        refl,
+        subst (λ rs. WritesRows from out table id (record_of id bytes) most rs after) (sym gives)
+            (rows_then from a out table id (record_of id bytes) most less (map (λ l. l.fault) located) later after
+            (subst (λ rs. Writes from a id most rs (Some less)) (records_are id bytes located places) first) others),
+      ),
+    )
+
+pub rows_listed_cut : (from out : Option (List ℕ)) (table : ℕ) (id bytes : List ℕ) (f : TableFault) (most : ℕ) (left next : Option (List (List TableFault))) (located : List LocatedFault)
+    → StartsWith f located → IfSome left (λ rows. GivesRow table rows (Ok (Some located)) next) → ArePlacesIn (Some bytes) (Some bytes) located
+    → Writes from out id most (located_records id located) None
+    → IfSome left (λ rows. ListsRows from out table id f most (record_of id bytes) rows (listed_of most None))
+rows_listed_cut from out table id bytes f most None next located starts gives places first = tt
+rows_listed_cut from out table id bytes f most (Some rows) None located starts gives places first = absurd gives
+rows_listed_cut from out table id bytes f most (Some rows) (Some later) located starts gives places first =
+    inr (
+      first_row_starts f located rows later starts gives,
+      (
+        None,
+        refl,
+        subst (λ rs. WritesRows from out table id (record_of id bytes) most rs None) (sym gives)
+            (rows_cut from out table id (record_of id bytes) most (map (λ l. l.fault) located) later
+            (subst (λ rs. Writes from out id most rs None) (records_are id bytes located places) first)),
+      ),
+    )
+
+-- Only the record of the run's fault was written.
+pub rows_alone : {E : Type 0} (from out : Option (List ℕ)) (table : ℕ) (id : List ℕ) (f : TableFault) (most : ℕ) (rec : TableFault → Record) (left : Option (List (List TableFault))) (r : Result ListedFaults E)
+    → IfOk r (ListsAlone from out id f) → IfSome left (λ rows. IfOk r (λ listed. ListsRows from out table id f most rec rows listed))
+rows_alone from out table id f most rec None r alone = tt
+rows_alone from out table id f most rec (Some rows) (Ok listed) alone = inl alone
+rows_alone from out table id f most rec (Some rows) (Err e) alone = tt
+
+-- ---- a table of a report
+
+pub table_alone : {E : Type 0} (known : Option Files) (from out : Option (List ℕ)) (meta : List ℕ) (report : ReportValue) (id : List ℕ) (f : TableFault) (most : ℕ) (r : Result ListedFaults E)
+    → IfOk r (ListsAlone from out id f) → IfSome known (λ files. IfOk r (ListsTable from out files meta report id f most))
+table_alone None from out meta report id f most r alone = tt
+table_alone (Some files) from out meta report id f most (Ok listed) alone = inl alone
+table_alone (Some files) from out meta report id f most (Err e) alone = tt
+
+first_listed : (header : Option TableFault) (rows : List (List TableFault)) (f : TableFault) (others : List TableFault) (later : List (List TableFault))
+    → header_or header rows ≡ (f ∷ others) ∷ later → first_in (alone_or header (faults_of_rows rows)) ≡ Some f
+first_listed (Some e) rows f others later is = let same : e ≡ f = cc in ap Some same
+first_listed None rows f others later is = rw is refl
+
+-- The fault with which the rows of a file begin is its first.
+first_of_rows : (law : FirstIsOfStream) (report : ReportValue) (f : TableFault) (bytes : List ℕ) → StartsRows f (faults_by_row report f.table profile.rows (grid bytes))
+    → fault_of_file report f.table bytes ≡ Some f
+first_of_rows law report f bytes starts =
+    sym (law report f.table profile.rows (Some bytes))
+    ∙ first_listed (file_header_fault report f.table (grid bytes)) (bad_rows_of report f.table profile.rows (grid bytes)) f starts.0 starts.1 starts.2
+
+-- What was written of the rows of a file is what was written of its table.
+of_table : (law : FirstIsOfStream) (files : Files) (from out : Option (List ℕ)) (meta path : List ℕ) (report : ReportValue) (id : List ℕ) (f : TableFault) (most : ℕ) (bytes : List ℕ) (listed : ListedFaults)
+    → is_of_file f.kind ≡ false → IsTablePath meta report f.table path → files path ≡ Some bytes
+    → ListsRows from out f.table id f most (record_of id bytes) (faults_by_row report f.table profile.rows (grid bytes)) listed → ListsTable from out files meta report id f most listed
+of_table law files from out meta path report id f most bytes listed is at found (inl alone) = inl alone
+of_table law files from out meta path report id f most bytes listed is at found (inr (starts, all)) =
+    inr (path, at, (is, (bytes, found, (first_of_rows law report f bytes starts, all))))
+
+pub table_listed : {E : Type 0} (law : FirstIsOfStream) (known : Option Files) (from out : Option (List ℕ)) (meta path : List ℕ) (report : ReportValue) (id : List ℕ) (f : TableFault) (most : ℕ) (rows : LocatedLeft) (r : Result ListedFaults E)
+    → is_of_file f.kind ≡ false → IsTablePath meta report f.table path → rows.table ≡ f.table → FoundAt known path (IsStartOf report f.table rows)
+    → ((bytes : List ℕ) → rows.cells ≡ Some bytes → rows.lines ≡ Some bytes → IfSome rows.left (λ left. IfOk r (λ listed. ListsRows from out rows.table id f most (record_of id bytes) left listed)))
+    → IfSome known (λ files. IfOk r (ListsTable from out files meta report id f most))
+table_listed law None from out meta path report id f most rows r is at same found lists = tt
+table_listed law (Some files) from out meta path report id f most rows (Err e) is at same found lists = tt
+table_listed law (Some files) from out meta path report id f most rows (Ok listed) is at same found lists =
+    let bytes = found.0 in
+    let start = found.2 in
+    let given : ListsRows from out rows.table id f most (record_of id bytes) (faults_by_row report f.table profile.rows (grid bytes)) listed =
+    subst (λ o. IfSome o (λ left. ListsRows from out rows.table id f most (record_of id bytes) left listed)) start.0 (lists bytes start.1 start.2) in
+    of_table law files from out meta path report id f most bytes listed is at found.1
+    (subst (λ t. ListsRows from out t id f most (record_of id bytes) (faults_by_row report f.table profile.rows (grid bytes)) listed) same given)

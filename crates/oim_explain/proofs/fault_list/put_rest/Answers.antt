@@ -1,0 +1,57 @@
+use Rattle.std.proofs.Common.{rules, ◌≡◌, ◌∙◌, IfSome, None, Ok, Some, Err, subst}
+use Rattle.oim_places.specs.FaultLists.{GivesRow}
+use Rattle.oim_explain.specs.ListedFaults.{Writes, located_records}
+use Rattle.oim_places.specs.FaultLists.{record_of}
+use Rattle.oim_explain.proofs.FaultTexts.{completes_cut, completes_end, completes_failed, completes_more, places_known}
+use Rattle.oim_explain.proofs.fault_list.put_rest.Goals as goal
+
+pub returns-in-None : goal.returns-in-None
+returns-in-None g c =
+    let from = g.W.Write.contents c.args.to.now in
+    let a = g.W.Write.contents c.loop.to in
+    let b = g.W.Write.contents c.put_located.new.to in
+    let located = c.in-Ok-Some.located in
+    let next = c.next_row.new.self.left in
+    let gives = subst (λ t. IfSome c.loop.rows.left (λ rows. GivesRow t rows (Ok (Some located)) next)) c.loop.invariant.table (rw c.in-Ok-Some.field-0-is at c.in-Ok-Some.ensures.next) in
+    let places = rw c.in-Ok-Some.field-0-is at c.in-Ok-Some.ensures.places in
+    let same : c.as_slice.result.now ≡ located = search rules in
+    let there : Writes a b c.args.id.now c.loop.left (located_records c.args.id.now c.as_slice.result.now) c.in_ok-after-in-Ok-Some.field-0 = c.in_ok-after-in-Ok-Some.ensures in
+    let here = subst (λ ls. Writes a b c.args.id.now c.loop.left (located_records c.args.id.now ls) c.in_ok-after-in-Ok-Some.field-0) same there in
+    let writes = subst (λ o. Writes a b c.args.id.now c.loop.left (located_records c.args.id.now located) o) c.in-None.is here in
+    λ bytes is are. completes_cut from a b c.args.rows.now.table c.args.id.now bytes c.args.room c.loop.left c.args.rows.now.left c.loop.rows.left next located
+    (c.loop.invariant.rest bytes is are) gives (places_known c.loop.rows.cells c.loop.rows.lines bytes located (c.loop.invariant.cells ∙ is) (c.loop.invariant.lines ∙ are) places) writes
+
+pub returns-in-Ok-None : goal.returns-in-Ok-None
+returns-in-Ok-None g c =
+    let next = c.next_row.new.self.left in
+    let gives = subst (λ t. IfSome c.loop.rows.left (λ rows. GivesRow t rows (Ok None) next)) c.loop.invariant.table (rw c.in-Ok-None.field-0-is at c.in-Ok-None.ensures.next) in
+    λ bytes is are. completes_end (g.W.Write.contents c.args.to.now) (g.W.Write.contents c.loop.to) c.args.rows.now.table c.args.id.now (record_of c.args.id.now bytes) c.args.room c.loop.left
+    c.args.rows.now.left c.loop.rows.left next (c.loop.invariant.rest bytes is are) gives
+
+pub returns-in-Err : goal.returns-in-Err
+returns-in-Err g c =
+    let next = c.next_row.new.self.left in
+    let gives = subst (λ t. IfSome c.loop.rows.left (λ rows. GivesRow t rows (Err c.in-Err.failure) next)) c.loop.invariant.table c.in-Err.ensures.next in
+    λ bytes is are. completes_failed (g.W.Write.contents c.args.to.now) (g.W.Write.contents c.loop.to) (g.W.Write.contents c.put_alone.new.to) c.args.rows.now.table c.args.id.now (record_of c.args.id.now bytes)
+    c.args.room c.loop.left c.args.rows.now.left c.loop.rows.left next c.in-Err.failure (c.loop.invariant.rest bytes is are) gives c.in_ok-put_alone-in-Err.ensures
+
+pub loop-preserved : goal.loop-preserved
+loop-preserved g c =
+    let from = g.W.Write.contents c.args.to.now in
+    let a = g.W.Write.contents c.loop.to in
+    let b = g.W.Write.contents c.put_located.new.to in
+    let located = c.in-Ok-Some.located in
+    let next = c.next_row.new.self.left in
+    let gives = subst (λ t. IfSome c.loop.rows.left (λ rows. GivesRow t rows (Ok (Some located)) next)) c.loop.invariant.table (rw c.in-Ok-Some.field-0-is at c.in-Ok-Some.ensures.next) in
+    let places = rw c.in-Ok-Some.field-0-is at c.in-Ok-Some.ensures.places in
+    let same : c.as_slice.result.now ≡ located = search rules in
+    let there : Writes a b c.args.id.now c.loop.left (located_records c.args.id.now c.as_slice.result.now) c.in_ok-after-in-Ok-Some.field-0 = c.in_ok-after-in-Ok-Some.ensures in
+    let here = subst (λ ls. Writes a b c.args.id.now c.loop.left (located_records c.args.id.now ls) c.in_ok-after-in-Ok-Some.field-0) same there in
+    let writes = subst (λ o. Writes a b c.args.id.now c.loop.left (located_records c.args.id.now located) o) c.in-Some.is here in
+    record {
+      table = c.in-Ok-Some.ensures.same.0 ∙ c.loop.invariant.table;
+      cells = c.in-Ok-Some.ensures.same.1 ∙ c.loop.invariant.cells;
+      lines = c.in-Ok-Some.ensures.same.2 ∙ c.loop.invariant.lines;
+      rest = λ bytes is are. completes_more from a b c.args.rows.now.table c.args.id.now bytes c.args.room c.loop.left c.in-Some.after c.args.rows.now.left c.loop.rows.left next located
+          (c.loop.invariant.rest bytes is are) gives (places_known c.loop.rows.cells c.loop.rows.lines bytes located (c.loop.invariant.cells ∙ is) (c.loop.invariant.lines ∙ are) places) writes;
+    }
