@@ -185,7 +185,7 @@ class Crew:
         self.program = program
         self.summaries = ManySummaries(batch.summary)
         self.convert, self.progress, self.outcomes = convert, progress, outcomes
-        self.holding = Holding()  # modules, for all later reports
+        self.holding = Holding(len(batch.reports))  # modules, for all later reports
         self.running: Dict[int, Running] = {}
         self.words: Counted[str] = Counter()
         self.listed: List[Listed] = []

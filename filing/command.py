@@ -2,6 +2,7 @@
 
 from __future__ import annotations
 
+import gc
 import os
 import sys
 import time
@@ -67,6 +68,9 @@ from .words import HELP, Settings, asked, read_words
 NAME = "xbrl-filing"
 DEBUG = "XBRL_FILING_DEBUG"  # 1 lets the traceback of a fault of this program through
 NO_MEMORY = "there is not enough memory"
+# How many new objects Python looks for garbage after. Its own 700 cost a tenth of the time of a
+# large module, whose values are all kept.
+NEW_OBJECTS = 50_000
 
 
 def main(words: List[str], program: str, opened: Optional[Opened] = None) -> int:
@@ -75,6 +79,7 @@ def main(words: List[str], program: str, opened: Optional[Opened] = None) -> int
     A run over many reports opens the packages of the taxonomy once, and gives them.
     """
     progress, stopping = Progress(), Stopping()
+    gc.set_threshold(NEW_OBJECTS)
     try:
         stopping.heed()
         status, line = attempt(words, program, progress, stopping, opened)
@@ -220,7 +225,8 @@ def convert(here: Run, joined: Joined) -> int:
     With `--progress` xbrl-json writes to standard error itself, unless `--explain` is given too.
     """
     settings, (origins, files, types) = here.settings, joined
-    types = types.with_text(with_named_members(types.text, files))
+    fewer = types.fewer(files) if types.fewer else with_named_members(types.text, files)
+    types = types if fewer is None else types.with_text(fewer)
     with temporary_folder(temporary_place(), f"{NAME}-", here.stopping) as folder:
         notes = RunNotes(settings, folder, here.program)
         written = write_files(folder, files, types, copy=False)
@@ -238,9 +244,10 @@ def convert(here: Run, joined: Joined) -> int:
         more = lines.end()
         if more:
             tell(f"{NAME}: {printable(more)}")
-        if status <= WRONG:
+        if status == WRONG:
             with here.stopping.held():
                 name_places(notes.faults, lines)
+        if status <= WRONG:
             notes.hand_on_faults()
         if any(asked_for(settings)) and status <= WRONG:
             sum_up(here, Converted(status, converting, files, written, lines, notes))

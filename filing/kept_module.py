@@ -27,6 +27,7 @@ from .dates import DateColumn, DatePlaces, date_places, with_types_of_dates
 from .digests import digest_of
 from .final import final_parts
 from .finding import Found
+from .held_types import HeldTypes
 from .kinds import REASONS, Kinds, kind_of
 from .lost_cells import mention_lost
 from .members import MemberPlaces, member_places, takes_unread, unread_prefixes
@@ -170,7 +171,7 @@ class ModuleCache:
         if self.key is None:
             return None
         try:
-            with entry_at(self.path()) as (module, text_of, types_file):
+            with entry_at(self.path()) as (module, text_of, types_file, held_types):
                 if any(part in module.final for part in OF_BOTH if part in self.own.value):
                     return None
                 files = Files.of(self.report, self.merged(module)).without_absent()
@@ -179,7 +180,8 @@ class ModuleCache:
                 used_templates = files.merged.value.get("tableTemplates", {})
                 blocks = {name: module.templates[name] for name in used_templates}
                 texts = {name: text_of(block) for name, block in blocks.items()}
-                types = TypesTable(text_of(module.types), types_file)
+                fewer = None if held_types is None else held_types.table
+                types = TypesTable(text_of(module.types), types_file, fewer)
                 types = types.with_text(with_types_of_dates(types.text, module.dates, files))
         except (OSError, ValueError, LookupError, TypeError, RecursionError, Refusal):
             return None
@@ -376,18 +378,21 @@ class Entry(NamedTuple):
     module: Module
     text_of: Callable[[Block], bytes]
     types_file: Optional[str]  # which has the types table, if it is in memory
+    types: Optional[HeldTypes]  # if many reports are to look at it
 
 
 # By their paths: the entries that the run which started this process has read for all reports.
 held: Dict[str, Entry] = {}
 MOST_HELD = 64 << 20  # bytes of all these entries
+MANY = 20  # reports of a run, from which on it is worth while to look at all templates
 
 
 class Holding:
     """Reads entries into memory for later processes, as many as there is room for."""
 
-    def __init__(self) -> None:
-        """Hold nothing so far."""
+    def __init__(self, reports: int) -> None:
+        """Hold nothing so far. Take how many reports the run is over."""
+        self.has_many = reports >= MANY
         self.tried: Set[str] = set()
         self.room = MOST_HELD
 
@@ -405,9 +410,18 @@ class Holding:
                 start = file.tell()
                 blocks = [module.types, *module.templates.values()]
                 texts = {block: read_block(file, start, block) for block in blocks}
+                types = held_types(module, texts) if self.has_many else None
             self.room -= size
-            held[path] = Entry(module, texts.__getitem__, file_of(texts[module.types]))
+            file = file_of(texts[module.types])
+            held[path] = Entry(module, texts.__getitem__, file, types)
             gc.freeze()  # as the run does at its begin
+
+
+def held_types(module: Module, texts: Mapping[Block, bytes]) -> HeldTypes:
+    """Return the types table of an entry, with the records that each of its templates names."""
+    templates = {name: texts[block] for name, block in module.templates.items()}
+    namespaces = module.rest["documentInfo"].get("namespaces", {})
+    return HeldTypes(texts[module.types], templates, namespaces)
 
 
 def file_of(text: bytes) -> Optional[str]:
@@ -435,7 +449,7 @@ def entry_at(path: str) -> Iterator[Entry]:
     with open(path, "rb") as file:
         module = read_index(file.readline())
         start = file.tell()
-        yield Entry(module, lambda block: read_block(file, start, block), None)
+        yield Entry(module, lambda block: read_block(file, start, block), None, None)
 
 
 def read_index(line: bytes) -> Module:

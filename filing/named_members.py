@@ -73,6 +73,11 @@ def limited(pieces: Iterable[bytes], most: int) -> Iterator[bytes]:
 
 def records_of(names: Iterable[bytes], namespaces: Object) -> Iterator[bytes]:
     """Yield the records that members of these names would have."""
+    return (front + MEMBER_END for front in fronts_of(names, namespaces))
+
+
+def fronts_of(names: Iterable[bytes], namespaces: Object) -> Iterator[bytes]:
+    """Yield the first two cells that the records of these names would have."""
     fronts: Dict[bytes, bytes] = {
         prefix.encode(errors="replace"): f"{quoted(uri)},".encode(errors="replace")
         for prefix, uri in namespaces.items()
@@ -81,4 +86,4 @@ def records_of(names: Iterable[bytes], namespaces: Object) -> Iterator[bytes]:
     for name in names:
         prefix, _, local = name.partition(b":")
         if prefix in fronts:
-            yield fronts[prefix] + local + MEMBER_END
+            yield fronts[prefix] + local

@@ -1,0 +1,63 @@
+"""The records of a types table that a report can look up, found once for many reports.
+
+A run over many reports holds the table of their module. Which records a template names is found
+when the table begins to be held, so for each report only its tables and parameters are searched.
+"""
+
+from __future__ import annotations
+
+from array import array
+from typing import Dict, Mapping, Optional, Set
+
+from .metadata import compact
+from .named_members import MEMBER_END, MOST, TEXT, fronts_of, names_of_files
+from .prepared import Files
+from .strict_json import Object
+
+LEAST_LEFT_OUT = 2  # of so many records one: else the table serves as it is
+
+
+class HeldTypes:
+    """A types table, and the numbers of the records that each template names."""
+
+    def __init__(self, text: bytes, templates: Mapping[str, bytes], namespaces: Object) -> None:
+        """Take a table, the templates of its module as JSON, and the prefixes of both."""
+        self.text = text
+        self.namespaces = namespaces
+        self.starts = array("L", [0])
+        self.numbers: Dict[bytes, int] = {}  # by the first two cells
+        members = []
+        for number, line in enumerate(text.splitlines(keepends=True)):
+            self.starts.append(self.starts[-1] + len(line))
+            self.numbers[line.rsplit(b",", 3)[0]] = number
+            if not members and line.endswith(MEMBER_END):
+                members.append(number)  # without one, xbrl-json would look none up
+        self.always = [0, *members]  # the header is record 0
+        self.of_template = {
+            name: array("L", self.found(set(TEXT.findall(template))))
+            for name, template in templates.items()
+        }
+
+    def found(self, names: Set[bytes]) -> Set[int]:
+        """Return the numbers of the records that have one of these names."""
+        fronts = fronts_of(names, self.namespaces)
+        return {self.numbers[front] for front in fronts if front in self.numbers}
+
+    def table(self, files: Files) -> Optional[bytes]:
+        """Return the table with only the records that a report can look up.
+
+        None if its tables are too large to be searched, or if few records would be left out.
+        """
+        value = files.merged.value
+        rest = compact({name: part for name, part in value.items() if name != "tableTemplates"})
+        names = names_of_files(files, MOST - len(rest))
+        if names is None:
+            return None
+        names.update(TEXT.findall(rest))
+        numbers = self.found(names).union(self.always)
+        for template in value.get("tableTemplates", {}):
+            numbers.update(self.of_template[template])
+        if len(numbers) * LEAST_LEFT_OUT > len(self.numbers):
+            return None
+        text, starts = self.text, self.starts
+        return b"".join([text[starts[at] : starts[at + 1]] for at in sorted(numbers)])

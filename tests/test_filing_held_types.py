@@ -1,0 +1,146 @@
+"""Tests what a run over many reports leaves out of the types table of their module.
+
+Each report's files must be the same as with the whole table, also if the report has a fault.
+"""
+from __future__ import annotations
+
+import json
+import os
+import subprocess
+import sys
+import unittest
+from array import array
+from pathlib import Path
+from typing import Any
+from unittest import mock
+
+from filing import held_types
+from filing.held_types import HeldTypes
+from filing.metadata import Merged
+from filing.prepared import Files
+from filing.report import report_by_itself
+from tests.filing_samples import include, item, schema
+from tests.harness import PATIENCE, PROGRAM, TOP, TestCase, write
+from tests.spoiled_filings import DOMAIN, ELEMENTS, SCHEMA_FILE, report, spoiled, taxonomy
+
+EG = "http://reg.example/eg"
+TYPES = "namespace,name,type3,period,values\n" + "".join(
+    f"{EG},{it}\n"
+    for it in (
+        *("Cash,monetary,instant,", "Note,text,,", "Region,explicit,,", "Branch,typed,,integer"),
+        *("A,member,,", "B,member,,", "C,member,,", "D,member,,"),
+    )
+)
+SPARE = 20  # concepts that nothing names
+
+# Runs over many reports as if there were enough to look at the templates, or not.
+DRIVER = """import sys
+sys.path.insert(0, sys.argv[1])
+from filing import command, held_types, kept_module
+kept_module.MANY, held_types.LEAST_LEFT_OUT = int(sys.argv[2]), 0
+sys.exit(command.main(sys.argv[4:], sys.argv[3]))
+"""
+# Notes how many records the types table has that xbrl-json gets.
+COUNTING = """#!/bin/sh
+for word; do [ "$before" = --types ] && wc -l < "$word" >> "$COUNTS"; before=$word; done
+exec "$REAL" "$@"
+"""
+
+
+class TestHeldTypes(TestCase):
+    """The records of a types table that are left for a report."""
+
+    def kept(self, templates: dict[str, Any], text: str, **parts: Any) -> list[str] | None:
+        """Returns the names of the records for a report with this table; None for all."""
+        info = {"documentInfo": {"namespaces": {"eg": EG}}, "tables": {"t": {"url": "t.csv"}}}
+        sketches = {name: {} for name in parts.pop("used", templates)}
+        value = {**info, "tableTemplates": sketches, **parts}
+        write(self.folder, {"m.json": "{}", "t.csv": text})
+        files = Files.of(report_by_itself(str(self.folder / "m.json")), Merged(value, {}))
+        texts = {name: json.dumps(it).encode() for name, it in templates.items()}
+        table = HeldTypes(TYPES.encode(), texts, {"eg": EG}).table(files)
+        if table is None:
+            return None
+        lines = table.decode().splitlines(keepends=True)
+        self.assertEqual(lines, [it for it in TYPES.splitlines(keepends=True) if it in lines])
+        return [it.split(",")[1] for it in lines]
+
+    def test_what_is_named(self) -> None:
+        """Keeps what the used templates, the other metadata and the cells name, and a member."""
+        templates = {"a": {"x": "eg:Cash"}, "b": {"eg:Region": "eg:C"}, "c": {"eg:Branch": "$x"}}
+        with mock.patch.object(held_types, "LEAST_LEFT_OUT", 0):
+            self.assertEqual(self.kept(templates, "v\n", used=["a"]), ["name", "Cash", "A"])
+            both = ["name", "Region", "Branch", "A", "C"]
+            self.assertEqual(self.kept(templates, "v\n", used=["b", "c"]), both)
+            by_cells = ["name", "Note", "A", "B", "D"]
+            self.assertEqual(self.kept({}, 'v\n"eg:B eg:Note"\neg:D,eg:None\n'), by_cells)
+            by_parameter = ["name", "Cash", "A"]
+            self.assertEqual(self.kept({}, "v\n", parameters={"p": "eg:Cash"}), by_parameter)
+
+    def test_the_whole_table(self) -> None:
+        """Leaves nothing out if that is little, or if a table is too large to be searched."""
+        self.assertEqual(self.kept({}, "v\n"), ["name", "A"])
+        self.assertIsNone(self.kept({"a": {"x": "eg:Cash", "y": "eg:Note", "z": "eg:B"}}, "v\n"))
+        with mock.patch.object(held_types, "MOST", 1_000):
+            self.assertIsNone(self.kept({}, "v\n" + 1_000 * "1\n"))
+
+    def test_places(self) -> None:
+        """Each record begins where it does in the table, and the last one has its end."""
+        text = TYPES.encode()
+        held = HeldTypes(text, {}, {})
+        ends = [at + 1 for at, byte in enumerate(text) if byte == ord("\n")]
+        self.assertEqual(held.starts, array("L", [0, *ends]))
+
+
+class TestManyReports(TestCase):
+    """The good filing, and each spoiled one of the same module."""
+
+    reports: list[str]
+
+    def outcome(self, many: int) -> tuple[dict[str, bytes], set[int]]:
+        """Returns the files of a run, without its measures, and the sizes of the types tables."""
+        counting, counts = self.folder / "counting", self.folder / f"counts{many}"
+        counting.write_text(COUNTING)
+        counting.chmod(0o755)
+        words = ["-c", DRIVER, str(TOP), str(many), str(counting), *self.reports]
+        words += ["--taxonomy", "t", "--into", "out", "--jobs", "1", "--explain"]
+        told = {**os.environ, "REAL": PROGRAM, "COUNTS": str(counts)}
+        ways: dict[str, Any] = {"cwd": self.folder, "env": told, "timeout": PATIENCE}
+        done = subprocess.run([sys.executable, *words], stderr=subprocess.DEVNULL, **ways)
+        self.assertEqual(done.returncode, 1)
+        out = self.folder / "out"
+        found = {it.name: self.measured(it) for it in out.iterdir() if it.is_file()}
+        out.rename(self.folder / f"out{many}")
+        return found, set(map(int, counts.read_text().split()))
+
+    def measured(self, path: Path) -> bytes:
+        """Returns a file's bytes; of an outcome, without seconds and memory."""
+        if path.suffix != ".outcome":
+            return path.read_bytes()
+        outcome = json.loads(path.read_bytes())
+        return json.dumps({**outcome, "seconds": 0, "memory": 0}).encode()
+
+    def test_the_same_files(self) -> None:
+        """Documents, faults, logs and outcomes are those with the whole types table."""
+        spare = "".join(item(f"Spare{it}") for it in range(SPARE))
+        elements = "\n".join([include("members.xsd"), ELEMENTS, DOMAIN, spare])
+        good = taxonomy()
+        write(self.folder / "t", taxonomy({SCHEMA_FILE: schema(elements)}))
+        filings = [it.report for it in spoiled() if it.taxonomy == good]
+        self.reports = []
+        for at, files in enumerate([report(), *filings]):
+            self.reports.append(f"in/{at:03}")
+            write(self.folder / self.reports[-1], files)
+        self.assertGreater(len(self.reports), 50)
+        whole, sizes = self.outcome(len(self.reports) + 1)
+        fewer, fewer_sizes = self.outcome(len(self.reports))
+        self.assertEqual(len(sizes), 1)
+        self.assertLess(min(fewer_sizes), max(sizes) - SPARE + 1)
+        self.assertIn("000.json", whole)
+        self.assertEqual(sorted(fewer), sorted(whole))
+        for name, content in whole.items():
+            self.assertEqual(fewer[name], content, name)
+
+
+if __name__ == "__main__":
+    unittest.main()
