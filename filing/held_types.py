@@ -7,7 +7,7 @@ when the table begins to be held, so for each report only its tables and paramet
 from __future__ import annotations
 
 from array import array
-from typing import Dict, Mapping, Optional, Set
+from typing import Dict, List, Mapping, Optional, Set
 
 from .metadata import compact
 from .named_members import MEMBER_END, MOST, TEXT, fronts_of, names_of_files
@@ -26,7 +26,7 @@ class HeldTypes:
         self.namespaces = namespaces
         self.starts = array("L", [0])
         self.numbers: Dict[bytes, int] = {}  # by the first two cells
-        members = []
+        members: List[int] = []
         for number, line in enumerate(text.splitlines(keepends=True)):
             self.starts.append(self.starts[-1] + len(line))
             self.numbers[line.rsplit(b",", 3)[0]] = number

@@ -53,7 +53,7 @@ class TestHeldTypes(TestCase):
     def kept(self, templates: dict[str, Any], text: str, **parts: Any) -> list[str] | None:
         """Returns the names of the records for a report with this table; None for all."""
         info = {"documentInfo": {"namespaces": {"eg": EG}}, "tables": {"t": {"url": "t.csv"}}}
-        sketches = {name: {} for name in parts.pop("used", templates)}
+        sketches: dict[str, Any] = {name: {} for name in parts.pop("used", templates)}
         value = {**info, "tableTemplates": sketches, **parts}
         write(self.folder, {"m.json": "{}", "t.csv": text})
         files = Files.of(report_by_itself(str(self.folder / "m.json")), Merged(value, {}))
