@@ -6,6 +6,7 @@ when the table begins to be held, so for each report only its tables and paramet
 
 from __future__ import annotations
 
+import re
 from array import array
 from typing import Dict, List, Mapping, Optional, Set
 
@@ -14,6 +15,8 @@ from .named_members import MEMBER_END, MOST, TEXT, fronts_of, names_of_files
 from .prepared import Files
 from .strict_json import Object
 
+# A text of JSON that may be a QName. A colon outside of texts follows a quotation mark.
+QNAME = re.compile(rb'"([^"\\:]+:[^"\\]+)"')
 LEAST_LEFT_OUT = 2  # of so many records one: else the table serves as it is
 
 
@@ -34,7 +37,7 @@ class HeldTypes:
                 members.append(number)  # without one, xbrl-json would look none up
         self.always = [0, *members]  # the header is record 0
         self.of_template = {
-            name: array("L", self.found(set(TEXT.findall(template))))
+            name: array("L", self.found(set(QNAME.findall(template))))
             for name, template in templates.items()
         }
 

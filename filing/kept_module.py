@@ -384,7 +384,7 @@ class Entry(NamedTuple):
 # By their paths: the entries that the run which started this process has read for all reports.
 held: Dict[str, Entry] = {}
 MOST_HELD = 64 << 20  # bytes of all these entries
-MANY = 20  # reports of a run, from which on it is worth while to look at all templates
+MANY = 50  # reports of a run, from which on it is worth while to look at all templates
 
 
 class Holding:
