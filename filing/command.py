@@ -244,9 +244,10 @@ def convert(here: Run, joined: Joined) -> int:
         more = lines.end()
         if more:
             tell(f"{NAME}: {printable(more)}")
-        if status <= WRONG:
+        if status == WRONG:
             with here.stopping.held():
                 name_places(notes.faults, lines)
+        if status <= WRONG:
             notes.hand_on_faults()
         if any(asked_for(settings)) and status <= WRONG:
             sum_up(here, Converted(status, converting, files, written, lines, notes))
