@@ -19,7 +19,8 @@ use Rattle.oim_places.specs.FaultPlaces.{IsTablePath, fault_of_file, is_of_file,
 use Rattle.oim_places.specs.FolderFiles.{FoundAt}
 use Rattle.oim_places.specs.FaultRows.{fault_fields}
 use Rattle.oim_places.specs.declared.bad_rows.LocatedFault.{LocatedFault}
-use Rattle.oim_explain.specs.ListedFaults.{ListsAlone, ListsRows, ListsTable, StartsRows, StartsWith, Writes, WritesRows, fault_text, listed_of, located_records, more_text, room_after, texts_of, up_to}
+use Rattle.oim_explain.specs.ListedFaults.{ListsAlone, ListsTable, Writes, WritesRows, fault_text, listed_of, room_after, texts_of, up_to}
+use Rattle.oim_explain.specs.state.ListedRows.{ListsRows, StartsRows, StartsWith, located_records, more_text}
 use Rattle.oim_explain.specs.declared.fault_list.ListedFaults.{ListedFaults}
 
 -- ---- records

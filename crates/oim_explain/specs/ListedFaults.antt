@@ -14,7 +14,6 @@ use Rattle.oim_table_faults.specs.TableFaults.{faults_of_rows}
 use Rattle.oim_places.specs.FaultLists.{faults_by_row, record_of}
 use Rattle.oim_places.specs.FaultPlaces.{HasFaultIn, IsTablePath, unknown_place}
 use Rattle.oim_places.specs.FaultRows.{fault_fields, more_fields}
-use Rattle.oim_places.specs.declared.bad_rows.LocatedFault.{LocatedFault}
 use Rattle.oim_places.specs.declared.fault_places.FaultPlace.{FaultPlace}
 use Rattle.oim_explain.specs.declared.fault_list.ListedFaults.{ListedFaults}
 
@@ -24,12 +23,9 @@ use Rattle.oim_explain.specs.declared.fault_list.ListedFaults.{ListedFaults}
 abbrev pub texts_of : List Record → List ℕ
 texts_of rows = flat_map (λ r. row_text default_writer r) rows
 
--- The text of a fault's record, and of the record that a table has more faults.
+-- The text of a fault's record.
 abbrev pub fault_text : List ℕ → TableFault → FaultPlace → List ℕ
 fault_text id f p = row_text default_writer (fault_fields id f p)
-
-abbrev pub more_text : List ℕ → List ℕ
-more_text id = row_text default_writer (more_fields id)
 
 -- ---- the limit
 
@@ -56,10 +52,6 @@ alone_of = record { count = 1; is_cut = false }
 
 -- ---- what is written
 
--- The records of faults of one row with what is at their places.
-abbrev pub located_records : List ℕ → List LocatedFault → List Record
-located_records id located = map (λ l. fault_fields id l.fault l.place) located
-
 -- These records were written up to the room, and this room is left.
 abbrev pub Writes : (old new : Option (List ℕ)) → (id : List ℕ) → (room : ℕ) → List Record → (after : Option ℕ) → Type 0
 Writes old new id room rows after = Appends old new (texts_of (up_to id room rows)) × (after ≡ room_after room rows)
@@ -81,13 +73,6 @@ pub record WritesShort (old new : Option (List ℕ)) (table : ℕ) (id : List �
 abbrev pub WritesRows : (old new : Option (List ℕ)) → (table : ℕ) → (id : List ℕ) → (TableFault → Record) → (room : ℕ) → List (List TableFault) → (after : Option ℕ) → Type 0
 WritesRows old new table id rec room rows after = Writes old new id room (map rec (faults_of_rows rows)) after ⊎ WritesShort old new table id rec room rows after
 
--- The faults with their places begin with this one, and so do those of these rows.
-abbrev pub StartsWith : TableFault → List LocatedFault → Type 0
-StartsWith f located = (first : LocatedFault) × (others : List LocatedFault) × (located ≡ first ∷ others) × (first.fault ≡ f)
-
-abbrev pub StartsRows : TableFault → List (List TableFault) → Type 0
-StartsRows f rows = (others : List TableFault) × (later : List (List TableFault)) × (rows ≡ (f ∷ others) ∷ later)
-
 -- Only the record of this fault was written, without its place.
 abbrev pub ListsAlone : (old new : Option (List ℕ)) → (id : List ℕ) → TableFault → ListedFaults → Type 0
 ListsAlone old new id f listed = (listed ≡ alone_of) × Appends old new (fault_text id f unknown_place)
@@ -95,10 +80,6 @@ ListsAlone old new id f listed = (listed ≡ alone_of) × Appends old new (fault
 -- The records of the faults of these rows, as far as the limit allows, were written.
 abbrev pub ListsAll : (old new : Option (List ℕ)) → (table : ℕ) → (id : List ℕ) → (most : ℕ) → (TableFault → Record) → List (List TableFault) → ListedFaults → Type 0
 ListsAll old new table id most rec rows listed = (after : Option ℕ) × (listed ≡ listed_of most after) × WritesRows old new table id rec most rows after
-
--- The same if the rows begin with this fault, or else only its record was written.
-abbrev pub ListsRows : (old new : Option (List ℕ)) → (table : ℕ) → (id : List ℕ) → TableFault → (most : ℕ) → (TableFault → Record) → List (List TableFault) → ListedFaults → Type 0
-ListsRows old new table id f most rec rows listed = ListsAlone old new id f listed ⊎ (StartsRows f rows × ListsAll old new table id most rec rows listed)
 
 -- ---- a table of a report
 

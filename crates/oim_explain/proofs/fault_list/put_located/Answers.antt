@@ -1,5 +1,6 @@
 use Rattle.std.proofs.Common.{◌≡◌, ◌+◌, ◌-◌, suc, None, Some, arith, drop, subst, sym}
-use Rattle.oim_explain.specs.ListedFaults.{Writes, located_records}
+use Rattle.oim_explain.specs.ListedFaults.{Writes}
+use Rattle.oim_explain.specs.state.ListedRows.{located_records}
 use Rattle.oim_explain.proofs.FaultTexts.{next_record_is, no_record_is, writes_more, writes_none, writes_one}
 use Rattle.oim_explain.proofs.fault_list.put_located.Goals as goal
 
