@@ -348,7 +348,7 @@ def join(
         return anew()
     joined = module.join(anew)
     if joined is None:
-        with claimed(settings.cache):
+        with claimed(settings.cache, module.path()):
             joined = module.join(anew) or anew(module)
     return joined
 
@@ -379,8 +379,9 @@ def join_anew(
     merged = merge(chain, renaming)
     origins = Origins(merged, chain, renaming)
     named = names_of(merged.value)
+    types = types_table(kinds, namespaces.values(), with_members=True)
     if module is not None:
-        module.keep(chain, merged, named, renaming, namespaces, kinds)
+        module.keep(chain, merged, named, renaming, namespaces, kinds, types)
     files = Files.of(report, merged).without_absent()
     merged = files.merged
     named = named.used_by(merged.value.get("tableTemplates", {}))
@@ -393,8 +394,8 @@ def join_anew(
     require_parameters(merged, files)
     refuse_lost_cells(merged, lost, files, kind)
     places = member_places(merged.value, unread_prefixes(namespaces, kinds), kind)
-    with_members = not takes_unread(places, merged, files)
-    types = types_table(kinds, namespaces.values(), with_members)
+    if takes_unread(places, merged, files):
+        types = types_table(kinds, namespaces.values(), with_members=False)
     chosen = with_types_of_dates(types, date_places(merged.value, kind), files)
     return origins, files, TypesTable(chosen)
 

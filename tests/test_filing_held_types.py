@@ -59,7 +59,9 @@ class TestHeldTypes(TestCase):
         write(self.folder, {"m.json": "{}", "t.csv": text})
         files = Files.of(report_by_itself(str(self.folder / "m.json")), Merged(value, {}))
         texts = {name: json.dumps(it).encode() for name, it in templates.items()}
-        table = HeldTypes(TYPES.encode(), texts, {"eg": EG}).table(files)
+        types = HeldTypes(TYPES.encode(), texts, {"eg": EG})
+        self.assertEqual(len(list(types.look())), len(templates))
+        table = types.table(files)
         if table is None:
             return None
         lines = table.decode().splitlines(keepends=True)
