@@ -86,6 +86,15 @@ class Module:
     sources: List[Source]  # of the module's parameters
 
 
+class Draft(NamedTuple):
+    """What an entry has of the metadata of its module, whatever the taxonomy is."""
+
+    merged: Merged
+    files: List[Metadata]  # of the module
+    rest: Object
+    texts: Dict[str, bytes]  # of the templates
+
+
 @dataclass(frozen=True)
 class KeptMerged(Merged):
     """The merged metadata of a report, whose templates are texts."""
@@ -235,28 +244,39 @@ class ModuleCache:
             for path, found in paths.items()
         ]
 
+    def draft(self, chain: Chain, merged: Merged) -> Optional[Draft]:
+        """Return what the entry of a module that was just merged has, apart from its taxonomy.
+
+        None if it can have no entry, or has one. Nothing was left out of the module so far.
+        """
+        if self.key is None or os.path.exists(self.path()):
+            return None
+        templates = merged.value.get("tableTemplates", {})
+        files = list(chain)[1:]
+        if not isinstance(templates, dict):
+            return None
+        if any(metadata.found.package not in self.packages for metadata in files):
+            return None
+        texts = {name: compact(template) for name, template in templates.items()}
+        return Draft(merged, files, self.rest(merged, files), texts)
+
     def keep(
         self,
-        chain: Chain,
-        merged: Merged,
+        draft: Draft,
         named: Named,
         renaming: Renaming,
         namespaces: Dict[str, str],
         kinds: Kinds,
         types: bytes,
     ) -> None:
-        """Write the entry of a module that was just merged, before anything is left out of it.
+        """Write the entry of a module.
 
         `types` is the types table of its namespaces, with members.
         """
-        if self.key is None or os.path.exists(self.path()):
-            return
+        merged, module_files = draft.merged, draft.files
         has_taxonomy = "taxonomy" in merged.value["documentInfo"]
         faulty = faulty_templates(named, has_taxonomy, namespaces, kinds)
-        if faulty is None or not isinstance(merged.value.get("tableTemplates", {}), dict):
-            return
-        module_files = list(chain)[1:]
-        if any(metadata.found.package not in self.packages for metadata in module_files):
+        if faulty is None:
             return
 
         def kind(name: str) -> Optional[str]:
@@ -271,16 +291,15 @@ class ModuleCache:
             place += len(data)
             return Block(place - len(data), len(data), digest_of(data).hex())
 
-        templates = merged.value.get("tableTemplates", {})
         index = {
-            "rest": self.rest(merged, module_files),
+            "rest": draft.rest,
             "final": sorted({part for metadata in module_files for part in final_parts(metadata)}),
             "faulty": sorted(faulty),
             "lost": renaming.lost,
             "members": member_places(merged.value, unread_prefixes(namespaces, kinds), kind),
             "dates": date_places(merged.value, kind),
             "types": block(types),
-            "templates": {name: block(compact(template)) for name, template in templates.items()},
+            "templates": {name: block(text) for name, text in draft.texts.items()},
             "sources": self.sources(merged, module_files),
         }
         head = json.dumps(index).encode()
