@@ -378,9 +378,10 @@ def sketch_of_column(column: Json) -> Json:
 
 
 def mark_of(kept: Object) -> object:
-    """Return what all equal levels have in common: the texts in their order, if there are no others.
+    """Return what only equal levels have in common.
 
-    Else it is their representation, which takes long: modules have 100,000 groups and more.
+    These are their texts, if they have no other values. Else it is the representation, which takes
+    long: modules have 100,000 groups and more.
     """
     dimensions = kept.get("dimensions")
     if not isinstance(dimensions, dict):

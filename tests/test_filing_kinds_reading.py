@@ -41,6 +41,7 @@ def read_schemas(*given):
 kinds_reading.read_schemas = read_schemas
 sys.exit(command.main(sys.argv[5:], sys.argv[4]))
 """
+NO_LIBRARY = "from filing import stopping\nstopping.c_library = lambda: None\n"
 WAIT = 0.02
 
 
@@ -196,16 +197,14 @@ class TestWhereNoneHelps(Case):
 class TestItsEnd(Case):
     """A second process that would take very long."""
 
-    def setUp(self) -> None:
+    def begin(self, driver: str) -> None:
         """Begins a run, and waits until its second process has begun."""
-        super().setUp()
         pack(self.folder / "r.zip", report())
         pack(self.folder / "t.zip", taxonomy())
+        words = self.words(PATIENCE, "--cache", "c")
+        words[2] = driver
         self.run_of = subprocess.Popen(
-            self.words(PATIENCE, "--cache", "c"),
-            cwd=self.folder,
-            stderr=subprocess.PIPE,
-            preexec_fn=heeding,
+            words, cwd=self.folder, stderr=subprocess.PIPE, preexec_fn=heeding
         )
         until = time.monotonic() + PATIENCE
         while not self.begun.exists() and time.monotonic() < until:
@@ -229,7 +228,8 @@ class TestItsEnd(Case):
         return False
 
     def test_a_signal(self) -> None:
-        """The second process ends before the run does."""
+        """The run ends the second process first, also if the system would not."""
+        self.begin(DRIVER.replace("begun,", f"{NO_LIBRARY}begun,", 1))
         self.run_of.send_signal(signal.SIGTERM)
         self.assertEqual(self.run_of.wait(PATIENCE), -signal.SIGTERM)
         self.assertFalse(is_running(self.helper))
@@ -238,11 +238,13 @@ class TestItsEnd(Case):
 
     def test_a_run_that_is_killed(self) -> None:
         """The system ends the second process."""
+        self.begin(DRIVER)
         self.run_of.kill()
         self.assertTrue(self.ends())
 
     def test_a_second_process_that_is_killed(self) -> None:
         """The run reads the schemas by itself."""
+        self.begin(DRIVER)
         os.kill(self.helper, signal.SIGKILL)
         self.assertEqual(self.run_of.wait(PATIENCE), 0)
         self.assertEqual(self.helped(), (True, True))
