@@ -25,6 +25,7 @@ from .strict_json import Object
 
 # A text of JSON that may be a QName. A colon outside of texts follows a quotation mark.
 QNAME = re.compile(rb'"([^"\\:]+:[^"\\]+)"')
+LINE_END = re.compile(rb"[\r\n]")
 LEAST_LEFT_OUT = 2  # of so many records one: else the table serves as it is
 NOWHERE = -1  # the number of a record that the table does not have
 
@@ -72,8 +73,11 @@ class HeldTypes:
     def table(self, files: Files) -> Optional[bytes]:
         """Return the table with only the records that a report can look up.
 
-        None if its tables are too large to be searched, or if few records would be left out.
+        None if its tables are too large to be searched, or if few records would be left out. So it
+        is if a namespace has an end of a line, because a record is then several lines.
         """
+        if any(LINE_END.search(cell) for cell in self.namespaces.values()):
+            return None
         value = files.merged.value
         rest = compact({name: part for name, part in value.items() if name != "tableTemplates"})
         names = names_of_files(files, MOST - len(rest))
