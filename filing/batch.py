@@ -201,7 +201,8 @@ class Crew:
             while task is not None and len(self.running) < self.batch.jobs:
                 self.begin(task)
                 task = next(waiting, None)
-            if select.select([woken], [], [], self.longest_wait())[0]:
+            is_busy = task is not None and self.holding.go_on()
+            if select.select([woken], [], [], 0 if is_busy else self.longest_wait())[0]:
                 os.read(woken, 1 << 16)
             self.end_late()
             self.take_ended()

@@ -64,17 +64,20 @@ def trim(folder: str, newest: str) -> None:
 
 
 @contextmanager
-def claimed(folder: str) -> Iterator[None]:
-    """Make entries while no other run makes some in this folder, if the file system has locks.
+def claimed(folder: str, entry: str) -> Iterator[None]:
+    """Make an entry while no other run makes some in this folder, if the file system has locks.
 
-    Wait only a while for another run: it may hang.
+    Wait only a while for another run: it may hang. Once the entry at this path exists, do not wait:
+    all runs that need it then go on at once.
     """
     lock = -1
     with suppress(OSError):
         lock = os.open(folder, os.O_RDONLY | os.O_CLOEXEC)
     try:
         until = time.monotonic() + LONGEST_WAIT
-        while lock >= 0 and not locked(lock) and time.monotonic() < until:
+        while lock >= 0 and not os.path.exists(entry) and not locked(lock):
+            if time.monotonic() > until:
+                break
             time.sleep(LOOKS_EVERY)
         yield
     finally:

@@ -12,9 +12,7 @@ from typing import Dict, List, NamedTuple, Optional, Tuple
 
 from .batch import run_batch
 from .batch_words import is_of_many
-from .cache import Cache, key_of
 from .cache_room import claimed
-from .catalog import CATALOG
 from .chain import Chain
 from .converter_program import require_counts, version_of
 from .dates import date_places, with_types_of_dates
@@ -23,11 +21,12 @@ from .filed import filed_of
 from .final import check_final
 from .finding import Finder, Found
 from .kept_module import Joined, ModuleCache
-from .kinds import REASONS, Kinds, kind_of, kinds_of
+from .kinds import REASONS, Kinds, kind_of
+from .kinds_reading import KindsReading, namespaces_of
 from .lost_cells import refuse_lost_cells
 from .marked_output import asked_for, check_asked
 from .members import member_places, takes_unread, unread_prefixes
-from .metadata import check_parts, merge
+from .metadata import Merged, check_parts, merge
 from .named import Places, names_of
 from .named_members import with_named_members
 from .nested import open_taxonomy
@@ -43,7 +42,6 @@ from .prepared import META, TYPES, Files, TypesTable, Written, move_into, write_
 from .progress import Progress
 from .refusals import FILES, WRONG, Refusal, cannot_write, printable, wrong
 from .report import find_report, report_by_itself
-from .schemas import Reference, read_schemas
 from .refused_faults import record_refusal
 from .run_notes import RunNotes
 from .stopping import (
@@ -203,7 +201,7 @@ def run_opened(here: Run, open_packages: ExitStack) -> int:
     place = None if settings.prepare is None else place_of(settings.prepare)
     if settings.parameters:
         return tell_parameters(report, packages, progress)
-    joined = join(report, packages, settings, progress)
+    joined = join(report, packages, settings, progress, stopping.heeds)
     _, files, types = joined
     refuse_outputs(settings, packages, files)
     progress.say("preparing the tables")
@@ -333,22 +331,29 @@ def open_inputs(
 
 
 def join(
-    report: Found, packages: List[Package], settings: Settings, progress: Progress
+    report: Found,
+    packages: List[Package],
+    settings: Settings,
+    progress: Progress,
+    may_fork: bool = False,
 ) -> Joined:
-    """Return what `join_anew` does; with a cache, from what it keeps of the module."""
+    """Return what `join_anew` does; with a cache, from what it keeps of the module.
+
+    With `may_fork` a second process may help: another program may have threads, which forbid it.
+    """
     if settings.cache is None:
         return join_anew(report, packages, settings, progress, None)
     progress.say("looking into the cache")
     module = ModuleCache(settings.cache, report, packages)
 
     def anew(kept_by: Optional[ModuleCache] = None) -> Joined:
-        return join_anew(report, packages, settings, progress, kept_by)
+        return join_anew(report, packages, settings, progress, kept_by, may_fork)
 
     if module.key is None:
         return anew()
     joined = module.join(anew)
     if joined is None:
-        with claimed(settings.cache):
+        with claimed(settings.cache, module.path()):
             joined = module.join(anew) or anew(module)
     return joined
 
@@ -359,6 +364,7 @@ def join_anew(
     settings: Settings,
     progress: Progress,
     module: Optional[ModuleCache],
+    may_fork: bool = False,
 ) -> Joined:
     """Join the metadata, and check it against the taxonomy.
 
@@ -370,17 +376,25 @@ def join_anew(
     lost = lost_prefixes(chain)
     check_final(chain, lost)
     namespaces = namespaces_of(chain)
-    kinds = read_kinds(chain, finder, packages, settings, progress)
+    reading = KindsReading(chain, finder, packages, settings.cache, progress)
 
     def kind(name: str) -> Optional[str]:
-        return kind_of(name, namespaces, kinds)
+        return kind_of(name, namespaces, reading.kinds())
 
     renaming = Renaming(lost, lambda name: kind(name) == "explicit")
-    merged = merge(chain, renaming)
+    try:
+        if may_fork:
+            reading.begin()
+        merged = merged_by(chain, renaming, reading)
+        named = names_of(merged.value)
+        draft = None if module is None else module.draft(chain, merged)
+        kinds = reading.kinds()
+    finally:
+        reading.end()
     origins = Origins(merged, chain, renaming)
-    named = names_of(merged.value)
-    if module is not None:
-        module.keep(chain, merged, named, renaming, namespaces, kinds)
+    types = types_table(kinds, namespaces.values(), with_members=True)
+    if module is not None and draft is not None:
+        module.keep(draft, named, renaming, namespaces, kinds, types)
     files = Files.of(report, merged).without_absent()
     merged = files.merged
     named = named.used_by(merged.value.get("tableTemplates", {}))
@@ -393,36 +407,19 @@ def join_anew(
     require_parameters(merged, files)
     refuse_lost_cells(merged, lost, files, kind)
     places = member_places(merged.value, unread_prefixes(namespaces, kinds), kind)
-    with_members = not takes_unread(places, merged, files)
-    types = types_table(kinds, namespaces.values(), with_members)
+    if takes_unread(places, merged, files):
+        types = types_table(kinds, namespaces.values(), with_members=False)
     chosen = with_types_of_dates(types, date_places(merged.value, kind), files)
     return origins, files, TypesTable(chosen)
 
 
-def namespaces_of(chain: Chain) -> Dict[str, str]:
-    """Return the prefixes of all files. Leave values that are not texts to xbrl-json."""
-    return {prefix: uri for metadata in chain for prefix, uri in metadata.info_part("namespaces").items() if isinstance(uri, str)}
-
-
-def read_kinds(chain: Chain, finder: Finder, packages: List[Package], settings: Settings, progress: Progress) -> Kinds:
-    """Return the kinds of the taxonomy's concepts and dimensions.
-
-    Keep them in the cache, unless a file of the report may be among the schemas.
-    """
-    entries = [Reference(place, metadata.label, "taxonomy", "") for metadata in chain for _, place in metadata.taxonomy()]
-    own = any(entry.place.local for entry in entries) or (finder.report in packages and finder.report.has(CATALOG))
-    if settings.cache is None or own:
-        return kinds_of(read_schemas(entries, finder, progress))
-    cache = Cache(settings.cache)
-    progress.say("looking into the cache")
-    taxonomy, urls = [package for package in packages if package is not finder.report], list(dict.fromkeys(entry.place.known().text for entry in entries))
-    key = key_of(taxonomy, urls)
-    kinds = cache.load(key, namespaces_of(chain).values())
-    if kinds is None:
-        kinds = kinds_of(read_schemas(entries, finder, progress))
-        if key_of(taxonomy, urls) == key:  # what was changed while it was read is not kept
-            cache.store(key, kinds)
-    return kinds
+def merged_by(chain: Chain, renaming: Renaming, reading: KindsReading) -> Merged:
+    """Return the merged metadata. A refusal of the taxonomy comes before one of the metadata."""
+    try:
+        return merge(chain, renaming)
+    except Refusal:
+        reading.kinds()
+        raise
 
 
 def refuse_impossible_concepts(

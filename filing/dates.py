@@ -9,6 +9,7 @@ from __future__ import annotations
 
 import re
 from datetime import date
+from functools import lru_cache
 from typing import Callable, Dict, Iterator, List, NamedTuple, Optional, Tuple
 
 from .metadata import objects
@@ -77,6 +78,7 @@ def form_of(text: str) -> str:
 def date_places(report: Object, kind_of: KindOf) -> DatePlaces:
     """Return the columns whose facts may have a concept of dates with or without a time."""
 
+    @lru_cache(maxsize=None)  # many groups have the same concept
     def is_sought(concept: str) -> bool:
         return reference("concept", concept) is not None or kind_of(concept) == DATE_TIME
 

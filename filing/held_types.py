@@ -1,32 +1,46 @@
 """The records of a types table that a report can look up, found once for many reports.
 
 A run over many reports holds the table of their module. Which records a template names is found
-when the table begins to be held, so for each report only its tables and parameters are searched.
+once, while reports are converted with the whole table. From then on only the tables and parameters
+of each report are searched.
 """
 
 from __future__ import annotations
 
 import re
 from array import array
-from typing import Dict, List, Mapping, Optional, Set
+from typing import Dict, Iterator, List, Mapping, Optional, Set
 
 from .metadata import compact
-from .named_members import MEMBER_END, MOST, TEXT, fronts_of, names_of_files
+from .named_members import (
+    MEMBER_END,
+    MOST,
+    TEXT,
+    cells_of_namespaces,
+    front_of,
+    names_of_files,
+)
 from .prepared import Files
 from .strict_json import Object
 
 # A text of JSON that may be a QName. A colon outside of texts follows a quotation mark.
 QNAME = re.compile(rb'"([^"\\:]+:[^"\\]+)"')
+LINE_END = re.compile(rb"[\r\n]")
 LEAST_LEFT_OUT = 2  # of so many records one: else the table serves as it is
+NOWHERE = -1  # the number of a record that the table does not have
 
 
 class HeldTypes:
     """A types table, and the numbers of the records that each template names."""
 
     def __init__(self, text: bytes, templates: Mapping[str, bytes], namespaces: Object) -> None:
-        """Take a table, the templates of its module as JSON, and the prefixes of both."""
+        """Take a table, the templates of its module as JSON, and the prefixes of both.
+
+        The table is of no use before `look` has looked at the templates.
+        """
         self.text = text
-        self.namespaces = namespaces
+        self.templates = templates
+        self.namespaces = cells_of_namespaces(namespaces)
         self.starts = array("L", [0])
         self.numbers: Dict[bytes, int] = {}  # by the first two cells
         members: List[int] = []
@@ -36,21 +50,34 @@ class HeldTypes:
             if not members and line.endswith(MEMBER_END):
                 members.append(number)  # without one, xbrl-json would look none up
         self.always = [0, *members]  # the header is record 0
-        self.of_template = {
-            name: array("L", self.found(set(QNAME.findall(template))))
-            for name, template in templates.items()
-        }
+        self.of_template: Dict[str, array[int]] = {}
+
+    def look(self) -> Iterator[None]:
+        """Look at the templates, and yield after each. Templates have many names in common."""
+        known: Dict[bytes, int] = {}
+        for name, template in self.templates.items():
+            names = set(QNAME.findall(template))
+            for new in names.difference(known):
+                front = front_of(new, self.namespaces)
+                known[new] = NOWHERE if front is None else self.numbers.get(front, NOWHERE)
+            numbers = set(map(known.__getitem__, names))
+            numbers.discard(NOWHERE)
+            self.of_template[name] = array("L", numbers)
+            yield
 
     def found(self, names: Set[bytes]) -> Set[int]:
         """Return the numbers of the records that have one of these names."""
-        fronts = fronts_of(names, self.namespaces)
+        fronts = (front_of(name, self.namespaces) for name in names)
         return {self.numbers[front] for front in fronts if front in self.numbers}
 
     def table(self, files: Files) -> Optional[bytes]:
         """Return the table with only the records that a report can look up.
 
-        None if its tables are too large to be searched, or if few records would be left out.
+        None if its tables are too large to be searched, or if few records would be left out. So it
+        is if a namespace has an end of a line, because a record is then several lines.
         """
+        if any(LINE_END.search(cell) for cell in self.namespaces.values()):
+            return None
         value = files.merged.value
         rest = compact({name: part for name, part in value.items() if name != "tableTemplates"})
         names = names_of_files(files, MOST - len(rest))

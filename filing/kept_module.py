@@ -32,7 +32,7 @@ from .kinds import REASONS, Kinds, kind_of
 from .lost_cells import mention_lost
 from .members import MemberPlaces, member_places, takes_unread, unread_prefixes
 from .metadata import Merged, Merging, Path, compact, objects
-from .named import Named, names_of, reference
+from .named import Named, is_reference, names_of
 from .origins import Origins
 from .packages import Package
 from .parameters import (
@@ -45,7 +45,6 @@ from .prefixes import Renaming
 from .prepared import Files, TypesTable
 from .refusals import Refusal
 from .strict_json import Json, Object, Values
-from .types_table import types_table
 
 # What a report must leave to its module, at its top and in `documentInfo`.
 OF_THE_MODULE = ("tableTemplates", "tables", "dimensions", "decimals", "links")
@@ -85,6 +84,15 @@ class Module:
     types: Block
     templates: Dict[str, Block]
     sources: List[Source]  # of the module's parameters
+
+
+class Draft(NamedTuple):
+    """What an entry has of the metadata of its module, whatever the taxonomy is."""
+
+    merged: Merged
+    files: List[Metadata]  # of the module
+    rest: Object
+    texts: Dict[str, bytes]  # of the templates
 
 
 @dataclass(frozen=True)
@@ -236,24 +244,39 @@ class ModuleCache:
             for path, found in paths.items()
         ]
 
+    def draft(self, chain: Chain, merged: Merged) -> Optional[Draft]:
+        """Return what the entry of a module that was just merged has, apart from its taxonomy.
+
+        None if it can have no entry, or has one. Nothing was left out of the module so far.
+        """
+        if self.key is None or os.path.exists(self.path()):
+            return None
+        templates = merged.value.get("tableTemplates", {})
+        files = list(chain)[1:]
+        if not isinstance(templates, dict):
+            return None
+        if any(metadata.found.package not in self.packages for metadata in files):
+            return None
+        texts = {name: compact(template) for name, template in templates.items()}
+        return Draft(merged, files, self.rest(merged, files), texts)
+
     def keep(
         self,
-        chain: Chain,
-        merged: Merged,
+        draft: Draft,
         named: Named,
         renaming: Renaming,
         namespaces: Dict[str, str],
         kinds: Kinds,
+        types: bytes,
     ) -> None:
-        """Write the entry of a module that was just merged, before anything is left out of it."""
-        if self.key is None or os.path.exists(self.path()):
-            return
+        """Write the entry of a module.
+
+        `types` is the types table of its namespaces, with members.
+        """
+        merged, module_files = draft.merged, draft.files
         has_taxonomy = "taxonomy" in merged.value["documentInfo"]
         faulty = faulty_templates(named, has_taxonomy, namespaces, kinds)
-        if faulty is None or not isinstance(merged.value.get("tableTemplates", {}), dict):
-            return
-        module_files = list(chain)[1:]
-        if any(metadata.found.package not in self.packages for metadata in module_files):
+        if faulty is None:
             return
 
         def kind(name: str) -> Optional[str]:
@@ -268,16 +291,15 @@ class ModuleCache:
             place += len(data)
             return Block(place - len(data), len(data), digest_of(data).hex())
 
-        templates = merged.value.get("tableTemplates", {})
         index = {
-            "rest": self.rest(merged, module_files),
+            "rest": draft.rest,
             "final": sorted({part for metadata in module_files for part in final_parts(metadata)}),
             "faulty": sorted(faulty),
             "lost": renaming.lost,
             "members": member_places(merged.value, unread_prefixes(namespaces, kinds), kind),
             "dates": date_places(merged.value, kind),
-            "types": block(types_table(kinds, namespaces.values(), with_members=True)),
-            "templates": {name: block(compact(template)) for name, template in templates.items()},
+            "types": block(types),
+            "templates": {name: block(text) for name, text in draft.texts.items()},
             "sources": self.sources(merged, module_files),
         }
         head = json.dumps(index).encode()
@@ -345,12 +367,29 @@ def sketch_of_column(column: Json) -> Json:
     if "propertiesFrom" in column:
         made["propertiesFrom"] = column["propertiesFrom"]
     if "propertyGroups" in column:
-        groups: Dict[str, Json] = {}
+        groups: Dict[object, Json] = {}
         for _, group in objects(column, "propertyGroups"):
             kept = level(group)
-            groups.setdefault(repr(kept), kept)
+            mark = mark_of(kept)
+            if mark not in groups:
+                groups[mark] = kept
         made["propertyGroups"] = {str(at): level for at, level in enumerate(groups.values())}
     return made
+
+
+def mark_of(kept: Object) -> object:
+    """Return what only equal levels have in common.
+
+    These are their texts, if they have no other values. Else it is the representation, which takes
+    long: modules have 100,000 groups and more.
+    """
+    dimensions = kept.get("dimensions")
+    if not isinstance(dimensions, dict):
+        return repr(kept)
+    for text in dimensions.values():
+        if not isinstance(text, str):
+            return repr(kept)
+    return tuple(dimensions.items()), kept.get("decimals")
 
 
 def level(owner: Object) -> Object:
@@ -358,18 +397,18 @@ def level(owner: Object) -> Object:
     made: Object = {}
     if "dimensions" in owner:
         dimensions = owner["dimensions"]
-        made["dimensions"] = dimensions
         if isinstance(dimensions, dict):
-            made["dimensions"] = dict(looked_at(dimensions))
-    if reference("decimals", owner.get("decimals")) is not None:
-        made["decimals"] = owner["decimals"]
+            dimensions = {
+                key: text
+                for key, text in dimensions.items()
+                if key in OF_EACH_FACT
+                or isinstance(text, str) and text.startswith("$") and is_reference(text)
+            }
+        made["dimensions"] = dimensions
+    decimals = owner.get("decimals")
+    if isinstance(decimals, str) and is_reference(decimals):
+        made["decimals"] = decimals
     return made
-
-
-def looked_at(dimensions: Object) -> Iterator[Tuple[str, Json]]:
-    for key, text in dimensions.items():
-        if key in OF_EACH_FACT or reference(key, text) is not None:
-            yield key, text
 
 
 class Entry(NamedTuple):
@@ -387,6 +426,10 @@ MOST_HELD = 64 << 20  # bytes of all these entries
 MANY = 50  # reports of a run, from which on it is worth while to look at all templates
 
 
+# What an entry that is not whole, or too little memory, leads to.
+UNUSABLE = (OSError, ValueError, LookupError, TypeError, RecursionError, MemoryError)
+
+
 class Holding:
     """Reads entries into memory for later processes, as many as there is room for."""
 
@@ -395,13 +438,14 @@ class Holding:
         self.has_many = reports >= MANY
         self.tried: Set[str] = set()
         self.room = MOST_HELD
+        self.looking: List[Iterator[None]] = []  # at types tables, one after the other
 
     def hold(self, path: str) -> None:
         """Read an entry, unless it was tried before, is not whole, or is larger than the room."""
         if path in self.tried:
             return
         self.tried.add(path)
-        with suppress(OSError, ValueError, LookupError, TypeError, RecursionError, MemoryError):
+        with suppress(*UNUSABLE):
             with open(path, "rb") as file:
                 size = os.fstat(file.fileno()).st_size
                 if size > self.room:
@@ -410,18 +454,38 @@ class Holding:
                 start = file.tell()
                 blocks = [module.types, *module.templates.values()]
                 texts = {block: read_block(file, start, block) for block in blocks}
-                types = held_types(module, texts) if self.has_many else None
             self.room -= size
             types_file = file_of(texts[module.types])
-            held[path] = Entry(module, texts.__getitem__, types_file, types)
+            held[path] = Entry(module, texts.__getitem__, types_file, None)
+            if self.has_many:
+                self.looking.append(look_at_types(path, texts))
             gc.freeze()  # as the run does at its begin
 
+    def go_on(self) -> bool:
+        """Do a little of what makes later reports faster. Return whether more is left to do."""
+        if not self.looking:
+            return False
+        with suppress(StopIteration, *UNUSABLE):
+            next(self.looking[0])
+            return True
+        del self.looking[0]
+        return bool(self.looking)
 
-def held_types(module: Module, texts: Mapping[Block, bytes]) -> HeldTypes:
-    """Return the types table of an entry, with the records that each of its templates names."""
+
+def look_at_types(path: str, texts: Mapping[Block, bytes]) -> Iterator[None]:
+    """Find the records of an entry's types table that each of its templates names.
+
+    Yield after every few hundredths of a second. Reports that begin before the end get the whole
+    table.
+    """
+    module = held[path].module
     templates = {name: texts[block] for name, block in module.templates.items()}
     namespaces = module.rest["documentInfo"].get("namespaces", {})
-    return HeldTypes(texts[module.types], templates, namespaces)
+    types = HeldTypes(texts[module.types], templates, namespaces)
+    yield
+    yield from types.look()
+    held[path] = held[path]._replace(types=types)
+    gc.freeze()
 
 
 def file_of(text: bytes) -> Optional[str]:

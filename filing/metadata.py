@@ -222,8 +222,16 @@ def pruned_template(template: Json) -> Json:
 def pruned_column(column: Json) -> Json:
     kept = only(column, COLUMN_MEMBERS)
     if isinstance(kept, dict) and isinstance(kept.get("propertyGroups"), dict):
-        kept["propertyGroups"] = {name: only(group, GROUP_MEMBERS) for name, group in kept["propertyGroups"].items()}
+        groups = kept["propertyGroups"].items()
+        kept["propertyGroups"] = {name: pruned_group(group) for name, group in groups}
     return kept
+
+
+def pruned_group(group: Json) -> Json:
+    """Return a property group without members that nobody reads: itself, if it has no other."""
+    if isinstance(group, dict) and all(name in GROUP_MEMBERS for name in group):
+        return group
+    return only(group, GROUP_MEMBERS)
 
 
 def only(value: Json, members: Tuple[str, ...]) -> Json:

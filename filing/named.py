@@ -44,20 +44,28 @@ def names_of(report: Object) -> Named:
         template = path[1] if path else None
         dimensions = level.get("dimensions")
         if isinstance(dimensions, dict):
-            add_dimensions(found, dimensions, template, path)
-        for name, place in references_of(path, level):
-            found.references.setdefault((name, template), place)
+            add_names(found, dimensions, template, path)
+        decimals = level.get("decimals")
+        if isinstance(decimals, str) and is_reference(decimals):
+            found.references.setdefault((decimals[1:], template), (*path, "decimals"))
     return found
 
 
-def add_dimensions(found: Named, dimensions: Object, template: Optional[str], path: Path) -> None:
-    """Add what an object of `dimensions` names, apart from references."""
+def add_names(found: Named, dimensions: Object, template: Optional[str], path: Path) -> None:
+    """Add what an object of `dimensions` names.
+
+    A module has 100,000 of them or more, so most keys and texts are only looked at for a mark.
+    """
     concept = dimensions.get("concept")
-    if isinstance(concept, str):
-        found.concepts.setdefault((concept, template), (*path, "dimensions", "concept"))
-    for key in dimensions:
-        if ":" in key:
-            found.dimensions.setdefault((key, template), (*path, "dimensions", key))
+    if isinstance(concept, str) and (concept, template) not in found.concepts:
+        found.concepts[concept, template] = (*path, "dimensions", "concept")
+    for key, text in dimensions.items():
+        if ":" in key and (key, template) not in found.dimensions:
+            found.dimensions[key, template] = (*path, "dimensions", key)
+        if isinstance(text, str) and text.startswith("$") and is_reference(text):
+            name = name_in(key, text)
+            if (name, template) not in found.references:
+                found.references[name, template] = (*path, "dimensions", key)
 
 
 def references_of(path: Path, level: Object) -> Iterator[Tuple[str, Path]]:
@@ -80,6 +88,14 @@ def reference(key: str, text: Json) -> Optional[str]:
 
     `key` is the dimension whose text it is.
     """
-    if not isinstance(text, str) or not text.startswith("$") or text.startswith("$$"):
-        return None
+    return name_in(key, text) if is_reference(text) else None
+
+
+def is_reference(text: Json) -> bool:
+    """Return whether a text refers to a column or a parameter."""
+    return isinstance(text, str) and text.startswith("$") and not text.startswith("$$")
+
+
+def name_in(key: str, text: str) -> str:
+    """Return the name in a text that refers to a column or a parameter."""
     return SIDE.sub("", text[1:]) if key == "period" else text[1:]

@@ -73,17 +73,22 @@ def limited(pieces: Iterable[bytes], most: int) -> Iterator[bytes]:
 
 def records_of(names: Iterable[bytes], namespaces: Object) -> Iterator[bytes]:
     """Yield the records that members of these names would have."""
-    return (front + MEMBER_END for front in fronts_of(names, namespaces))
+    cells = cells_of_namespaces(namespaces)
+    fronts = (front_of(name, cells) for name in names)
+    return (front + MEMBER_END for front in fronts if front is not None)
 
 
-def fronts_of(names: Iterable[bytes], namespaces: Object) -> Iterator[bytes]:
-    """Yield the first two cells that the records of these names would have."""
-    fronts: Dict[bytes, bytes] = {
+def cells_of_namespaces(namespaces: Object) -> Dict[bytes, bytes]:
+    """Return the first cell of the records of each prefix, with the comma after it."""
+    return {
         prefix.encode(errors="replace"): f"{quoted(uri)},".encode(errors="replace")
         for prefix, uri in namespaces.items()
         if isinstance(uri, str)
     }
-    for name in names:
-        prefix, _, local = name.partition(b":")
-        if prefix in fronts:
-            yield fronts[prefix] + local
+
+
+def front_of(name: bytes, cells: Dict[bytes, bytes]) -> Optional[bytes]:
+    """Return the first two cells that the record of a name would have; None if it has none."""
+    prefix, _, local = name.partition(b":")
+    cell = cells.get(prefix)
+    return None if cell is None else cell + local

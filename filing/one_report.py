@@ -9,8 +9,7 @@ import signal
 import sys
 from contextlib import suppress
 from dataclasses import dataclass
-from functools import lru_cache
-from typing import Any, Callable, List, Optional, Tuple
+from typing import Callable, List, Optional, Tuple
 
 from .digests import digest_of
 from .kept_module import ModuleCache
@@ -21,13 +20,13 @@ from .packages import Package, open_package
 from .page_run import write_refusal_page
 from .refusals import FILES, Refusal, cannot_write, printable
 from .refused_faults import record_refusal
+from .stopping import c_library, end_with_parent
 from .summary import write_refusal_summary
 from .words import Settings
 
 LONGEST_PATH = 1000  # of an entry that the run is told of
 KEPT = "kept"  # the report was converted before
 BEGUN = "begun"  # the outcome word while a report is in hand
-PR_SET_PDEATHSIG = 1
 # Converts a report by the command line; its package is open, if it is in one.
 Convert = Callable[[List[str], Optional[Package]], int]
 
@@ -129,26 +128,6 @@ def begin(task: Task, pipe: int, convert: Convert) -> int:
         status = 128 + signal.SIGTERM
     finally:
         os._exit(status)
-
-
-@lru_cache(maxsize=1)
-def c_library() -> Any:
-    """Return the C library with `prctl`, or None. It is loaded before the first process begins."""
-    with suppress(ImportError, OSError, AttributeError):
-        import ctypes
-
-        libc = ctypes.CDLL(None)
-        return libc if libc.prctl else None
-    return None
-
-
-def end_with_parent(parent: int) -> None:
-    """Have the system end this process by SIGTERM once its parent is gone, if it can."""
-    libc = c_library()
-    if libc is not None:
-        libc.prctl(PR_SET_PDEATHSIG, int(signal.SIGTERM), 0, 0, 0)
-    if os.getppid() != parent:
-        os._exit(128 + signal.SIGTERM)
 
 
 def attempt(task: Task, pipe: int, convert: Convert) -> int:

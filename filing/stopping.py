@@ -7,14 +7,16 @@ import select
 import shutil
 import signal
 import subprocess
-from contextlib import contextmanager
-from typing import Callable, Iterator, List, Optional
+from contextlib import contextmanager, suppress
+from functools import lru_cache
+from typing import Any, Callable, Iterator, List, Optional
 
 from .refusals import FILES, Refusal, cannot_write
 
 PIECE = 1 << 16
 LONGEST_WAIT = 1.0  # a caller may have blocked the signal that tells of the child's end
 SIGNALS = (signal.SIGINT, signal.SIGTERM, signal.SIGHUP)
+PR_SET_PDEATHSIG = 1
 NOT_STARTED = (126, 127)  # of the system's loader, which has said why: too old a C library
 Hear = Callable[[bytes], None]
 
@@ -37,10 +39,12 @@ class Stopping:
         self.holding = 0
         self.asked = 0
         self.told = False
+        self.heeds = False  # whether the process is this program's own
         self.folders: List[str] = []  # temporary ones that may be there
 
     def heed(self) -> None:
         """Begin to take signals, but not those that the caller ignores."""
+        self.heeds = True
         for taken in SIGNALS:
             if signal.getsignal(taken) not in (signal.SIG_IGN, None):
                 signal.signal(taken, lambda number, _: self.ask(number))
@@ -169,3 +173,23 @@ def end_by_signal(number: int) -> None:
     """End as a program that does not know the signal, so that the caller sees which it was."""
     signal.signal(number, signal.SIG_DFL)
     os.kill(os.getpid(), number)
+
+
+@lru_cache(maxsize=1)
+def c_library() -> Any:
+    """Return the C library with `prctl`, or None. It is loaded before the first process begins."""
+    with suppress(ImportError, OSError, AttributeError):
+        import ctypes
+
+        libc = ctypes.CDLL(None)
+        return libc if libc.prctl else None
+    return None
+
+
+def end_with_parent(parent: int) -> None:
+    """Have the system end this process by SIGTERM once its parent is gone, if it can."""
+    libc = c_library()
+    if libc is not None:
+        libc.prctl(PR_SET_PDEATHSIG, int(signal.SIGTERM), 0, 0, 0)
+    if os.getppid() != parent:
+        os._exit(128 + signal.SIGTERM)

@@ -9,17 +9,22 @@ import json
 import math
 import re
 from collections import Counter
-from typing import Any, Callable, Dict, Iterable, List, NoReturn, Optional, Tuple, Union
+from itertools import chain
+from typing import Any, Callable, Dict, Iterable, List, NamedTuple, NoReturn, Optional, Tuple, Union
 
 from .refusals import WRONG, Refusal, wrong
 
 Json = Any
 Object = Dict[str, Any]
+Made = Callable[[List[Tuple[str, Json]]], Object]  # an object of its members
+CONTAINERS = frozenset((dict, list))
 DEEPEST = 127
 LARGEST = 256 << 20  # bytes of one file, which is held as a whole
 LOOK = 1 << 18  # bytes that are looked at together
 MOST_VALUES = 5_000_000  # of the files of a run; the largest modules that were seen have 2 million
 SURROGATE = re.compile(rb"\\u[dD][89a-fA-F]")
+NAME_END = '":'  # how a name ends, unless there are blanks before its colon
+NAME_END_WITH_BLANKS = re.compile('"[ \t\r\n]+:')
 
 
 class RepeatedKey(Refusal):
@@ -105,9 +110,9 @@ def read_json(pieces: Iterable[bytes], label: str, values: Optional[Values] = No
     for piece in pieces:
         text.add(piece)
     has_surrogates = bool(SURROGATE.search(text.data))
-    repeated: List[str] = []
     try:
-        value = parsed(text, repeated)
+        decoded = taken(text)
+        value = parsed(decoded)
         if has_surrogates:
             json.dumps(value, ensure_ascii=False).encode()
     except UnicodeDecodeError as error:
@@ -121,33 +126,58 @@ def read_json(pieces: Iterable[bytes], label: str, values: Optional[Values] = No
         raise wrong(label, f"is not JSON: {why}") from None
     except ValueError as error:
         raise wrong(label, f"is not JSON: {error}") from None
-    depth, count = measured(value)
-    if depth > DEEPEST:
+    size = measured(value)
+    if size.depth > DEEPEST:
         raise wrong(label, f"is nested more than {DEEPEST} levels deep")
-    if repeated:
-        raise RepeatedKey(label, repeated[0])
-    values.add(count, label)
+    repeated = None if size.members == most_members(decoded) else repeated_key(decoded)
+    if repeated is not None:
+        raise RepeatedKey(label, repeated)
+    values.add(size.values, label)
     return value
 
 
-def parsed(text: Text, repeated: List[str]) -> Json:
-    """Return the value of a text, whose bytes are given up for it."""
+def taken(text: Text) -> str:
+    """Return a text without its byte-order mark. Its bytes are given up for it."""
     decoded = text.data.decode()
     text.data = bytearray()
     if decoded.startswith("\ufeff"):
         decoded = decoded[1:]
         if decoded.startswith("\ufeff"):
             raise ValueError("it begins with two byte-order marks")
+    return decoded
+
+
+def parsed(text: str, made: Optional[Made] = None) -> Json:
+    """Return the value of a text. `made` makes each object, if it is given."""
     return json.loads(
-        decoded,
+        text,
         parse_constant=no_constant,
         parse_float=number,
         parse_int=whole,
-        object_pairs_hook=made_by(repeated),
+        object_pairs_hook=made,
     )
 
 
-def made_by(repeated: List[str]) -> Callable[[List[Tuple[str, Json]]], Object]:
+def most_members(text: str) -> int:
+    """Return how many members the objects of a JSON text have at most, by the ends of their names.
+
+    Each member has a colon after the quotation mark of its name. A text may have both inside of it,
+    so a text without repeated keys may have fewer members, but never more.
+    """
+    return text.count(NAME_END) + len(NAME_END_WITH_BLANKS.findall(text))
+
+
+def repeated_key(text: str) -> Optional[str]:
+    """Return the first key of a JSON text that one object has more than once, or None.
+
+    It calls Python for each object, which takes as long as all the rest.
+    """
+    repeated: List[str] = []
+    parsed(text, made_by(repeated))
+    return repeated[0] if repeated else None
+
+
+def made_by(repeated: List[str]) -> Made:
     """Return what makes an object of its members.
 
     It notes a key that one object has more than once: xBRL-CSV 1.0 has none in a metadata file.
@@ -179,16 +209,30 @@ def whole(text: str) -> Union[int, float]:
     return number(text) if text == "-0" or len(text) > 300 else int(text)
 
 
-def measured(value: Json) -> Tuple[int, int]:
-    """Return the depth of objects and arrays, and the count of values."""
-    level: List[Json] = [value] if isinstance(value, (dict, list)) else []
-    depth, count = 0, 1
-    while level:
+class Size(NamedTuple):
+    """How deep objects and arrays are, and how many values and members of objects there are."""
+
+    depth: int
+    values: int
+    members: int
+
+
+def measured(value: Json) -> Size:
+    """Return the size of a value as JSON was read."""
+    level: List[Json] = [value]
+    depth = members = 0
+    values = 1
+    while True:
+        objects = [value for value in level if type(value) is dict]
+        arrays = [value for value in level if type(value) is list]
+        if not objects and not arrays:
+            return Size(depth, values, members)
         depth += 1
-        count += sum(map(len, level))
-        inner = (value.values() if isinstance(value, dict) else value for value in level)
-        level = [value for values in inner for value in values if isinstance(value, (dict, list))]
-    return depth, count
+        of_objects = sum(map(len, objects))
+        members += of_objects
+        values += of_objects + sum(map(len, arrays))
+        inner = chain(map(dict.values, objects), arrays)
+        level = [value for value in chain.from_iterable(inner) if type(value) in CONTAINERS]
 
 
 def equal(one: Json, other: Json) -> bool:

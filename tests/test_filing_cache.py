@@ -13,7 +13,7 @@ from collections.abc import Callable
 from pathlib import Path
 from typing import Any
 
-from filing import command, digests, packages, refusals, stopping
+from filing import digests, kinds_reading, packages, refusals, stopping
 from tests.filing_samples import (
     EG,
     ELEMENTS,
@@ -40,7 +40,7 @@ from tests.harness import PATIENCE, TOP, write
 whole_digests: Any = digests
 
 # The module with the names that it imports.
-whole_command: Any = command
+whole_reading: Any = kinds_reading
 
 
 def cached_runs(
@@ -83,16 +83,16 @@ class TestRuns(FilingTest):
         self.case("keeps one entry", len(entries()), 1)
         kept = folder / "c" / entries()[0]
         marked = kept.read_bytes().replace(b"Note text", b"Nota text")
-        reader = whole_command.read_schemas
+        reader = whole_reading.read_schemas
         try:
-            whole_command.read_schemas = None
+            whole_reading.read_schemas = None
             self.case(
                 "and the next one reads it, and no schema",
                 (made(), len(entries())),
                 (((0, ""), TYPES), 1),
             )
         finally:
-            whole_command.read_schemas = reader
+            whole_reading.read_schemas = reader
         kept.write_bytes(marked)
         self.case("an entry that was changed is not taken", made(), ((0, ""), TYPES))
         self.case("and is made anew", b"Note text" in kept.read_bytes(), True)
@@ -230,7 +230,7 @@ class TestRuns(FilingTest):
         """
         folder = self.folder
         made, entries = cached_runs(folder)
-        reader, key_of = whole_command.read_schemas, whole_command.key_of
+        reader, key_of = whole_reading.read_schemas, whole_reading.key_of
         other = {**TAXONOMY, "reg/mod.xsd": schema(ELEMENTS.replace("Note", "Nope"))}
 
         def and_then_changed(*given: Any) -> Any:
@@ -246,16 +246,16 @@ class TestRuns(FilingTest):
             return key_of(*given)
 
         try:
-            whole_command.read_schemas = and_then_changed
+            whole_reading.read_schemas = and_then_changed
             self.case(
                 "a folder that is changed while it is read",
                 (made(), (folder / "c").exists()),
                 (((0, ""), TYPES), False),
             )
-            whole_command.read_schemas, whole_command.key_of = reader, changed_first
+            whole_reading.read_schemas, whole_reading.key_of = reader, changed_first
             self.case("a ZIP that is replaced while it is read", made("t.zip"), ((0, ""), TYPES))
         finally:
-            whole_command.read_schemas, whole_command.key_of = reader, key_of
+            whole_reading.read_schemas, whole_reading.key_of = reader, key_of
         new = TYPES.replace("Note", "Nope")
         self.case(
             "what it was is not taken for what it is",

@@ -6,6 +6,7 @@ from collections.abc import Iterator
 from typing import Any
 
 from filing import command
+from filing.strict_json import RepeatedKey, read_json
 from tests.filing_samples import (
     CSV,
     HOST,
@@ -350,6 +351,33 @@ def repeated_keys() -> Iterator[Case]:
 @for_each(cases(repeated_keys()))
 class TestRepeatedKeys(FilingTest):
     """The cases of `repeated_keys`."""
+
+
+class TestRepeatedKeysOfTexts(FilingTest):
+    """Texts in which the ends of names are not all that looks like one."""
+
+    TEXTS = (
+        ('{"a":1,"a" :2}', "a"),
+        ('{"a":1,"a"\n\t\r :2,"b":":"}', "a"),
+        ('{"a" : 1, "a" : 2}', "a"),
+        ('{"a":1,"\\u0061":2}', "a"),
+        ('{"a":"\\":","b":1,"b":2}', "b"),
+        ('{"a":{"b":1,"b":2},"c":1,"c":2}', "b"),
+        ('[{"a":1},{"a":1,"b":[{"a":{},"c":[{"c":0,"c":0}]}]}]', "c"),
+        ('{"a":":","b":"\\":","c":"\\\\","\\"":"\\":\\":"}', None),
+        ('[{"a":1},{"a":1,"b":[{"a":{},"c":[]}]},"a","a"]', None),
+        ('":"', None),
+    )
+
+    def test_texts(self) -> None:
+        """A text is refused if an object has a key twice, else it is the value that it is."""
+        for text, key in self.TEXTS:
+            with self.subTest(text):
+                try:
+                    self.assertEqual(read_json([text.encode()], "f"), json.loads(text))
+                    self.assertIsNone(key)
+                except RepeatedKey as refusal:
+                    self.assertIn(f"has the key '{key}' more than once", refusal.line)
 
 
 class TestRuns(FilingTest):

@@ -15,7 +15,7 @@ from pathlib import Path
 from typing import Any
 from unittest import mock
 
-from filing import held_types
+from filing import held_types, kept_module, library
 from filing.held_types import HeldTypes
 from filing.metadata import Merged
 from filing.prepared import Files
@@ -59,7 +59,9 @@ class TestHeldTypes(TestCase):
         write(self.folder, {"m.json": "{}", "t.csv": text})
         files = Files.of(report_by_itself(str(self.folder / "m.json")), Merged(value, {}))
         texts = {name: json.dumps(it).encode() for name, it in templates.items()}
-        table = HeldTypes(TYPES.encode(), texts, {"eg": EG}).table(files)
+        types = HeldTypes(TYPES.encode(), texts, {"eg": EG})
+        self.assertEqual(len(list(types.look())), len(templates))
+        table = types.table(files)
         if table is None:
             return None
         lines = table.decode().splitlines(keepends=True)
@@ -85,12 +87,71 @@ class TestHeldTypes(TestCase):
         with mock.patch.object(held_types, "MOST", 1_000):
             self.assertIsNone(self.kept({}, "v\n" + 1_000 * "1\n"))
 
+    def test_a_namespace_of_two_lines(self) -> None:
+        """Its records have two lines, so nothing is left out."""
+        for end in ("\n", "\r"):
+            namespace = f"http://reg.example/{end}eg"
+            types = TYPES.replace(EG, f'"{namespace}"')
+            write(self.folder, {"m.json": "{}"})
+            files = Files.of(report_by_itself(str(self.folder / "m.json")), Merged({}, {}))
+            table = HeldTypes(types.encode(), {}, {"eg": namespace})
+            with mock.patch.object(held_types, "LEAST_LEFT_OUT", 0):
+                self.assertIsNone(table.table(files))
+
     def test_places(self) -> None:
         """Each record begins where it does in the table, and the last one has its end."""
         text = TYPES.encode()
         held = HeldTypes(text, {}, {})
         ends = [at + 1 for at, byte in enumerate(text) if byte == ord("\n")]
         self.assertEqual(held.starts, array("L", [0, *ends]))
+
+
+class TestHolding(TestCase):
+    """Looking at the templates of a module little by little."""
+
+    path: str
+
+    def setUp(self) -> None:
+        """Makes the entry of a module."""
+        super().setUp()
+        write(self.folder / "r", report())
+        write(self.folder / "t", taxonomy())
+        at = {it: str(self.folder / it) for it in ("r", "t", "p", "c")}
+        library.prepare(at["r"], [at["t"]], at["p"], at["c"])
+        self.path = str(next((self.folder / "c").glob("*.module")))
+        self.addCleanup(lambda: kept_module.held.pop(self.path, None))
+
+    def went_on(self, reports: int) -> int:
+        """Holds the entry in a run of some reports. Returns how often it then goes on."""
+        holding = kept_module.Holding(reports)
+        holding.hold(self.path)
+        self.assertIsNone(kept_module.held[self.path].types)
+        times = 0
+        while holding.go_on():
+            times += 1
+            self.assertIsNone(kept_module.held[self.path].types)
+        self.assertFalse(holding.go_on())
+        return times
+
+    def test_many_reports(self) -> None:
+        """The whole table serves until all templates are looked at."""
+        entry_templates = 2
+        self.assertEqual(self.went_on(kept_module.MANY), entry_templates + 1)
+        module, types = kept_module.held[self.path].module, kept_module.held[self.path].types
+        assert types is not None
+        self.assertEqual(set(types.of_template), set(module.templates))
+
+    def test_few_reports(self) -> None:
+        """Nothing is looked at."""
+        self.assertEqual(self.went_on(kept_module.MANY - 1), 0)
+        self.assertIsNone(kept_module.held[self.path].types)
+
+    def test_too_little_memory(self) -> None:
+        """The whole table serves for all reports."""
+        for it in ("__init__", "look"):
+            with self.subTest(it), mock.patch.object(HeldTypes, it, side_effect=MemoryError):
+                self.assertLess(self.went_on(kept_module.MANY), 2)
+                self.assertIsNone(kept_module.held[self.path].types)
 
 
 class TestManyReports(TestCase):

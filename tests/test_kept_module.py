@@ -281,13 +281,14 @@ class TestTheEntry(Case):
 
     def test_only_one_run_makes_an_entry(self) -> None:
         self.cache.mkdir()
+        entry = str(self.cache / "entry")
         order: List[str] = []
 
         def other() -> None:
-            with cache_room.claimed(str(self.cache)):
+            with cache_room.claimed(str(self.cache), entry):
                 order.append("other")
 
-        with cache_room.claimed(str(self.cache)):
+        with cache_room.claimed(str(self.cache), entry):
             thread = threading.Thread(target=other)
             thread.start()
             time.sleep(0.3)
@@ -297,11 +298,26 @@ class TestTheEntry(Case):
 
     def test_a_run_that_hangs_is_waited_for_a_while_only(self) -> None:
         self.cache.mkdir()
-        with cache_room.claimed(str(self.cache)):
+        entry = str(self.cache / "entry")
+        with cache_room.claimed(str(self.cache), entry):
             with mock.patch.object(cache_room, "LONGEST_WAIT", 0.2):
                 begun = time.monotonic()
-                with cache_room.claimed(str(self.cache)):
+                with cache_room.claimed(str(self.cache), entry):
                     self.assertGreater(time.monotonic(), begun + 0.2)
+
+    def test_nobody_waits_for_an_entry_that_exists(self) -> None:
+        self.cache.mkdir()
+        entry = self.cache / "entry"
+        with cache_room.claimed(str(self.cache), str(entry)):
+            with mock.patch.object(cache_room, "LONGEST_WAIT", 20.0):
+                made = threading.Timer(0.2, entry.touch)
+                made.start()
+                begun = time.monotonic()
+                for _ in range(2):
+                    with cache_room.claimed(str(self.cache), str(entry)):
+                        self.assertTrue(entry.exists())
+                self.assertLess(time.monotonic(), begun + 20)
+                made.join()
 
     def test_a_cache_that_cannot_be_written_is_refused(self) -> None:
         self.cache.write_text("a file")
