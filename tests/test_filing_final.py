@@ -448,7 +448,7 @@ def lost_prefixes() -> Iterator[Case]:
             "reports/p.csv": f'\ufeffname,value\nx,n:x\n{name},"{text}"\n',
         }
         for form in ("folder", "zip"):
-            line = lost.format("p.csv", name, text)
+            line = lost.format("p.csv, line 3, cell 2", name, text)
             yield stops(
                 f"a parameter {text} in a file, {form}",
                 line,
@@ -462,7 +462,7 @@ def lost_prefixes() -> Iterator[Case]:
     }
     yield stops(
         "a parameter behind a very long one",
-        lost.format("p.csv", "z", "m:x"),
+        lost.format("p.csv, line 3, cell 2", "z", "m:x"),
         report=file,
         taxonomies=[module],
     )

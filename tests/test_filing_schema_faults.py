@@ -430,7 +430,8 @@ class TestBadFilings(SchemaTest):
         self.refused(bad, baseCurrency=None, baseCurency="iso4217:EUR")
         given: dict[str, Any] = {"baseCurrency": None, "basecurrency": "iso4217:EUR"}
         status, _, err = self.convert([bad[0][0]], **given)
-        line = "xbrl-filing: r/reports/parameters.csv: nothing refers to the parameter 'basecurrency'"
+        place = "r/reports/parameters.csv, line 5, cell 1"
+        line = f"xbrl-filing: {place}: nothing refers to the parameter 'basecurrency'"
         self.assertEqual((status, err[: len(line)]), (1, line))
 
     def test_a_replaced_prefix(self) -> None:
