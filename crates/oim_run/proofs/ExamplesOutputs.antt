@@ -183,6 +183,7 @@ asked out faults = record {
   explain = false;
   no_explain = false;
   faults = faults;
+  most_faults = 1000000;
   counts = None;
 }
 
