@@ -145,9 +145,9 @@ SOURCES: list[tuple[dict[Place, Any], str, str, str, str, list[str]]] = [
         {(*CASH, "dimensions", "concept"): "$note"},
         "cash\n1\n",
         "NoConcept (33)",
-        f'{AT_CASH}/dimensions/concept: "$note"',
+        'r/t1.csv, line 2: the header has no column "note"',
         "no concept is given",
-        [],
+        [f'{AT_CASH}/dimensions/concept: "$note"'],
     ),
     (
         {

@@ -43,7 +43,7 @@ const NO_EXPLAIN_HELP: &str = "Print the faults alone, also on a terminal";
 
 const FAULTS_HELP: &str = "The file for all faults of all tables, as CSV";
 
-const MOST_FAULTS_HELP: &str = "How many faults of one table FILE of --faults gets";
+const MOST_FAULTS_HELP: &str = "How many faults of one table FILE of\n--faults gets";
 
 const COUNTS_HELP: &str = "The file for the facts and rows of each table, as JSON";
 
