@@ -38,7 +38,7 @@ def filed(name: str, value: str = "1", **parts: Any) -> dict[str, Any]:
     return {"report": report, "taxonomies": [{**TAXONOMY, "reg/mod.json": meta(INFO, **whole)}]}
 
 
-def other_letters(given: str, wanted: str, file: str = "r/reports/p.csv") -> str:
+def other_letters(given: str, wanted: str, file: str = "r/reports/p.csv, line 3, cell 1") -> str:
     """Returns the line that refuses a parameter because another one is wanted."""
     end = "which is no parameter and no column of it (names are compared exactly)"
     return (
@@ -193,7 +193,7 @@ def parameters_of_each_fact() -> Iterator[Case]:
                 )
                 yield stops(
                     f"an empty parameter for {key} {period}, {form}",
-                    line,
+                    told(key, name, "r/reports/p.csv, line 3, cell 2"),
                     form=form,
                     **filed_with(f"{less}{name},\n", **of_all),
                 )
