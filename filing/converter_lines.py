@@ -9,7 +9,7 @@ import os
 import re
 import sys
 from contextlib import suppress
-from typing import Dict, Optional
+from typing import Dict, Optional, Tuple
 
 from .origins import Origins
 from .refusals import escaped
@@ -69,6 +69,11 @@ class ConverterLines:
         """Return a place of the file of `--faults` in the names of the filing."""
         found = self.origins.place(text)
         return f"{found[0]}: {found[1]}" if found else self.renamed(text)
+
+    def cause(self, file: str, cell: str) -> Tuple[str, str]:
+        """Return the file and the cell of a cause in the names of the filing."""
+        found = self.origins.place(cell) if cell.startswith("/") else None
+        return found or (self.renamed(file), cell)
 
     def renamed(self, text: str) -> str:
         """Return a text with the filing's names for the files of the folder."""
