@@ -1,5 +1,5 @@
--- The file of faults: a header, and a record of thirteen fields for each fault. A field is in quotes if
--- it needs them (RFC 4180, section 2), and LF ends each record.
+-- The file of faults: a header, and a record of thirteen fields for each fault. A field is in
+-- quotes if it needs them (RFC 4180, section 2), and LF ends each record.
 use Rattle.std.specs.Prelude.{◌≡◌, ℕ, List, [], ◌∷◌, ◌++◌, Option, Some, None, codes}
 use Rattle.std.specs.Fmt.{decimal}
 use Rattle.csv.specs.Machine.{next_record}

@@ -22,9 +22,9 @@ class Fault:
     cell, and `cell` the row's cell. For another file `cell` is the text at the place, and `place`
     says where it is. `line` is None, and a text empty, if it does not apply.
 
-    `cause_file`, `cause_line`, `cause_cell` and `cause_text` are the place that causes the fault and
-    the text there: a parameter, another cell, a property of the metadata. They are empty if that is
-    the fault's own place.
+    `cause_file`, `cause_line`, `cause_cell` and `cause_text` are the place that causes the fault
+    and the text there: a parameter, another cell, a property of the metadata. `cause_line` is None,
+    and the others are empty, if that is the fault's own place.
     """
 
     table: str
