@@ -73,18 +73,14 @@ impl<'r> FaultCauses<'r> {
         }
     }
 
-    /// Counts the row of a fault if it has the cause of the first one.
-    fn count(&mut self, fault: &TableFault, cause: &FaultCause) -> Result<(), AllocError> {
-        if self.first.is_none() {
-            self.first = Some(cause.copied()?);
-        }
+    /// Counts the row of a fault if it has the cause of the first one, which is elsewhere.
+    fn count(&mut self, row: u32, cause: &FaultCause) {
         if let Some(first) = &self.first {
-            if fault.row > self.last && !cause.file.as_str().is_empty() && is_same(first, cause) {
+            if row > self.last && !cause.file.as_str().is_empty() && is_same(first, cause) {
                 self.rows = self.rows.saturating_add(1);
-                self.last = fault.row;
+                self.last = row;
             }
         }
-        Ok(())
     }
 
     /// Returns the cause of the next fault of the table. It is of these records, of which the row
@@ -96,8 +92,11 @@ impl<'r> FaultCauses<'r> {
         cells: &RowAgain,
         line: Option<u64>,
     ) -> Result<FaultCause, AllocError> {
+        if self.first.is_none() {
+            self.first = Some(self.found(alloc, fault, cells, line)?);
+        }
         let cause = self.found(alloc, fault, cells, line)?;
-        self.count(fault, &cause)?;
+        self.count(fault.row, &cause);
         Ok(cause)
     }
 }

@@ -49,17 +49,14 @@ pub struct ListedFaults {
 fn counted(most: usize, room: Option<usize>, rows: usize) -> ListedFaults
     ensures { result ≡ listed_of most room rows }
 {
-    match room {
-        Some(room) => ListedFaults {
-            count: most.saturating_sub(room),
-            is_cut: false,
-            rows,
-        },
-        None => ListedFaults {
-            count: most,
-            is_cut: true,
-            rows,
-        },
+    let (count, is_cut) = match room {
+        Some(room) => (most.saturating_sub(room), false),
+        None => (most, true),
+    };
+    ListedFaults {
+        count,
+        is_cut,
+        rows,
     }
 }
 

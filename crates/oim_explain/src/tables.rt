@@ -8,7 +8,7 @@ ghost use Rattle.oim_explain.specs.TablePlaces.{ExplainsAt, ExplainsTable};
 use crate::explanation::Explanation;
 use crate::facts::{Told, of_fact};
 use crate::files::{changed, of_file};
-use crate::levels::{RowOfFault, place_of_text};
+use crate::levels::RowOfFault;
 use crate::rows::of_record;
 use crate::table_again::TableAgain;
 use csv::ByteRecord;
@@ -33,6 +33,16 @@ fn id_column(report: &Report, table: usize) -> Option<&str>
         Some(place) if place < columns.len() => Some(columns[place].id.as_str()),
         _ => None,
     }
+}
+
+/// Returns the place of the header's first cell that is this text.
+fn place_of_text(again: &RowAgain, text: &str) -> Option<usize> {
+    for place in 0..again.header.len() {
+        if text_at(&again.header, place) == Some(text) {
+            return Some(place);
+        }
+    }
+    None
 }
 
 /// Returns the identifier of a row, cut.

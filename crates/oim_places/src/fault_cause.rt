@@ -31,16 +31,4 @@ impl FaultCause {
             text: Text::new(String::new(alloc)),
         })
     }
-
-    /// Copies a cause.
-    pub fn copied(&self) -> Result<FaultCause, AllocError>
-        ensures { IfOk result (λ c. c ≡ self.now) }
-    {
-        Ok(FaultCause {
-            file: self.file.clone()?,
-            line: self.line,
-            cell: self.cell.clone()?,
-            text: self.text.clone()?,
-        })
-    }
 }
