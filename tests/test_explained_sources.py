@@ -202,9 +202,9 @@ class TestSources(ExplainTest):
         self.write({"r/m.json": report, "r/t1.csv": table, "r/p.csv": PARAMETERS})
         lines = elsewhere(source, *sentence.split("\n"), fact=fact_in(report), by=path)
         wanted = lines_of(f"table t1, row 1, column 1: {fault}", lines)
-        self.check_same(self.err("--explain", "--faults", "f.csv"), wanted)
-        (row,) = records(self.read("f.csv"))[1:]
-        self.assertEqual(row[9:], cause_of(source))
+        self.check_same(self.err("--explain"), wanted)
+        self.err("--faults", "f.csv")
+        self.assertEqual(records(self.read("f.csv"))[1][9:], cause_of(source))
 
 
 EIGHT = [f"t{i}" for i in range(1, 9)]
