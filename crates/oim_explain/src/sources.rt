@@ -155,6 +155,11 @@ impl<'r, 's> Places<'r, 's> {
         Ok(())
     }
 
+    /// Puts the property of the metadata to which these keys lead.
+    fn put_keys(&mut self, keys: &[&'r str]) -> Result<(), AllocError> {
+        self.put(SourcePlace::Property(Vec::from_slice(self.alloc, keys)?))
+    }
+
     /// Puts a property that a level writes, after the cell that names the level if that is a
     /// property group.
     fn put_property(&mut self, writer: Writer, property: &[&'r str]) -> Result<(), AllocError> {
@@ -170,14 +175,13 @@ impl<'r, 's> Places<'r, 's> {
         let table = self.row.table;
         let of_table = ["tables", table.id, "parameters", name];
         let of_report = ["parameters", name];
-        let keys = if table.again.written_at(&of_table).is_some() {
-            of_table.as_slice()
+        if table.again.written_at(&of_table).is_some() {
+            self.put_keys(&of_table)
         } else if table.again.written_at(&of_report).is_some() {
-            of_report.as_slice()
+            self.put_keys(&of_report)
         } else {
-            return self.put(SourcePlace::Given(name, text));
-        };
-        self.put(SourcePlace::Property(Vec::from_slice(self.alloc, keys)?))
+            self.put(SourcePlace::Given(name, text))
+        }
     }
 
     /// Puts what a reference names: the row's cell, unless it is empty and a parameter has that

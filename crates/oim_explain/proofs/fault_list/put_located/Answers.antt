@@ -28,6 +28,6 @@ pub returns : goal.returns
 returns g c =
     let now = g.W.Write.contents c.loop-fault.to in
     let rec = located_record c.args.id.now in
-    let none = drop_all c.args.located.now c.loop-fault.fault-index c.loop-fault-test.false in
+    let none = drop_all c.loop-fault.fault-index c.args.located.now c.loop-fault-test.false in
     c.loop-fault.invariant now (Some c.loop-fault.left) (subst (λ xs. WritesEach now now c.args.id.now c.loop-fault.left rec xs (Some c.loop-fault.left)) (sym none)
     (each_none now c.args.id.now c.loop-fault.left rec))

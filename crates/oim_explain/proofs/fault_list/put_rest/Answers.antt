@@ -14,8 +14,8 @@ returns-in-None g c =
     let next = c.next_row.new.self.left in
     let gives = subst (λ t. IfSome c.loop.rows.left (λ rows. GivesRow t rows (Ok (Some located)) next)) c.loop.invariant.table (rw c.in-Ok-Some.field-0-is at c.in-Ok-Some.ensures.next) in
     let places = rw c.in-Ok-Some.field-0-is at c.in-Ok-Some.ensures.places in
-    let same : c.as_slice.result.now ≡ located = search rules in
-    let there : WritesEach a b c.args.id.now c.loop.left (located_record c.args.id.now) c.as_slice.result.now c.in_ok-after-in-Ok-Some.field-0 = c.in_ok-after-in-Ok-Some.ensures in
+    let same : c.as_slice-located.result.now ≡ located = search rules in
+    let there : WritesEach a b c.args.id.now c.loop.left (located_record c.args.id.now) c.as_slice-located.result.now c.in_ok-after-in-Ok-Some.field-0 = c.in_ok-after-in-Ok-Some.ensures in
     let here = subst (λ ls. WritesEach a b c.args.id.now c.loop.left (located_record c.args.id.now) ls c.in_ok-after-in-Ok-Some.field-0) same there in
     let writes = subst (λ o. WritesEach a b c.args.id.now c.loop.left (located_record c.args.id.now) located o) c.in-None.is here in
     λ bytes is are. completes_cut from a b c.args.rows.now.table c.args.id.now bytes c.args.room c.loop.left c.args.rows.now.left c.loop.rows.left next located
@@ -44,8 +44,8 @@ loop-preserved g c =
     let next = c.next_row.new.self.left in
     let gives = subst (λ t. IfSome c.loop.rows.left (λ rows. GivesRow t rows (Ok (Some located)) next)) c.loop.invariant.table (rw c.in-Ok-Some.field-0-is at c.in-Ok-Some.ensures.next) in
     let places = rw c.in-Ok-Some.field-0-is at c.in-Ok-Some.ensures.places in
-    let same : c.as_slice.result.now ≡ located = search rules in
-    let there : WritesEach a b c.args.id.now c.loop.left (located_record c.args.id.now) c.as_slice.result.now c.in_ok-after-in-Ok-Some.field-0 = c.in_ok-after-in-Ok-Some.ensures in
+    let same : c.as_slice-located.result.now ≡ located = search rules in
+    let there : WritesEach a b c.args.id.now c.loop.left (located_record c.args.id.now) c.as_slice-located.result.now c.in_ok-after-in-Ok-Some.field-0 = c.in_ok-after-in-Ok-Some.ensures in
     let here = subst (λ ls. WritesEach a b c.args.id.now c.loop.left (located_record c.args.id.now) ls c.in_ok-after-in-Ok-Some.field-0) same there in
     let writes = subst (λ o. WritesEach a b c.args.id.now c.loop.left (located_record c.args.id.now) located o) c.in-Some.is here in
     record {
