@@ -9,7 +9,7 @@ import os
 import re
 import sys
 from contextlib import suppress
-from typing import Dict, Optional
+from typing import Dict, Optional, Tuple
 
 from .origins import Origins
 from .refusals import escaped
@@ -31,6 +31,7 @@ class ConverterLines:
         self.names = names  # what the filing calls a file, by its name in the folder
         self.for_terminal = bool(sys.stderr and sys.stderr.isatty())
         self.begun = b""
+        self.causes: Dict[Tuple[str, str], Tuple[str, str]] = {}  # so a cause is looked up once
         self.of_metadata = self.placed = False
 
     def hear(self, piece: bytes) -> None:
@@ -69,6 +70,13 @@ class ConverterLines:
         """Return a place of the file of `--faults` in the names of the filing."""
         found = self.origins.place(text)
         return f"{found[0]}: {found[1]}" if found else self.renamed(text)
+
+    def cause(self, file: str, cell: str) -> Tuple[str, str]:
+        """Return the file and the cell of a cause in the names of the filing."""
+        if (file, cell) not in self.causes:
+            found = self.origins.place(cell) if cell.startswith("/") else None
+            self.causes[file, cell] = found or (self.renamed(file), cell)
+        return self.causes[file, cell]
 
     def renamed(self, text: str) -> str:
         """Return a text with the filing's names for the files of the folder."""

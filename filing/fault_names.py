@@ -18,7 +18,7 @@ from .refusals import FILES, Refusal
 from .whole_files import write_whole
 
 POINTER = rb',"?/'  # how a field begins that may be a place of the metadata
-PLACE = FIELDS.index("place")
+PLACE, FILE, CELL = map(FIELDS.index, ("place", "cause_file", "cause_cell"))
 
 
 def name_places(path: str, lines: ConverterLines) -> None:
@@ -50,5 +50,9 @@ def named(data: mmap.mmap, sought: re.Pattern[bytes], lines: ConverterLines) -> 
 
 
 def in_filing(fields: List[str], lines: ConverterLines) -> List[str]:
-    """Return the fields of a record with the filing's name in its place."""
-    return [*fields[:PLACE], lines.place(fields[PLACE]), *fields[PLACE + 1 :]]
+    """Return the fields of a record with the filing's names in its place and its cause."""
+    named = [*fields]
+    named[PLACE] = lines.place(fields[PLACE])
+    if len(fields) > CELL:
+        named[FILE], named[CELL] = lines.cause(fields[FILE], fields[CELL])
+    return named

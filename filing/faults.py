@@ -14,8 +14,10 @@ from .csv_text import record
 FIELDS = (
     "table_id", "table_row", "table_column", "fault_number", "fault_name",
     "line", "header_cell", "row_cell", "place",
+    "cause_file", "cause_line", "cause_cell", "cause_text",
 )  # fmt: skip
 HEADER = record(FIELDS).encode()
+FIRST = ",".join(FIELDS[:9]).encode()  # the fields of version 0.22.0
 OLD_HEADER = b"table,row,column,number,name,line,header,cell,place\n"  # up to version 0.20.0
 MORE = "MoreFaults"  # the name in the last record of a table that has more faults
 LONGEST = 2_000  # characters of a field that are kept
@@ -34,6 +36,11 @@ class Fault(NamedTuple):
     header: str
     cell: str
     place: str
+    # The place that causes it, and the text there, if that is elsewhere.
+    cause_file: str = ""
+    cause_line: str = ""
+    cause_cell: str = ""
+    cause_text: str = ""
 
 
 class Found(NamedTuple):
@@ -46,7 +53,7 @@ class Found(NamedTuple):
 
 def is_header(start: bytes) -> bool:
     """Return whether a file that begins so is one of faults. More fields may follow."""
-    return start.startswith((HEADER, HEADER[:-1] + b",", OLD_HEADER))
+    return start.startswith((FIRST + b"\n", FIRST + b",", OLD_HEADER))
 
 
 def fault_list(faults: Iterable[Fault]) -> str:
@@ -69,9 +76,8 @@ def faults_of(path: str, most: int) -> Found:
             else:
                 count += 1
                 if count <= most:
-                    table, *numbers, _, line, header, cell, place = fields_of(data, span)
-                    row, column, number = map(int, numbers)
-                    known = Fault(table, row, column, number, name, line, header, cell, place)
+                    table, row, column, number, _, *texts = fields_of(data, span)
+                    known = Fault(table, int(row), int(column), int(number), name, *texts)
                     found.faults.append(known)
     return found._replace(total=count)
 

@@ -159,6 +159,8 @@ def one_fault(at: int, item: Item) -> str:
     parts.append(found(item))
     if len(item.said) > 3:
         parts.append(causes(item.said[3:]))
+    elif fault.cause_file:
+        parts.append(causes([cause_of(fault)]))
     parts.append(remedy(fault.number))
     return f'<article class="fault" id="f{at}">{"".join(parts)}</article>\n'
 
@@ -204,6 +206,16 @@ def file_of(item: Item) -> str:
     """Return the file of a fault of a table, and the line there."""
     line = f", line {markup(item.fault.line, NAME)}" if item.fault.line else ""
     return markup(item.file, LINE) + line
+
+
+def cause_of(fault: Fault) -> str:
+    """Return the place that a fault comes from and the text there, as `--explain` has them."""
+    if fault.cause_cell.startswith("/"):
+        return f"{fault.cause_file}: {fault.cause_cell}: {fault.cause_text}"
+    line = f", line {fault.cause_line}" if fault.cause_line else ""
+    cell = f", cell {fault.cause_cell}" if fault.cause_cell else ""
+    text = f'"{fault.cause_text}"' if cell else fault.cause_text
+    return f"{fault.cause_file}{line}{cell}: {text}"
 
 
 def causes(said: Sequence[str]) -> str:

@@ -58,9 +58,9 @@ typedef struct {
      * Empty at status 0 and 2; shorter or empty if memory runs out for it. */
     xbrl_json_text lines;
     /* What `xbrl-json --faults` writes: CSV with the header
-     * table_id,table_row,table_column,fault_number,fault_name,line,header_cell,row_cell,place and
-     * up to 1,000,000 faults of each table. Empty at status 2 and 3; shorter or empty if memory
-     * runs out for it. */
+     * table_id,table_row,table_column,fault_number,fault_name,line,header_cell,row_cell,place,
+     * cause_file,cause_line,cause_cell,cause_text (in one line) and up to 1,000,000 faults of each
+     * table. Empty at status 2 and 3; shorter or empty if memory runs out for it. */
     xbrl_json_text faults;
 } xbrl_json_answer;
 

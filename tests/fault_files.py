@@ -14,8 +14,10 @@ from tests.harness import TYPES, Done, TestCase, metadata
 WORDS = ["r/m.json", "--types", "t.csv"]
 NAMES = ["table_id", "table_row", "table_column", "fault_number", "fault_name", "line"]
 NAMES += ["header_cell", "row_cell", "place"]
+NAMES += ["cause_file", "cause_line", "cause_cell", "cause_text"]
+NO_CAUSE = [""] * 4
 HEADER = (",".join(NAMES) + "\n").encode()
-REFUSED = HEADER + b"t1,1,1,40,BadNumber,2,cash,x,\n"
+REFUSED = HEADER + b"t1,1,1,40,BadNumber,2,cash,x,,,,,\n"
 
 
 def records(content: bytes | None) -> list[list[str]]:

@@ -14,7 +14,7 @@ import sys
 from collections.abc import Iterator
 from typing import NamedTuple
 
-from tests.fault_files import HEADER, NAMES, FaultsTest, records
+from tests.fault_files import HEADER, NAMES, NO_CAUSE, FaultsTest, records
 from tests.harness import TYPES, metadata
 
 # The files of a table under the header k,cash,note with the row identifiers k, and its records:
@@ -79,7 +79,7 @@ def made(dice: random.Random, count: int, badness: float) -> tuple[bytes, list[l
         line = str(line_ends(text) + 1)
         for fault, column, cell in row.faults:
             place = [str(number), str(column), str(fault), FAULT_NAMES[fault], line]
-            wanted.append([*place, ["", "k", "cash", "note"][column], cell, ""])
+            wanted.append([*place, ["", "k", "cash", "note"][column], cell, "", *NO_CAUSE])
         text += b"%d," % number + row.text
     return text + dice.choice([b"", b"\n", b"\r"]), wanted
 
@@ -184,7 +184,7 @@ class TestLimit(AllFaultsTest):
         found = records(self.faults())
         for name, count in zip(("t1", "t2", "t3"), counts):
             rows = [it for it in found if it[0] == name]
-            ends = [name, "0", "0", "0", "MoreFaults", "", "", "", ""]
+            ends = [name, "0", "0", "0", "MoreFaults", *[""] * 8]
             self.assertEqual(len([it for it in rows if it != ends]), count)
             self.assertEqual(ends in rows, name != "t2" and count < 4)
             self.assertEqual(rows[-1] == ends, ends in rows)
@@ -234,7 +234,7 @@ class TestSql(AllFaultsTest):
         select = f"select {', '.join(NAMES)} from f where fault_number = 31;"
         words = [program, ":memory:", ".mode csv", ".import f.csv f", select]
         seen = subprocess.run(words, cwd=self.folder, capture_output=True, check=True)
-        wanted = ["t1", "2", "3", "31", "UnknownSpecial", "3", "note", "#z", ""]
+        wanted = ["t1", "2", "3", "31", "UnknownSpecial", "3", "note", "#z", "", *NO_CAUSE]
         self.assertEqual(records(seen.stdout), [wanted])
         self.assertTrue((self.faults() or b"").startswith(HEADER))
 

@@ -16,6 +16,7 @@ from tests.explaining import (
     elsewhere,
     lines_of,
 )
+from tests.fault_files import records
 from tests.harness import for_each
 
 # The cause of a fault of the cell `1` in the first row: what is edited in the metadata, the table,
@@ -163,6 +164,17 @@ SOURCES: list[tuple[dict[Place, Any], str, str, str, str, list[str]]] = [
 ]
 
 
+def cause_of(source: str) -> list[str]:
+    """Returns the fields of a place to mend: its file, line, cell and text."""
+    place, text = source.split(": ", 1)
+    if place.startswith("/"):
+        return ["r/m.json", "", place, text]
+    file, line, *cells = place.split(", ")
+    if not cells:
+        return [file, line.removeprefix("line "), "", text]
+    return [file, line.removeprefix("line "), cells[0].removeprefix("cell "), text[1:-1]]
+
+
 def fact_in(report: dict[str, Any]) -> str:
     """Returns the fact as it is shown: with its concept, if only the column writes it."""
     (template,) = report["tableTemplates"].values()
@@ -191,6 +203,8 @@ class TestSources(ExplainTest):
         lines = elsewhere(source, *sentence.split("\n"), fact=fact_in(report), by=path)
         wanted = lines_of(f"table t1, row 1, column 1: {fault}", lines)
         self.check_same(self.err("--explain"), wanted)
+        self.err("--faults", "f.csv")
+        self.assertEqual(records(self.read("f.csv"))[1][9:], cause_of(source))
 
 
 EIGHT = [f"t{i}" for i in range(1, 9)]
@@ -303,5 +317,7 @@ class TestShared(SharedTest):
         """Has a record for each table."""
         self.tables({("dimensions", "entity"): "A1"}, EIGHT[:2])
         self.err("--explain", "--faults", "f.csv")
-        rows = (self.folder / "f.csv").read_text().splitlines()[1:]
-        self.assertEqual(rows, [f"{it},1,1,36,BadValue,2,cash,1," for it in EIGHT[:2]])
+        rows = records(self.read("f.csv"))[1:]
+        cause = ["", *cause_of('/dimensions/entity: "A1"')]
+        wanted = [[it, "1", "1", "36", "BadValue", "2", "cash", "1", *cause] for it in EIGHT[:2]]
+        self.assertEqual(rows, wanted)

@@ -4,7 +4,7 @@ from __future__ import annotations
 import os
 import subprocess
 
-from tests.fault_files import HEADER, NAMES, REFUSED, WORDS, FaultsTest, records
+from tests.fault_files import HEADER, NAMES, NO_CAUSE, REFUSED, WORDS, FaultsTest, records
 from tests.harness import PATIENCE, PROGRAM, TYPES, held
 
 # A table's file (None: it is missing), and the fields of its fault after the table's identifier, or
@@ -47,7 +47,7 @@ class TestRecords(FaultsTest):
         """Writes a report with each of TABLES."""
         super().setUp()
         self.report({f"t{at:02}": content for at, (content, _) in enumerate(TABLES)})
-        rows = [[f"t{at:02}", *it, ""] for at, (_, it) in enumerate(TABLES) if it]
+        rows = [[f"t{at:02}", *it, "", *NO_CAUSE] for at, (_, it) in enumerate(TABLES) if it]
         self.wanted = [NAMES, *rows]
 
     def test_each_fault(self) -> None:
@@ -74,14 +74,14 @@ class TestRecords(FaultsTest):
         ids = [f"u{at:03}" for at in range(150)]
         self.report({it: None for it in ids})
         self.convert("--faults", "f.csv")
-        rows = [[it, "0", "0", "20", "NoFile", "", "", "", ""] for it in ids]
+        rows = [[it, "0", "0", "20", "NoFile", "", "", "", "", *NO_CAUSE] for it in ids]
         self.assertEqual(records(self.faults()), [NAMES, *rows])
 
     def test_identifiers(self) -> None:
         """Writes identifiers that are not ASCII, in byte order and byte for byte."""
         self.report({"\u00e9": b'cash\n"x,y"\n', "z": b"cash\ny\n"})
         self.convert("--faults", "f.csv")
-        rows = 'z,1,1,40,BadNumber,2,cash,y,\n\u00e9,1,1,40,BadNumber,2,cash,"x,y",\n'
+        rows = 'z,1,1,40,BadNumber,2,cash,y,,,,,\n\u00e9,1,1,40,BadNumber,2,cash,"x,y",,,,,\n'
         self.assertEqual(self.faults(), HEADER + rows.encode())
 
 
@@ -130,12 +130,12 @@ class TestEnds(FaultsTest):
     def test_faults_of_the_report(self) -> None:
         """Writes the fault of the metadata, the parameters file or the types table."""
         self.report({"t1": b"cash\nx\n"}, links={"a": {}})
-        self.ends(1, HEADER + b",0,0,5,Unsupported,,,(an object of 1),/links\n")
+        self.ends(1, HEADER + b",0,0,5,Unsupported,,,(an object of 1),/links,,,,\n")
         self.report({"t1": b"cash\nx\n"}, parameterURL="p.csv")
         self.write({"r/p.csv": "name\n"})
-        self.ends(1, HEADER + b',0,0,13,BadParameter,,,name,"r/p.csv, line 1"\n')
+        self.ends(1, HEADER + b',0,0,13,BadParameter,,,name,"r/p.csv, line 1",,,,\n')
         self.write({"t.csv": "name\n"})
-        self.ends(1, HEADER + b',0,0,14,BadTypes,,,name,"t.csv, line 1"\n')
+        self.ends(1, HEADER + b',0,0,14,BadTypes,,,name,"t.csv, line 1",,,,\n')
 
     def test_missing_files(self) -> None:
         """Leaves the file if a file of the report is missing."""
@@ -150,7 +150,7 @@ class TestOfTheReport(FaultsTest):
 
     def has(self, number: str, fault: str, found: str, place: str) -> None:
         """Checks the record of a fault, and its explanation."""
-        wanted = [NAMES, ["", "0", "0", number, fault, "", "", found, place]]
+        wanted = [NAMES, ["", "0", "0", number, fault, "", "", found, place, *NO_CAUSE]]
         for words in (["--workers", "1"], ["--out", "o.json", "--whole"]):
             with self.subTest(words=words):
                 seen = self.convert(*words, "--explain", "--faults", "f.csv")
@@ -205,19 +205,19 @@ class TestReadAgain(FaultsTest):
         """Names the whole file."""
         self.report({"t1": b"cash\n1\n"}, links={"a": {}})
         self.read_once_only("r/m.json")
-        self.check_faults(b",0,0,5,Unsupported,,,(the whole file),r/m.json\n")
+        self.check_faults(b",0,0,5,Unsupported,,,(the whole file),r/m.json,,,,\n")
 
     def test_a_table_from_a_pipe(self) -> None:
         """Leaves the fields of this table empty."""
         self.report({"t1": b"cash\nx\n", "t2": b"cash\nx\n"})
         self.read_once_only("r/t1.csv")
-        self.check_faults(b"t1,1,1,40,BadNumber,,,,\n", b"t2,1,1,40,BadNumber,2,cash,x,\n")
+        self.check_faults(b"t1,1,1,40,BadNumber,,,,,,,,\n", b"t2,1,1,40,BadNumber,2,cash,x,,,,,\n")
 
     def test_a_metadata_from_a_pipe(self) -> None:
         """Leaves the fields of all tables empty."""
         self.report({"t1": b"cash\nx\n", "t2": b"cash\nx\n"})
         self.read_once_only("r/m.json")
-        self.check_faults(b"t1,1,1,40,BadNumber,,,,\n", b"t2,1,1,40,BadNumber,,,,\n")
+        self.check_faults(b"t1,1,1,40,BadNumber,,,,,,,,\n", b"t2,1,1,40,BadNumber,,,,,,,,\n")
 
     def test_a_table_that_has_changed(self) -> None:
         """Leaves the fields empty, over a named pipe that holds the run until the change."""
@@ -231,4 +231,4 @@ class TestReadAgain(FaultsTest):
                 pipe.write(b"cash\n1\n")
             run.wait(timeout=PATIENCE)
         self.assertEqual(run.returncode, 1)
-        self.assertEqual(self.faults(), HEADER + b"t1,1,1,40,BadNumber,,,,\n")
+        self.assertEqual(self.faults(), HEADER + b"t1,1,1,40,BadNumber,,,,,,,,\n")

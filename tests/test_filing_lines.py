@@ -11,6 +11,8 @@ from pathlib import Path
 from typing import Any, NoReturn
 
 from filing import command, library, refusals, stopping
+from filing.converter_lines import ConverterLines
+from filing.fault_names import name_places
 from filing.faults import HEADER, OLD_HEADER
 from tests.filing_samples import (
     EG,
@@ -364,6 +366,28 @@ class TestRuns(FilingTest):
             origins.labels(),
             ["r/reports/report.json", "t0/reg/mod.json", "t0/reg/low.json"],
         )
+
+    def test_causes_of_records(self) -> None:
+        """Writes the causes of the file of faults in the names of the filing."""
+        path = self.folder / "f.csv"
+        origins, _ = joined_of(self.folder, *filed_in_parts())
+        names = {"p.csv": "r.zip/reports/parameters.csv", "t.csv": 'r.zip/"t",x.csv'}
+        lines = ConverterLines(origins, "/tmp/made", names)
+        start, own = 't,1,2,40,BadNumber,2,"a\nb",x,', "t,1,2,40,BadNumber,2,b,x,,,,,\n"
+        written, wanted = HEADER_OF_FAULTS + own, HEADER_OF_FAULTS + own
+        for pointer, place in ORIGINS.items():
+            file, cell = place or ("/tmp/made/meta.json", pointer)
+            written += f'{start},/tmp/made/meta.json,,{pointer},"""x"""\n' + own
+            wanted += f'{start},{file},,{cell},"""x"""\n' + own
+        written += f'{start},/tmp/made/p.csv,3,2,"1\n2"\n{start},/tmp/made/t.csv,4,12,y\n'
+        wanted += f'{start},r.zip/reports/parameters.csv,3,2,"1\n2"\n'
+        wanted += f'{start},"r.zip/""t"",x.csv",4,12,y\n'
+        path.write_text(written)
+        name_places(str(path), lines)
+        self.case("the causes", path.read_text(), wanted)
+        path.write_text(OLD_HEADER.decode() + "t,1,2,40,BadNumber,2,b,x,/decimals\n")
+        name_places(str(path), lines)
+        self.case("nine fields", path.read_text()[-26:], "t0/reg/mod.json: /decimals\n"[-26:])
 
     def test_lines_of_the_converter(self) -> None:
         """Passes on the lines of xbrl-json, with the places and names of the filing."""

@@ -381,7 +381,8 @@ class TestRefused(Case):
         """Shows the places that a fault comes from, in the names of the filing."""
         text = (self.tables / "parameters.csv").read_text()
         self.edit("parameters.csv", text.replace("2025Q3", "2025Q9"))
-        done = self.convert("--explain", "--out", "o.json", status=1)
+        words = ["--explain", "--faults", "f.csv", "--out", "o.json"]
+        done = self.convert(*words, status=1)
         causes = [it.strip() for it in done.stderr.split("\n") if it.startswith("    ")]
         said = [it.text() for it in self.top().all("pre")]
         self.assertTrue(said)
@@ -389,7 +390,12 @@ class TestRefused(Case):
             self.assertIn(it, causes)
         self.assertIn("parameters.csv, line 3, cell 2", said[0])
         same = [it for it in said if it.startswith("the same cause as in table ")]
-        self.assertEqual(len(said), 1 + len(same))
+        faults = read_faults(str(self.folder / "f.csv"))
+        own = (f"report/{REPORTS}/parameters.csv", "3", "2", "2025Q9")
+        self.assertEqual({it[9:] for it in faults}, {own})
+        self.assertEqual(len(said), len(faults))
+        place = '{}, line {}, cell {}: "{}"'.format(*own)
+        self.assertEqual({it for it in said[1:] if it not in same}, {place})
         firsts = {it.table: it.sentence for it in reversed(shown_faults(self.top()))}
         self.assertEqual(len(set(firsts.values())), 1)
         self.assertNotIn(str(self.temporary), self.page.read_text())

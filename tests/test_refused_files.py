@@ -8,6 +8,7 @@ import os
 import re
 from collections.abc import Sequence
 
+from tests.fault_files import HEADER
 from tests.harness import Done, for_each
 from tests.refusing import FAILED_WRITE, RefusedTest, build_library
 
@@ -142,7 +143,7 @@ class TestPermissions(RefusedTest):
 
 FAULT = re.compile(r"xbrl-json: table (\w+), row (\d+), column (\d+): (\w+) \((\d+)\)")
 OF_THE_REPORT = re.compile(r"xbrl-json: (?:report|types|parameters): (\w+) \((\d+)\)")
-FAULT_HEADER = "table_id,table_row,table_column,fault_number,fault_name,line,header_cell,row_cell,place"
+FAULT_HEADER = HEADER.decode().rstrip("\n")
 KINDS = ("memory", *FILE_KINDS)
 
 
@@ -180,7 +181,7 @@ class TestFaults(RefusedTest):
         faults = bad / "f.csv"
         words = ["--faults", "f.csv", *OUT, "--workers", "1"]
         calls = self.calls(words, bad)[kind]
-        self.assertEqual(faults.read_text(), f"{FAULT_HEADER}\nt2,1,2,40,BadNumber,2,cash,y,\n")
+        self.assertEqual(faults.read_text(), f"{FAULT_HEADER}\nt2,1,2,40,BadNumber,2,cash,y,,,,,\n")
         for n in range(1, calls + 1):
             with self.subTest(call=n):
                 faults.unlink(missing_ok=True)

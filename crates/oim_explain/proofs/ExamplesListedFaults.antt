@@ -38,14 +38,14 @@ two_above_the_limit : up_to (codes "t1") 1 all ≡ one ∷ more_fields (codes "t
 two_above_the_limit = refl
 
 -- How many are listed, and whether the table has more.
-listed_below : listed_of 4 (room_after 4 all) ≡ record { count = 3; is_cut = false }
+listed_below : listed_of 4 (room_after 4 all) 2 ≡ record { count = 3; is_cut = false; rows = 2 }
 listed_below = refl
 
-listed_at : listed_of 3 (room_after 3 all) ≡ record { count = 3; is_cut = false }
+listed_at : listed_of 3 (room_after 3 all) 0 ≡ record { count = 3; is_cut = false; rows = 0 }
 listed_at = refl
 
-listed_above : listed_of 2 (room_after 2 all) ≡ record { count = 2; is_cut = true }
+listed_above : listed_of 2 (room_after 2 all) 1 ≡ record { count = 2; is_cut = true; rows = 1 }
 listed_above = refl
 
-listed_alone : alone_of ≡ record { count = 1; is_cut = false }
+listed_alone : alone_of ≡ record { count = 1; is_cut = false; rows = 0 }
 listed_alone = refl

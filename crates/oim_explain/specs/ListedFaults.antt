@@ -1,8 +1,8 @@
 -- What the file of faults has of a refused table: a record of each of its faults, in their order
--- and up to a limit.
-use Rattle.std.specs.Prelude.{◌≡◌, ◌⊎◌, ◌-◌, ℕ, zero, suc, List, [], ◌∷◌, ◌++◌, Option, Some, None, IsSome, true, false, map}
+-- and up to a limit. What a record says of the fault's cause is not defined here.
+use Rattle.std.specs.Prelude.{◌≡◌, ◌⊎◌, ◌-◌, ℕ, zero, suc, List, [], ◌∷◌, ◌++◌, Option, Some, None, IsSome, true, false}
 use Rattle.std.specs.Io.KnownBytes.{Appends}
-use Rattle.std.specs.List.{flat_map}
+use Rattle.std.specs.List.{AllZip, flat_map}
 use Rattle.csv.specs.Writing.{default_writer, row_text}
 use Rattle.oim_files.specs.Folders.{Files}
 use Rattle.oim_files.specs.Metadata.{profile}
@@ -13,7 +13,8 @@ use Rattle.oim_rows.specs.declared.fault.TableFault.{TableFault}
 use Rattle.oim_table_faults.specs.TableFaults.{faults_of_rows}
 use Rattle.oim_places.specs.FaultLists.{faults_by_row, record_of}
 use Rattle.oim_places.specs.FaultPlaces.{HasFaultIn, IsTablePath, unknown_place}
-use Rattle.oim_places.specs.FaultRows.{fault_fields, more_fields}
+use Rattle.oim_places.specs.FaultRows.{fault_fields, more_fields, no_cause}
+use Rattle.oim_places.specs.declared.fault_cause.FaultCause.{FaultCause}
 use Rattle.oim_places.specs.declared.fault_places.FaultPlace.{FaultPlace}
 use Rattle.oim_explain.specs.declared.fault_list.ListedFaults.{ListedFaults}
 
@@ -24,8 +25,8 @@ abbrev pub texts_of : List Record → List ℕ
 texts_of rows = flat_map (λ r. row_text default_writer r) rows
 
 -- The text of a fault's record.
-abbrev pub fault_text : List ℕ → TableFault → FaultPlace → List ℕ
-fault_text id f p = row_text default_writer (fault_fields id f p)
+abbrev pub fault_text : List ℕ → TableFault → FaultPlace → FaultCause → List ℕ
+fault_text id f p c = row_text default_writer (fault_fields id f p c)
 
 -- ---- the limit
 
@@ -42,23 +43,34 @@ room_after zero (r ∷ rows) = None
 room_after (suc room) (r ∷ rows) = room_after room rows
 
 -- How many faults are listed, by the room that is left of `most`.
-abbrev pub listed_of : ℕ → Option ℕ → ListedFaults
-listed_of most (Some room) = record { count = most - room; is_cut = false }
-listed_of most None = record { count = most; is_cut = true }
+abbrev pub listed_of : ℕ → Option ℕ → (rows : ℕ) → ListedFaults
+listed_of most (Some room) rows = record { count = most - room; is_cut = false; rows = rows }
+listed_of most None rows = record { count = most; is_cut = true; rows = rows }
 
 -- Only one fault is listed.
 abbrev pub alone_of : ListedFaults
-alone_of = record { count = 1; is_cut = false }
+alone_of = record { count = 1; is_cut = false; rows = 0 }
 
 -- ---- what is written
+
+-- The record is that of the fault, with some cause.
+abbrev pub IsRecordOf : {A : Type 0} → (A → FaultCause → Record) → A → Record → Type 0
+IsRecordOf rec x r = (cause : FaultCause) × (r ≡ rec x cause)
 
 -- These records were written up to the room, and this room is left.
 abbrev pub Writes : (old new : Option (List ℕ)) → (id : List ℕ) → (room : ℕ) → List Record → (after : Option ℕ) → Type 0
 Writes old new id room rows after = Appends old new (texts_of (up_to id room rows)) × (after ≡ room_after room rows)
 
+-- The record of each of these faults, in their order and with some cause, was written up to the
+-- room.
+pub record WritesEach {A : Type 0} (old new : Option (List ℕ)) (id : List ℕ) (room : ℕ) (rec : A → FaultCause → Record) (faults : List A) (after : Option ℕ) : Type 0 where
+  pub records : List Record
+  pub each : AllZip (IsRecordOf rec) faults records
+  pub written : Writes old new id room records after
+
 -- Those of the first of these rows were written, and then that of a failure of the reader or of
 -- memory.
-pub record WritesShort (old new : Option (List ℕ)) (table : ℕ) (id : List ℕ) (rec : TableFault → Record) (room : ℕ) (rows : List (List TableFault)) (after : Option ℕ) : Type 0 where
+pub record WritesShort (old new : Option (List ℕ)) (table : ℕ) (id : List ℕ) (rec : TableFault → FaultCause → Record) (room : ℕ) (rows : List (List TableFault)) (after : Option ℕ) : Type 0 where
   pub front : List (List TableFault)
   pub rest : List (List TableFault)
   pub failure : TableFault
@@ -66,20 +78,20 @@ pub record WritesShort (old new : Option (List ℕ)) (table : ℕ) (id : List �
   pub outside : IsOutside table failure
   pub begins : rows ≡ front ++ rest
   pub fits : IsSome after
-  pub written : Writes old between id room (map rec (faults_of_rows front)) after
-  pub ends : Appends between new (fault_text id failure unknown_place)
+  pub written : WritesEach old between id room rec (faults_of_rows front) after
+  pub ends : Appends between new (fault_text id failure unknown_place no_cause)
 
 -- The records of the faults of these rows were written, or were cut short.
-abbrev pub WritesRows : (old new : Option (List ℕ)) → (table : ℕ) → (id : List ℕ) → (TableFault → Record) → (room : ℕ) → List (List TableFault) → (after : Option ℕ) → Type 0
-WritesRows old new table id rec room rows after = Writes old new id room (map rec (faults_of_rows rows)) after ⊎ WritesShort old new table id rec room rows after
+abbrev pub WritesRows : (old new : Option (List ℕ)) → (table : ℕ) → (id : List ℕ) → (TableFault → FaultCause → Record) → (room : ℕ) → List (List TableFault) → (after : Option ℕ) → Type 0
+WritesRows old new table id rec room rows after = WritesEach old new id room rec (faults_of_rows rows) after ⊎ WritesShort old new table id rec room rows after
 
 -- Only the record of this fault was written, without its place.
 abbrev pub ListsAlone : (old new : Option (List ℕ)) → (id : List ℕ) → TableFault → ListedFaults → Type 0
-ListsAlone old new id f listed = (listed ≡ alone_of) × Appends old new (fault_text id f unknown_place)
+ListsAlone old new id f listed = (listed ≡ alone_of) × Appends old new (fault_text id f unknown_place no_cause)
 
 -- The records of the faults of these rows, as far as the limit allows, were written.
-abbrev pub ListsAll : (old new : Option (List ℕ)) → (table : ℕ) → (id : List ℕ) → (most : ℕ) → (TableFault → Record) → List (List TableFault) → ListedFaults → Type 0
-ListsAll old new table id most rec rows listed = (after : Option ℕ) × (listed ≡ listed_of most after) × WritesRows old new table id rec most rows after
+abbrev pub ListsAll : (old new : Option (List ℕ)) → (table : ℕ) → (id : List ℕ) → (most : ℕ) → (TableFault → FaultCause → Record) → List (List TableFault) → ListedFaults → Type 0
+ListsAll old new table id most rec rows listed = (after : Option ℕ) × (shared : ℕ) × (listed ≡ listed_of most after shared) × WritesRows old new table id rec most rows after
 
 -- ---- a table of a report
 

@@ -5,6 +5,7 @@ use crate::groups::known_groups;
 use crate::levels::RowOfFault;
 use crate::numbers::wrong_numeral;
 use crate::quotes::{UNCLOSED, unclosed_quote};
+use crate::source_places::line_of;
 use crate::sources::{Origin, origin_of, sources};
 use crate::spreadsheet::{SPREADSHEET_ERROR, is_spreadsheet_error};
 use oim_files::Folder;
@@ -49,7 +50,7 @@ fn wrong_text(row: &RowOfFault<'_>, fault: CellFault, text: &str) -> Option<&'st
         CellFault::BadNumber => wrong_numeral(text),
         CellFault::UnknownSpecial if is_spreadsheet_error(text) => Some(SPREADSHEET_ERROR),
         CellFault::BadPeriod => Some(PERIOD),
-        CellFault::BadFactValue => match read_concept(&row.again.report, row.concept()) {
+        CellFault::BadFactValue => match read_concept(&row.table.again.report, row.concept()) {
             Ok(kind) => form_of(kind),
             Err(_) => None,
         },
@@ -66,7 +67,7 @@ fn swallowing_quote<R: Read + Drop, F: Folder<R>>(
     text: &str,
 ) -> Result<Option<Text>, AllocError> {
     if text.split_once('\n').is_some() {
-        unclosed_quote(alloc, folder, row.path, row.line)
+        unclosed_quote(alloc, folder, row.table.path, row.line)
     } else {
         Ok(None)
     }
@@ -81,10 +82,14 @@ pub(crate) fn of_fact<R: Read + Drop, F: Folder<R>>(
 ) -> Result<Told, AllocError> {
     let origin = origin_of(alloc, row, fault)?;
     let text = faulty_text(row, origin);
-    let sources = sources(alloc, folder, row, origin)?;
+    let places = sources(alloc, row, origin)?;
+    let mut lines = Vec::new(alloc);
+    for place in &places {
+        lines.push(line_of(alloc, row, place)?)?;
+    }
     let mut advice = Items::new(alloc);
     if let (CellFault::UnknownGroup, Some(Origin::Groups(place))) = (fault, origin) {
-        if let Some(column) = row.columns.get(place) {
+        if let Some(column) = row.table.columns.get(place) {
             advice.push(known_groups(alloc, column, text)?)?;
         }
     }
@@ -94,7 +99,7 @@ pub(crate) fn of_fact<R: Read + Drop, F: Folder<R>>(
         advice.push(line)?;
     }
     Ok(Told {
-        sources,
+        sources: lines,
         cause,
         advice,
     })

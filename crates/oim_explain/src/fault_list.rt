@@ -4,13 +4,16 @@ ghost use Rattle.std.specs.Prelude.{◌≡◌, ◌<◌, ℕ, List, IfOk, IfSome,
 ghost use Rattle.std.specs.Io.KnownBytes.{Appends};
 ghost use Rattle.oim_places.specs.FaultLists.{record_of};
 ghost use Rattle.oim_places.specs.FaultPlaces.{unknown_place};
-ghost use Rattle.oim_explain.specs.ListedFaults.{ListsAlone, ListsTable, Writes, WritesRows, fault_text, listed_of};
-ghost use Rattle.oim_explain.specs.state.ListedRows.{ListsRows, StartsWith, located_records, more_text};
+ghost use Rattle.oim_explain.specs.ListedFaults.{ListsAlone, ListsTable, WritesEach, WritesRows, fault_text, listed_of};
+ghost use Rattle.oim_explain.specs.state.ListedRows.{ListsRows, StartsWith, located_record, more_text};
+ghost use Rattle.oim_places.specs.FaultRows.{no_cause};
 
+use crate::fault_causes::FaultCauses;
+use crate::table_again::TableAgain;
 use oim_files::Folder;
 use oim_places::{
-    BadRows, FaultPlace, LocatedFault, ReportAgain, bad_rows_at, fault_row, is_of_file,
-    more_faults_row, table_path,
+    BadRows, FaultCause, FaultPlace, LocatedFault, ReportAgain, RowAgain, bad_rows_at, fault_row,
+    is_of_file, line_again, more_faults_row, table_path,
 };
 use oim_rows::TableFault;
 use oim_table_faults::first_fault_is_of_stream;
@@ -38,22 +41,23 @@ pub struct ListedFaults {
     pub count: usize,
     /// Whether the table has more.
     pub is_cut: bool,
+    /// In how many rows the first fault's cause is, if that is elsewhere and known; else 0.
+    pub rows: usize,
 }
 
 /// Returns how many faults of at most `most` are listed, given how many more may be. `None` is for
 /// a table that has more.
-fn counted(most: usize, room: Option<usize>) -> ListedFaults
-    ensures { result ≡ listed_of most room }
+fn counted(most: usize, room: Option<usize>, rows: usize) -> ListedFaults
+    ensures { result ≡ listed_of most room rows }
 {
-    match room {
-        Some(room) => ListedFaults {
-            count: most.saturating_sub(room),
-            is_cut: false,
-        },
-        None => ListedFaults {
-            count: most,
-            is_cut: true,
-        },
+    let (count, is_cut) = match room {
+        Some(room) => (most.saturating_sub(room), false),
+        None => (most, true),
+    };
+    ListedFaults {
+        count,
+        is_cut,
+        rows,
     }
 }
 
@@ -63,20 +67,22 @@ fn put_fault<W: Write>(
     id: &str,
     fault: &TableFault,
     place: &FaultPlace,
+    cause: &FaultCause,
     to: &mut W,
 ) -> io::Result<()>
-    ensures { OnOk result (Appends (W.contents to.old) (W.contents to.new) (fault_text id.now fault.now place.now)) }
+    ensures { OnOk result (Appends (W.contents to.old) (W.contents to.new) (fault_text id.now fault.now place.now cause.now)) }
 {
-    let row = fault_row(alloc, id, fault, place)?;
+    let row = fault_row(alloc, id, fault, place, cause)?;
     to.write_all(row.as_slice())
 }
 
 /// Writes the record of a fault whose place is not known.
 fn put_alone<W: Write>(alloc: Global, id: &str, fault: &TableFault, to: &mut W) -> io::Result<()>
-    ensures { OnOk result (Appends (W.contents to.old) (W.contents to.new) (fault_text id.now fault.now unknown_place)) }
+    ensures { OnOk result (Appends (W.contents to.old) (W.contents to.new) (fault_text id.now fault.now unknown_place no_cause)) }
 {
     let place = FaultPlace::unknown(alloc)?;
-    put_fault(alloc, id, fault, &place, to)
+    let cause = FaultCause::none(alloc)?;
+    put_fault(alloc, id, fault, &place, &cause, to)
 }
 
 /// Writes the record that a table has more faults.
@@ -87,16 +93,18 @@ fn put_more<W: Write>(alloc: Global, id: &str, to: &mut W) -> io::Result<()>
     to.write_all(row.as_slice())
 }
 
-/// Writes the records of the faults of one row, `room` at most. Returns how many more may be
-/// listed, or `None` after the record that the table has more.
+/// Writes the records of the faults of one row, `room` at most. The row and its header are `cells`.
+/// Returns how many more may be listed, or `None` after the record that the table has more.
 fn put_located<W: Write>(
     alloc: Global,
     id: &str,
+    causes: &mut FaultCauses<'_>,
+    cells: &RowAgain,
     located: &[LocatedFault],
     room: usize,
     to: &mut W,
 ) -> io::Result<Option<usize>>
-    ensures { IfOk result (λ left. Writes (W.contents to.old) (W.contents to.new) id.now room (located_records id.now located.now) left) }
+    ensures { IfOk result (λ left. WritesEach (W.contents to.old) (W.contents to.new) id.now room (located_record id.now) located.now left) }
 {
     let mut left = room;
     for LocatedFault { fault, place } in located {
@@ -104,7 +112,8 @@ fn put_located<W: Write>(
             put_more(alloc, id, to)?;
             return Ok(None);
         }
-        put_fault(alloc, id, fault, place, to)?;
+        let cause = causes.next(alloc, fault, cells, place.line)?;
+        put_fault(alloc, id, fault, place, &cause, to)?;
         left -= 1;
     }
     Ok(Some(left))
@@ -116,6 +125,7 @@ fn put_located<W: Write>(
 fn put_rest<R: Read + Drop, W: Write>(
     alloc: Global,
     id: &str,
+    causes: &mut FaultCauses<'_>,
     room: usize,
     rows: &mut BadRows<'_, R>,
     to: &mut W,
@@ -126,10 +136,13 @@ fn put_rest<R: Read + Drop, W: Write>(
     let mut left = room;
     for _ in 0..u64::MAX {
         match rows.next_row(alloc) {
-            Ok(Some(located)) => match put_located(alloc, id, located.as_slice(), left, to)? {
-                Some(after) => left = after,
-                None => return Ok(None),
-            },
+            Ok(Some(located)) => {
+                let located = located.as_slice();
+                match put_located(alloc, id, causes, rows.cells(), located, left, to)? {
+                    Some(after) => left = after,
+                    None => return Ok(None),
+                }
+            }
             Ok(None) => return Ok(Some(left)),
             Err(failure) => {
                 put_alone(alloc, id, &failure, to)?;
@@ -155,6 +168,7 @@ fn begin_with(located: &[LocatedFault], fault: &TableFault) -> bool
 fn put_rows<R: Read + Drop, W: Write>(
     alloc: Global,
     table: RefusedTable<'_>,
+    causes: &mut FaultCauses<'_>,
     rows: &mut BadRows<'_, R>,
     to: &mut W,
 ) -> io::Result<ListedFaults>
@@ -165,15 +179,17 @@ fn put_rows<R: Read + Drop, W: Write>(
         Ok(Some(located)) => located,
         _ => return listed_alone(alloc, table, to),
     };
-    if !begin_with(located.as_slice(), table.fault) {
+    let located = located.as_slice();
+    if !begin_with(located, table.fault) {
         return listed_alone(alloc, table, to);
     }
-    match put_located(alloc, table.id, located.as_slice(), table.most, to)? {
+    let (id, most) = (table.id, table.most);
+    match put_located(alloc, id, causes, rows.cells(), located, most, to)? {
         Some(room) => {
-            let after = put_rest(alloc, table.id, room, rows, to)?;
-            Ok(counted(table.most, after))
+            let after = put_rest(alloc, id, causes, room, rows, to)?;
+            Ok(counted(most, after, causes.rows))
         }
-        None => Ok(counted(table.most, None)),
+        None => Ok(counted(most, None, causes.rows)),
     }
 }
 
@@ -189,11 +205,12 @@ fn listed_alone<W: Write>(
     Ok(ListedFaults {
         count: 1,
         is_cut: false,
+        rows: 0,
     })
 }
 
 /// Writes the records of a refused table of this report, all its faults in order, and returns how
-/// many are listed. The table's file is read again, in one pass.
+/// many are listed. The table's file is read again, in one pass. Each record has the fault's cause.
 ///
 /// If the table has more faults than `table.most`, the last record is `more_faults_row`. If the
 /// file cannot be read to its end, the last record is of that failure. A fault of the whole file
@@ -215,8 +232,12 @@ pub fn list_faults<R: Read + Drop, F: Folder<R>, W: Write>(
     }
     first_fault_is_of_stream();
     let path = table_path(alloc, table.meta, report, place)?;
-    match bad_rows_at(alloc, folder, path.as_str(), report, place) {
-        Some(mut rows) => put_rows(alloc, table, &mut rows, to),
-        None => listed_alone(alloc, table, to),
-    }
+    let path = path.as_str();
+    let line = line_again(alloc, folder, path, 0);
+    let Some(mut rows) = bad_rows_at(alloc, folder, path, report, place) else {
+        return listed_alone(alloc, table, to);
+    };
+    let header = &rows.cells().header;
+    let file = TableAgain::new(alloc, again, table.meta, path, place, header, line)?;
+    put_rows(alloc, table, &mut FaultCauses::new(file), &mut rows, to)
 }

@@ -4,10 +4,11 @@
 
 ghost use Rattle.std.specs.Prelude.{◌≤◌};
 
+use crate::table_again::TableAgain;
 use oim_cells::{CellMeaning, meaning};
-use oim_meta::{Column, Level, Written, WrittenDecimals};
-use oim_names::find;
-use oim_places::{ReportAgain, RowAgain, text_at};
+use oim_meta::{Level, Written, WrittenDecimals};
+use oim_names::Text;
+use oim_places::{RowAgain, text_at};
 use oim_resolve::{CellFault, levels};
 use serde_json::Value;
 use std::alloc::{AllocError, Global};
@@ -48,97 +49,48 @@ fn depth(writer: Writer) -> usize
 /// The row of a fault of a cell.
 #[derive(Clone, Copy)]
 pub(crate) struct RowOfFault<'r> {
-    /// The report.
-    pub(crate) again: &'r ReportAgain,
-    /// The place of the row's table in the report.
-    pub(crate) table: usize,
-    /// The identifier of the table.
-    pub(crate) table_id: &'r str,
-    /// What the template writes.
-    pub(crate) template: &'r Level,
-    /// The columns of the template.
-    pub(crate) columns: &'r [Column],
-    /// The place of the fact's column among them.
+    /// The table.
+    pub(crate) table: &'r TableAgain<'r>,
+    /// The place of the fact's column in the template.
     pub(crate) column: usize,
     /// The row and its header.
     pub(crate) cells: &'r RowAgain,
     /// The number of the row, in digits.
     pub(crate) number: &'r str,
-    /// The path of the table's file.
-    pub(crate) path: &'r str,
     /// The line of the file at which the row begins.
     pub(crate) line: Option<u64>,
-    /// The folder of the metadata.
-    pub(crate) base: &'r str,
 }
 
-/// Returns the place of the header's first cell that is this text.
-pub(crate) fn place_of_text(again: &RowAgain, text: &str) -> Option<usize> {
-    for place in 0..again.header.len() {
-        if text_at(&again.header, place) == Some(text) {
-            return Some(place);
-        }
+/// Returns the value of a name in a list that is in byte order of name, as those of a report are.
+fn value_of<'a, V>(entries: &'a [(Text, V)], name: &str) -> Option<&'a V> {
+    match entries.binary_search_by(|entry| entry.0.as_str().cmp(name)) {
+        Ok(place) => match entries.get(place) {
+            Some((_, value)) => Some(value),
+            None => None,
+        },
+        Err(_) => None,
     }
-    None
 }
 
 impl<'r> RowOfFault<'r> {
     /// Returns the identifier of the template.
     fn template_id(&self) -> &'r str {
-        let table = self.table_id;
-        text_of(self.again.written_at(&["tables", table, "template"])).unwrap_or(table)
-    }
-
-    /// Returns the parameter of this name.
-    pub(crate) fn parameter(&self, name: &str) -> Option<&'r str> {
-        let report = &self.again.report;
-        if self.table < report.tables() {
-            report.parameter(self.table, name)
-        } else {
-            None
-        }
+        let table = self.table.id;
+        let keys = ["tables", table, "template"];
+        text_of(self.table.again.written_at(&keys)).unwrap_or(table)
     }
 
     /// Returns the identifier of the column at a place of the template.
     pub(crate) fn column_id(&self, place: usize) -> &'r str {
-        match self.columns.get(place) {
+        match self.table.columns.get(place) {
             Some(column) => column.id.as_str(),
             None => "",
         }
     }
 
-    /// Returns the place in the file's records of the column of this name, if the header has it.
-    pub(crate) fn place_in_file(&self, column: &str) -> Option<usize> {
-        place_of_text(self.cells, column)
-    }
-
-    /// Returns whether the template has a column of this name.
-    pub(crate) fn has_column(&self, name: &str) -> bool {
-        for column in self.columns {
-            if column.id.as_str() == name {
-                return true;
-            }
-        }
-        false
-    }
-
-    /// Returns the place of the header's empty cell, if it has exactly one.
-    pub(crate) fn unnamed_cell(&self) -> Option<usize> {
-        let mut found = None;
-        for place in 0..self.cells.header.len() {
-            if text_at(&self.cells.header, place) == Some("") {
-                if found.is_some() {
-                    return None;
-                }
-                found = Some(place);
-            }
-        }
-        found
-    }
-
     /// Returns the row's cell in the column of this name, empty if it does not exist.
     pub(crate) fn cell_of(&self, column: &str) -> &'r str {
-        match self.place_in_file(column) {
+        match self.table.place_in_file(column) {
             Some(place) => text_at(&self.cells.row, place).unwrap_or(""),
             None => "",
         }
@@ -153,7 +105,7 @@ impl<'r> RowOfFault<'r> {
     pub(crate) fn text_referred(&self, name: &str) -> &'r str {
         let cell = self.cell_of(name);
         if cell.is_empty() {
-            self.parameter(name).unwrap_or("")
+            self.table.parameter(name).unwrap_or("")
         } else {
             cell
         }
@@ -165,7 +117,7 @@ impl<'r> RowOfFault<'r> {
         if !cell.is_empty() {
             return meaning(cell);
         }
-        match self.parameter(name) {
+        match self.table.parameter(name) {
             Some(text) => meaning(text),
             None => CellMeaning::Absent,
         }
@@ -185,18 +137,18 @@ impl<'r> RowOfFault<'r> {
 
     /// Returns the property group that the row names in the column at a place of the template.
     fn group(&self, place: usize) -> Option<&'r Level> {
-        let Some(column) = self.columns.get(place) else {
+        let Some(column) = self.table.columns.get(place) else {
             return None;
         };
         match meaning(self.cell_of(column.id.as_str())) {
-            CellMeaning::Text(name) => find(column.groups.as_slice(), name),
+            CellMeaning::Text(name) => value_of(column.groups.as_slice(), name),
             _ => None,
         }
     }
 
     /// Returns the places of the columns from which the fact's column takes property groups.
     pub(crate) fn from(&self) -> &'r [usize] {
-        match self.columns.get(self.column) {
+        match self.table.columns.get(self.column) {
             Some(column) => column.from.as_slice(),
             None => &[],
         }
@@ -205,13 +157,13 @@ impl<'r> RowOfFault<'r> {
     /// Returns what one of the levels writes.
     fn level(&self, writer: Writer) -> Option<&'r Level> {
         match writer {
-            Writer::Column => match self.columns.get(self.column) {
+            Writer::Column => match self.table.columns.get(self.column) {
                 Some(column) => Some(&column.level),
                 None => None,
             },
             Writer::Groups(place) => self.group(place),
-            Writer::Template => Some(self.template),
-            Writer::Report => Some(self.again.report.report_level()),
+            Writer::Template => Some(self.table.template),
+            Writer::Report => Some(self.table.again.report.report_level()),
         }
     }
 
@@ -240,7 +192,7 @@ impl<'r> RowOfFault<'r> {
         for rank in 0..self.ranks() {
             let writer = self.writer_at(rank);
             if let Some(level) = self.level(writer) {
-                if let Some(written) = find(level.dimensions.as_slice(), name) {
+                if let Some(written) = value_of(level.dimensions.as_slice(), name) {
                     return Some((writer, written));
                 }
             }

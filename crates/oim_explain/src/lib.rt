@@ -43,6 +43,7 @@ mod causes;
 mod entries;
 mod explanation;
 mod facts;
+mod fault_causes;
 mod fault_list;
 mod files;
 mod filings;
@@ -57,8 +58,10 @@ mod numbers;
 mod quotes;
 mod rows;
 mod shared_causes;
+mod source_places;
 mod sources;
 mod spreadsheet;
+mod table_again;
 mod tables;
 
 pub use again::{explain_report, report_explanation};
@@ -66,8 +69,8 @@ pub use explanation::{Explanation, explanation_text};
 pub use fault_list::{ListedFaults, RefusedTable, list_faults};
 pub use metadata::explain_metadata;
 pub use oim_places::{
-    FaultPlace, ReportAgain, fault_header, fault_place, fault_row, lines_are_of_records,
-    report_again, report_fault_row, shown,
+    FaultCause, FaultPlace, ReportAgain, fault_header, fault_place, fault_row,
+    lines_are_of_records, report_again, report_fault_row, shown,
 };
 pub use shared_causes::{MOST_TABLES, explained_faults, lines_below};
 pub use tables::{ExplainedFault, explained_fault};

@@ -3,6 +3,7 @@
 //! Not proved: all of this file.
 
 use crate::explanation::{Explanation, explanation_text};
+use crate::fault_list::ListedFaults;
 use crate::tables::{ExplainedFault, explained_fault};
 use oim_files::Folder;
 use oim_names::Text;
@@ -25,8 +26,52 @@ fn source_of(explanation: &Explanation) -> &str {
     }
 }
 
-/// Returns the line that names the later tables with a cause.
-fn others_line(alloc: Global, others: &[String]) -> Result<String, AllocError> {
+/// How many rows have a cause.
+#[derive(Clone, Copy)]
+struct SharedRows {
+    /// How many are counted.
+    count: usize,
+    /// Whether more faults were not looked at.
+    is_cut: bool,
+}
+
+/// Returns how many rows of these tables have their cause, or `None` if that was not counted.
+fn rows_of(listed: &[ListedFaults], tables: &[usize]) -> Option<SharedRows> {
+    let mut all = SharedRows {
+        count: 0,
+        is_cut: false,
+    };
+    for table in tables {
+        match listed.get(*table) {
+            Some(faults) if faults.rows > 0 => {
+                all.count = all.count.saturating_add(faults.rows);
+                all.is_cut = all.is_cut || faults.is_cut;
+            }
+            _ => return None,
+        }
+    }
+    Some(all)
+}
+
+/// Returns the line that says how many more rows of a table have the cause, if there are any.
+fn rows_line(alloc: Global, rows: Option<SharedRows>) -> Result<String, AllocError> {
+    match rows {
+        Some(rows) if rows.count > 1 => {
+            let least = if rows.is_cut { "at least " } else { "" };
+            let more = rows.count - 1;
+            let word = if more == 1 { "row" } else { "rows" };
+            format!(in alloc; "    the same in {least}{more} more {word}\n")
+        }
+        _ => Ok(String::new(alloc)),
+    }
+}
+
+/// Returns the line that names the later tables with a cause, and how many rows of all have it.
+fn others_line(
+    alloc: Global,
+    others: &[String],
+    rows: Option<SharedRows>,
+) -> Result<String, AllocError> {
     let count = others.len();
     let last = count.saturating_sub(1);
     let word = if count == 1 { "table" } else { "tables" };
@@ -40,6 +85,10 @@ fn others_line(alloc: Global, others: &[String]) -> Result<String, AllocError> {
         };
         line.push_str(before)?;
         line.push_str(id.as_str())?;
+    }
+    if let Some(SharedRows { count, is_cut }) = rows {
+        let least = if is_cut { "at least " } else { "" };
+        line.push_str(format!(in alloc; "; {least}{count} rows in all")?.as_str())?;
     }
     line.push('\n')?;
     Ok(line)
@@ -63,11 +112,13 @@ pub fn explained_faults<R: Read + Drop, F: Folder<R>>(
 
 /// Returns the lines below that of the refused table at this index: its explanation, and which
 /// later tables have the same cause. If an earlier table has it, they are a line that names it.
-/// `told` is what `explained_faults` gives. There are no lines for a table past those.
+/// `told` is what `explained_faults` gives, and `listed` what `list_faults` gives of each table, or
+/// nothing: then rows are not counted. There are no lines for a table past those of `told`.
 pub fn lines_below(
     alloc: Global,
     tables: &[(Text, TableFault)],
     told: &[ExplainedFault],
+    listed: &[ListedFaults],
     index: usize,
 ) -> Result<String, AllocError> {
     let Some(ExplainedFault { explanation, .. }) = told.get(index) else {
@@ -75,6 +126,7 @@ pub fn lines_below(
     };
     let source = source_of(explanation);
     let mut others = Vec::new(alloc);
+    let mut same = vec![in alloc; index]?;
     for (place, ((id, _), other)) in tables.iter().zip(told.iter()).enumerate() {
         let other = &other.explanation;
         if place == index || source_of(other) != source || other.cause != explanation.cause {
@@ -86,10 +138,15 @@ pub fn lines_below(
             return format!(in alloc; "    the same cause as in table {id}: {source}\n");
         }
         others.push(id)?;
+        same.push(place)?;
     }
+    let rows = rows_of(listed, same.as_slice());
+    let shared = if others.is_empty() {
+        rows_line(alloc, rows)?
+    } else {
+        others_line(alloc, others.as_slice(), rows)?
+    };
     let mut lines = explanation_text(alloc, explanation)?;
-    if !others.is_empty() {
-        lines.push_str(others_line(alloc, others.as_slice())?.as_str())?;
-    }
+    lines.push_str(shared.as_str())?;
     Ok(lines)
 }

@@ -1,17 +1,10 @@
 //! The sources of a fault of a cell: a cell that names a property group, a property of the
 //! metadata, and the cell or the parameter that it refers to.
 
-use crate::levels::{RowOfFault, Writer, text_of};
-use oim_files::{Folder, path_in};
+use crate::levels::{RowOfFault, Writer};
 use oim_meta::{Kind, Written, WrittenDecimals};
-use oim_names::Text;
-use oim_places::{
-    ReportAgain, cell_shown, first_record_with, line_again, place_in_file, pointer_to, quoted,
-    standing,
-};
 use oim_resolve::{CellFault, Role, read_concept, read_value, side_of};
 use std::alloc::{AllocError, Global};
-use std::io::Read;
 
 /// What causes a fault of a cell.
 #[derive(Clone, Copy)]
@@ -32,7 +25,7 @@ fn bad_dimension<'r>(
     kind: Kind,
     fault: CellFault,
 ) -> Result<Option<&'r str>, AllocError> {
-    let report = &row.again.report;
+    let report = &row.table.again.report;
     for name in row.names(alloc)? {
         let role = Role::of(report, name);
         if role.is_dropped(kind) {
@@ -97,61 +90,61 @@ pub(crate) fn origin_of<'r>(
     if let Some(place) = row.bad_group(fault) {
         return Ok(Some(Origin::Groups(place)));
     }
-    match read_concept(&row.again.report, row.concept()) {
+    match read_concept(&row.table.again.report, row.concept()) {
         Ok(kind) => bad_property(alloc, row, kind, fault),
         Err(found) if found == fault => Ok(Some(Origin::Dimension("concept"))),
         Err(_) => Ok(None),
     }
 }
 
-/// Writes lines of places.
+/// A place that leads to a fault.
 #[derive(Drop)]
-struct Lines<'r, 's> {
-    alloc: Global,
-    row: &'s RowOfFault<'r>,
-    lines: Vec<Text>,
+pub(crate) enum SourcePlace<'r> {
+    /// The row's cell at this place of the file's records.
+    Cell(usize),
+    /// The header's cell at this place.
+    HeaderCell(usize),
+    /// The row, because the header has no column of this name.
+    NoColumn(&'r str),
+    /// The property of the metadata to which these keys lead.
+    Property(Vec<&'r str>),
+    /// The parameter with this name and this value in the parameters file.
+    Given(&'r str, &'r str),
 }
 
-impl<'r, 's> Lines<'r, 's> {
-    /// Writes a place and what is there.
-    fn put(&mut self, place: String, found: String) -> Result<(), AllocError> {
-        let (place, found) = (place.as_str(), found.as_str());
-        let line = format!(in self.alloc; "{place}: {found}")?;
-        self.lines.push(Text::new(line))?;
+/// Lists the places that lead to a fault.
+#[derive(Drop)]
+struct Places<'r, 's> {
+    alloc: Global,
+    row: &'s RowOfFault<'r>,
+    places: Vec<SourcePlace<'r>>,
+}
+
+impl<'r, 's> Places<'r, 's> {
+    /// Puts a place.
+    fn put(&mut self, place: SourcePlace<'r>) -> Result<(), AllocError> {
+        self.places.push(place)?;
         Ok(())
     }
 
-    /// Writes a cell of the fault's row, in the column of this name, if the file has it.
+    /// Puts a cell of the fault's row, in the column of this name, if the file has it.
     fn put_cell(&mut self, column: &str) -> Result<(), AllocError> {
-        let Some(place) = self.row.place_in_file(column) else {
-            return Ok(());
-        };
-        let found = cell_shown(self.alloc, &self.row.cells.row, place)?;
-        let place = place_in_file(self.alloc, self.row.path, self.row.line, Some(place))?;
-        self.put(place, found)
-    }
-
-    /// Writes the same, or that the header has no such column.
-    fn put_cell_or_none(&mut self, column: &str) -> Result<(), AllocError> {
-        if self.row.place_in_file(column).is_some() {
-            return self.put_cell(column);
+        match self.row.table.place_in_file(column) {
+            Some(place) => self.put(SourcePlace::Cell(place)),
+            None => Ok(()),
         }
-        let name = quoted(self.alloc, column)?;
-        let name = name.as_str();
-        let found = format!(in self.alloc; "the header has no column {name}")?;
-        let place = place_in_file(self.alloc, self.row.path, self.row.line, None)?;
-        self.put(place, found)
     }
 
-    /// Writes a cell of the header, which begins at this line.
-    fn put_header_cell(&mut self, line: Option<u64>, place: usize) -> Result<(), AllocError> {
-        let found = cell_shown(self.alloc, &self.row.cells.header, place)?;
-        let place = place_in_file(self.alloc, self.row.path, line, Some(place))?;
-        self.put(place, found)
+    /// Puts the same, or that the header has no such column.
+    fn put_cell_or_none(&mut self, column: &'r str) -> Result<(), AllocError> {
+        match self.row.table.place_in_file(column) {
+            Some(place) => self.put(SourcePlace::Cell(place)),
+            None => self.put(SourcePlace::NoColumn(column)),
+        }
     }
 
-    /// Writes the cells of the row that could name a property group and name none: such a group
-    /// could write what is missing.
+    /// Puts the cells of the row that could name a property group and name none: such a group could
+    /// write what is missing.
     fn put_cells_without_group(&mut self) -> Result<(), AllocError> {
         let row = self.row;
         for place in row.from().iter().rev() {
@@ -162,170 +155,96 @@ impl<'r, 's> Lines<'r, 's> {
         Ok(())
     }
 
-    /// Writes a property of the metadata.
-    fn put_written(&mut self, keys: &[&str]) -> Result<(), AllocError> {
-        let found = standing(self.alloc, self.row.again.written_at(keys))?;
-        self.put(pointer_to(self.alloc, keys)?, found)
+    /// Puts the property of the metadata to which these keys lead.
+    fn put_keys(&mut self, keys: &[&'r str]) -> Result<(), AllocError> {
+        self.put(SourcePlace::Property(Vec::from_slice(self.alloc, keys)?))
     }
 
-    /// Writes a property that a level writes, after the cell that names the level if that is a
+    /// Puts a property that a level writes, after the cell that names the level if that is a
     /// property group.
-    fn put_property(&mut self, writer: Writer, property: &[&str]) -> Result<(), AllocError> {
+    fn put_property(&mut self, writer: Writer, property: &[&'r str]) -> Result<(), AllocError> {
         if let Writer::Groups(place) = writer {
             self.put_cell(self.row.column_id(place))?;
         }
         let keys = self.row.keys_of(self.alloc, writer, property)?;
-        self.put_written(keys.as_slice())
+        self.put(SourcePlace::Property(keys))
     }
-}
 
-/// Returns the number of the record of a parameters file that has this name.
-fn record_of<R: Read + Drop, F: Folder<R>>(
-    alloc: Global,
-    folder: &mut F,
-    path: &str,
-    name: &str,
-) -> Result<Option<usize>, AllocError> {
-    match folder.open(path) {
-        Some(reader) => first_record_with(alloc, reader, 0, name.as_bytes()),
-        None => Ok(None),
-    }
-}
-
-/// Puts the place of a parameter of the parameters file at this path.
-fn put_given_at<R: Read + Drop, F: Folder<R>>(
-    lines: &mut Lines<'_, '_>,
-    folder: &mut F,
-    path: &str,
-    name: &str,
-    text: &str,
-) -> Result<(), AllocError> {
-    let alloc = lines.alloc;
-    let line = match record_of(alloc, folder, path, name)? {
-        Some(number) => line_again(alloc, folder, path, number),
-        None => None,
-    };
-    let place = place_in_file(alloc, path, line, Some(1))?;
-    lines.put(place, quoted(alloc, text)?)
-}
-
-/// Puts the place of a parameter of the parameters file, if the metadata names one.
-fn put_given<R: Read + Drop, F: Folder<R>>(
-    lines: &mut Lines<'_, '_>,
-    folder: &mut F,
-    name: &str,
-    text: &str,
-) -> Result<(), AllocError> {
-    let Some(url) = text_of(lines.row.again.written_at(&["parameterURL"])) else {
-        return Ok(());
-    };
-    let path = path_in(lines.alloc, lines.row.base, url)?;
-    put_given_at(lines, folder, path.as_str(), name, text)
-}
-
-/// Puts the place of a parameter: of the table, else of the report, else of the parameters file.
-fn put_parameter<R: Read + Drop, F: Folder<R>>(
-    lines: &mut Lines<'_, '_>,
-    folder: &mut F,
-    name: &str,
-    text: &str,
-) -> Result<(), AllocError> {
-    let of_table = ["tables", lines.row.table_id, "parameters", name];
-    if lines.row.again.written_at(&of_table).is_some() {
-        return lines.put_written(&of_table);
-    }
-    let of_report = ["parameters", name];
-    if lines.row.again.written_at(&of_report).is_some() {
-        return lines.put_written(&of_report);
-    }
-    put_given(lines, folder, name, text)
-}
-
-/// Writes that the header has no column of this name: the header's empty cell, if it has just one,
-/// or else the row.
-fn put_missing<R: Read + Drop, F: Folder<R>>(
-    lines: &mut Lines<'_, '_>,
-    folder: &mut F,
-    name: &str,
-) -> Result<(), AllocError> {
-    match lines.row.unnamed_cell() {
-        Some(place) => {
-            let line = line_again(lines.alloc, folder, lines.row.path, 0);
-            lines.put_header_cell(line, place)
-        }
-        None => lines.put_cell_or_none(name),
-    }
-}
-
-/// Writes the place of what a reference names: the row's cell, unless it is empty and a parameter
-/// has that name.
-fn put_referred<R: Read + Drop, F: Folder<R>>(
-    lines: &mut Lines<'_, '_>,
-    folder: &mut F,
-    name: &str,
-) -> Result<(), AllocError> {
-    if lines.row.cell_of(name).is_empty() {
-        if let Some(text) = lines.row.parameter(name) {
-            return put_parameter(lines, folder, name, text);
+    /// Puts a parameter: of the table, else of the report, else of the parameters file.
+    fn put_parameter(&mut self, name: &'r str, text: &'r str) -> Result<(), AllocError> {
+        let table = self.row.table;
+        let of_table = ["tables", table.id, "parameters", name];
+        let of_report = ["parameters", name];
+        if table.again.written_at(&of_table).is_some() {
+            self.put_keys(&of_table)
+        } else if table.again.written_at(&of_report).is_some() {
+            self.put_keys(&of_report)
+        } else {
+            self.put(SourcePlace::Given(name, text))
         }
     }
-    if lines.row.has_column(name) && lines.row.place_in_file(name).is_none() {
-        return put_missing(lines, folder, name);
+
+    /// Puts what a reference names: the row's cell, unless it is empty and a parameter has that
+    /// name. If the header lacks the column, it is the header's empty cell or the row.
+    fn put_referred(&mut self, name: &'r str) -> Result<(), AllocError> {
+        let row = self.row;
+        if row.cell_of(name).is_empty() {
+            if let Some(text) = row.table.parameter(name) {
+                return self.put_parameter(name, text);
+            }
+        }
+        if row.table.place_of(name).is_none() || row.table.place_in_file(name).is_some() {
+            return self.put_cell(name);
+        }
+        match row.table.unnamed {
+            Some(place) => self.put(SourcePlace::HeaderCell(place)),
+            None => self.put(SourcePlace::NoColumn(name)),
+        }
     }
-    lines.put_cell(name)
+
+    /// Puts the places of a dimension's value. If nothing writes it, the cells that name no
+    /// property group are last: the first of these is to be mended.
+    fn put_dimension(&mut self, name: &'r str) -> Result<(), AllocError> {
+        let Some((writer, written)) = self.row.written(name) else {
+            self.put_property(Writer::Column, &["dimensions", name])?;
+            return self.put_cells_without_group();
+        };
+        self.put_property(writer, &["dimensions", name])?;
+        match written {
+            Written::Named(name, _) => self.put_referred(name.as_str()),
+            _ => Ok(()),
+        }
+    }
+
+    /// Puts the places of the decimals.
+    fn put_decimals(&mut self) -> Result<(), AllocError> {
+        let Some((writer, written)) = self.row.decimals() else {
+            return Ok(());
+        };
+        self.put_property(writer, &["decimals"])?;
+        match written {
+            WrittenDecimals::Named(name) => self.put_referred(name.as_str()),
+            _ => Ok(()),
+        }
+    }
 }
 
-/// Writes the places of a dimension's value. If nothing writes it, the cells that name no property
-/// group are last: the first of these is to be mended.
-fn put_dimension<R: Read + Drop, F: Folder<R>>(
-    lines: &mut Lines<'_, '_>,
-    folder: &mut F,
-    name: &str,
-) -> Result<(), AllocError> {
-    let Some((writer, written)) = lines.row.written(name) else {
-        lines.put_property(Writer::Column, &["dimensions", name])?;
-        return lines.put_cells_without_group();
-    };
-    lines.put_property(writer, &["dimensions", name])?;
-    match written {
-        Written::Named(name, _) => put_referred(lines, folder, name.as_str()),
-        _ => Ok(()),
-    }
-}
-
-/// Puts the places of the decimals.
-fn put_decimals<R: Read + Drop, F: Folder<R>>(
-    lines: &mut Lines<'_, '_>,
-    folder: &mut F,
-) -> Result<(), AllocError> {
-    let Some((writer, written)) = lines.row.decimals() else {
-        return Ok(());
-    };
-    lines.put_property(writer, &["decimals"])?;
-    match written {
-        WrittenDecimals::Named(name) => put_referred(lines, folder, name.as_str()),
-        _ => Ok(()),
-    }
-}
-
-/// Returns the places elsewhere that lead to a cell's fault, each with what is there. The last one
-/// is to be mended.
-pub(crate) fn sources<R: Read + Drop, F: Folder<R>>(
+/// Returns the places elsewhere that lead to a cell's fault. The last one is to be mended.
+pub(crate) fn sources<'r>(
     alloc: Global,
-    folder: &mut F,
-    row: &RowOfFault<'_>,
-    origin: Option<Origin<'_>>,
-) -> Result<Vec<Text>, AllocError> {
-    let mut lines = Lines {
+    row: &RowOfFault<'r>,
+    origin: Option<Origin<'r>>,
+) -> Result<Vec<SourcePlace<'r>>, AllocError> {
+    let mut found = Places {
         alloc,
         row,
-        lines: Vec::new(alloc),
+        places: Vec::new(alloc),
     };
     match origin {
         None => {}
-        Some(Origin::Groups(place)) => lines.put_cell(row.column_id(place))?,
-        Some(Origin::Dimension(name)) => put_dimension(&mut lines, folder, name)?,
-        Some(Origin::Decimals) => put_decimals(&mut lines, folder)?,
+        Some(Origin::Groups(place)) => found.put_cell(row.column_id(place))?,
+        Some(Origin::Dimension(name)) => found.put_dimension(name)?,
+        Some(Origin::Decimals) => found.put_decimals()?,
     }
-    Ok(lines.lines)
+    Ok(found.places)
 }

@@ -8,10 +8,11 @@ ghost use Rattle.oim_explain.specs.TablePlaces.{ExplainsAt, ExplainsTable};
 use crate::explanation::Explanation;
 use crate::facts::{Told, of_fact};
 use crate::files::{changed, of_file};
-use crate::levels::{RowOfFault, place_of_text};
+use crate::levels::RowOfFault;
 use crate::rows::of_record;
+use crate::table_again::TableAgain;
 use csv::ByteRecord;
-use oim_files::{Folder, folder_of};
+use oim_files::Folder;
 use oim_meta::{Level, Report, Written};
 use oim_names::{Items, Text, find};
 use oim_places::{
@@ -32,6 +33,16 @@ fn id_column(report: &Report, table: usize) -> Option<&str>
         Some(place) if place < columns.len() => Some(columns[place].id.as_str()),
         _ => None,
     }
+}
+
+/// Returns the place of the header's first cell that is this text.
+fn place_of_text(again: &RowAgain, text: &str) -> Option<usize> {
+    for place in 0..again.header.len() {
+        if text_at(&again.header, place) == Some(text) {
+            return Some(place);
+        }
+    }
+    None
 }
 
 /// Returns the identifier of a row, cut.
@@ -189,9 +200,9 @@ fn with_first_line<R: Read + Drop, F: Folder<R>>(
 
 /// The files of a report that is read again, and the path of one of its tables.
 #[derive(Clone, Copy)]
-struct TableAgain<'r> {
+struct TablePath<'r> {
     again: &'r ReportAgain,
-    base: &'r str,
+    meta: &'r str,
     path: &'r str,
 }
 
@@ -199,7 +210,7 @@ struct TableAgain<'r> {
 fn told_of<R: Read + Drop, F: Folder<R>>(
     alloc: Global,
     folder: &mut F,
-    table: TableAgain<'_>,
+    table: TablePath<'_>,
     fault: &TableFault,
     cells: &RowAgain,
     line: Option<u64>,
@@ -217,18 +228,15 @@ fn told_of<R: Read + Drop, F: Folder<R>>(
     };
     let number = fault.row;
     let number = format!(in alloc; "{number}")?;
+    let TablePath { again, meta, path } = table;
+    let first = line_again(alloc, folder, path, 0);
+    let table = TableAgain::new(alloc, again, meta, path, fault.table, &cells.header, first)?;
     let row = RowOfFault {
-        again: table.again,
-        table: fault.table,
-        table_id: report.table_id(fault.table),
-        template: report.template_level(fault.table),
-        columns,
+        table: &table,
         column,
         cells,
         number: number.as_str(),
-        path: table.path,
         line,
-        base: table.base,
     };
     of_fact(alloc, folder, &row, kind)
 }
@@ -237,7 +245,7 @@ fn told_of<R: Read + Drop, F: Folder<R>>(
 fn at_record<R: Read + Drop, F: Folder<R>>(
     alloc: Global,
     folder: &mut F,
-    table: TableAgain<'_>,
+    table: TablePath<'_>,
     fault: &TableFault,
     cells: &RowAgain,
     line: Option<u64>,
@@ -288,7 +296,7 @@ fn without_place(alloc: Global, explanation: Explanation) -> Result<ExplainedFau
 fn with_record<R: Read + Drop, F: Folder<R>>(
     alloc: Global,
     folder: &mut F,
-    table: TableAgain<'_>,
+    table: TablePath<'_>,
     fault: &TableFault,
     found: FaultRecord,
 ) -> Result<ExplainedFault, AllocError>
@@ -310,7 +318,7 @@ fn with_record<R: Read + Drop, F: Folder<R>>(
 fn at_path<R: Read + Drop, F: Folder<R>>(
     alloc: Global,
     folder: &mut F,
-    table: TableAgain<'_>,
+    table: TablePath<'_>,
     fault: &TableFault,
 ) -> Result<ExplainedFault, AllocError>
     requires { (fault.now).table < length table.again.now.report.tables }
@@ -346,9 +354,9 @@ pub fn explained_fault<R: Read + Drop, F: Folder<R>>(
         return without_place(alloc, changed(alloc, meta)?);
     }
     let path = table_path(alloc, meta, &again.report, fault.table)?;
-    let table = TableAgain {
+    let table = TablePath {
         again,
-        base: folder_of(meta),
+        meta,
         path: path.as_str(),
     };
     at_path(alloc, folder, table, fault)

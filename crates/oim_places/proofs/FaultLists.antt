@@ -113,4 +113,4 @@ by_row g None rows = mapped g rows
 by_row g (Some e) rows = refl
 
 pub records_by_row : RecordsByRow
-records_by_row id report table limit bytes = by_row (record_of id bytes) (file_header_fault report table (grid bytes)) (bad_rows_of report table limit (grid bytes))
+records_by_row id cause report table limit bytes = by_row (λ f. record_of id bytes f (cause f)) (file_header_fault report table (grid bytes)) (bad_rows_of report table limit (grid bytes))

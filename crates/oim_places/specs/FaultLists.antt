@@ -12,6 +12,7 @@ use Rattle.oim_table_faults.specs.TableFaults.{bad_rows_of, table_faults}
 use Rattle.oim_places.specs.FaultPlaces.{HasRow, stands_at}
 use Rattle.oim_places.specs.FaultRows.{fault_fields}
 use Rattle.oim_places.specs.declared.bad_rows.LocatedFault.{LocatedFault}
+use Rattle.oim_places.specs.declared.fault_cause.FaultCause.{FaultCause}
 
 -- The header's fault alone, or else the faults of the rows.
 abbrev pub header_or : Option TableFault → List (List TableFault) → List (List TableFault)
@@ -22,19 +23,19 @@ header_or (Some e) rows = (e ∷ []) ∷ []
 abbrev pub faults_by_row : ReportValue → ℕ → ℕ → List Record → List (List TableFault)
 faults_by_row report table limit records = header_or (file_header_fault report table records) (bad_rows_of report table limit records)
 
--- The record of a fault in the file of faults, for a table with this identifier whose file has
--- these bytes.
-abbrev pub record_of : List ℕ → List ℕ → TableFault → Record
-record_of id bytes f = fault_fields id f (stands_at bytes f.row f.column)
+-- The record of a fault with this cause in the file of faults, for a table with this identifier
+-- whose file has these bytes.
+abbrev pub record_of : List ℕ → List ℕ → TableFault → FaultCause → Record
+record_of id bytes f c = fault_fields id f (stands_at bytes f.row f.column) c
 
--- The records of all faults of that table.
-abbrev pub fault_records : List ℕ → ReportValue → ℕ → ℕ → List ℕ → List Record
-fault_records id report table limit bytes = map (record_of id bytes) (table_faults report table limit (Some bytes))
+-- The records of all faults of that table, by their causes.
+abbrev pub fault_records : List ℕ → (TableFault → FaultCause) → ReportValue → ℕ → ℕ → List ℕ → List Record
+fault_records id cause report table limit bytes = map (λ f. record_of id bytes f (cause f)) (table_faults report table limit (Some bytes))
 
 -- They are those of its rows, in order.
 abbrev pub RecordsByRow : Type 0
-RecordsByRow = (id : List ℕ) (report : ReportValue) (table limit : ℕ) (bytes : List ℕ)
-    → fault_records id report table limit bytes ≡ flat_map (λ faults. map (record_of id bytes) faults) (faults_by_row report table limit (grid bytes))
+RecordsByRow = (id : List ℕ) (cause : TableFault → FaultCause) (report : ReportValue) (table limit : ℕ) (bytes : List ℕ)
+    → fault_records id cause report table limit bytes ≡ flat_map (λ faults. map (λ f. record_of id bytes f (cause f)) faults) (faults_by_row report table limit (grid bytes))
 
 -- What is left of a table's faults: `left`, row by row, if the bytes of its file are known. `cells`
 -- and `lines` are the bytes from which cells and lines are read, if they are known. `header` and

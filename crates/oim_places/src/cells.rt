@@ -89,7 +89,7 @@ fn field_of(row: &ByteRecord, place: Option<usize>) -> &[u8]
 }
 
 /// Returns the field of a record at a place, as a text, or the empty text if it does not exist.
-pub(crate) fn field_as_text(
+pub fn field_as_text(
     alloc: Global,
     row: &ByteRecord,
     place: Option<usize>,

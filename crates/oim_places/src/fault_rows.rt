@@ -1,12 +1,13 @@
 //! The file of faults (`--faults`): its header, and a record for each fault.
 
-ghost use Rattle.std.specs.Prelude.{◌≡◌, [], IfOk};
+ghost use Rattle.std.specs.Prelude.{◌≡◌, ◌++◌, [], IfOk};
 ghost use Rattle.std.specs.Fmt.{decimal};
 ghost use Rattle.csv.specs.Records.{fields_of, partial_of};
 ghost use Rattle.csv.specs.Writing.{default_writer, row_text};
-ghost use Rattle.oim_places.specs.FaultRows.{IsRecordText, fault_fields, fault_names, line_field, more_fields, report_fault_fields};
+ghost use Rattle.oim_places.specs.FaultRows.{IsRecordText, cause_fields, fault_fields, fault_names, line_field, more_fields, no_cause, report_fault_fields};
 ghost use Rattle.oim_places.specs.state.FaultRows.{PutsField};
 
+use crate::fault_cause::FaultCause;
 use crate::fault_places::FaultPlace;
 use csv::{ByteRecord, WriterBuilder};
 use oim_meta::MetaFault;
@@ -17,7 +18,8 @@ use std::alloc::{AllocError, Global};
 pub fn fault_header() -> &'static str
     ensures { IsRecordText fault_names result.now }
 {
-    "table_id,table_row,table_column,fault_number,fault_name,line,header_cell,row_cell,place\n"
+    "table_id,table_row,table_column,fault_number,fault_name,line,header_cell,row_cell,place,\
+        cause_file,cause_line,cause_cell,cause_text\n"
 }
 
 /// Returns the text of a record.
@@ -54,6 +56,28 @@ fn put_line(alloc: Global, row: &mut ByteRecord, line: Option<u64>) -> Result<()
     }
 }
 
+/// Appends the fields of a cause to the fields of a record.
+fn put_cause(alloc: Global, row: &mut ByteRecord, cause: &FaultCause) -> Result<(), AllocError>
+    requires { partial_of row.old ≡ [] }
+    ensures { IfOk result (λ u. fields_of row.new ≡ fields_of row.old ++ cause_fields cause.now) }
+{
+    row.push_field(cause.file.as_str().as_bytes())?;
+    put_line(alloc, row, cause.line)?;
+    row.push_field(cause.cell.as_str().as_bytes())?;
+    row.push_field(cause.text.as_str().as_bytes())
+}
+
+/// Appends the fields of a record without a cause.
+fn put_no_cause(row: &mut ByteRecord) -> Result<(), AllocError>
+    requires { partial_of row.old ≡ [] }
+    ensures { IfOk result (λ u. fields_of row.new ≡ fields_of row.old ++ cause_fields no_cause) }
+{
+    row.push_field(b"")?;
+    row.push_field(b"")?;
+    row.push_field(b"")?;
+    row.push_field(b"")
+}
+
 /// Puts the fields of a fault's record into an empty one.
 fn put_fields(
     alloc: Global,
@@ -61,9 +85,10 @@ fn put_fields(
     id: &str,
     fault: &TableFault,
     place: &FaultPlace,
+    cause: &FaultCause,
 ) -> Result<(), AllocError>
     requires { (fields_of row.old ≡ []) × (partial_of row.old ≡ []) }
-    ensures { IfOk result (λ u. fields_of row.new ≡ fault_fields id.now fault.now place.now) }
+    ensures { IfOk result (λ u. fields_of row.new ≡ fault_fields id.now fault.now place.now cause.now) }
 {
     row.push_field(id.as_bytes())?;
     put_number(alloc, row, u64::from(fault.row))?;
@@ -73,7 +98,8 @@ fn put_fields(
     put_line(alloc, row, place.line)?;
     row.push_field(place.header.as_str().as_bytes())?;
     row.push_field(place.cell.as_str().as_bytes())?;
-    row.push_field(b"")
+    row.push_field(b"")?;
+    put_cause(alloc, row, cause)
 }
 
 /// Puts the fields of a record for a fault of the report's other files into an empty one.
@@ -95,12 +121,13 @@ fn put_report_fields(
     row.push_field(b"")?;
     row.push_field(b"")?;
     row.push_field(found.as_bytes())?;
-    row.push_field(place.as_bytes())
+    row.push_field(place.as_bytes())?;
+    put_no_cause(row)
 }
 
 /// Returns the record of a table's fault: the table's identifier, the row, the column, the fault's
-/// number and name, the line, the header's cell, the row's cell and an empty field, with a line
-/// feed.
+/// number and name, the line, the header's cell, the row's cell, an empty field, and the cause's
+/// file, line, cell and text, with a line feed.
 ///
 /// Commas separate fields. A field with a comma, a quote, CR or LF is in quotes, and a quote in it
 /// is doubled (RFC 4180).
@@ -109,11 +136,12 @@ pub fn fault_row(
     id: &str,
     fault: &TableFault,
     place: &FaultPlace,
+    cause: &FaultCause,
 ) -> Result<Vec<u8>, AllocError>
-    ensures { IfOk result (λ v. IsRecordText (fault_fields id.now fault.now place.now) v.items) }
+    ensures { IfOk result (λ v. IsRecordText (fault_fields id.now fault.now place.now cause.now) v.items) }
 {
     let mut row = ByteRecord::new(alloc);
-    put_fields(alloc, &mut row, id, fault, place)?;
+    put_fields(alloc, &mut row, id, fault, place, cause)?;
     record_text(alloc, &row)
 }
 
@@ -130,11 +158,12 @@ fn put_more_fields(alloc: Global, row: &mut ByteRecord, id: &str) -> Result<(), 
     row.push_field(b"")?;
     row.push_field(b"")?;
     row.push_field(b"")?;
-    row.push_field(b"")
+    row.push_field(b"")?;
+    put_no_cause(row)
 }
 
 /// Returns the record that ends the list of a table with more faults than are listed: the table's
-/// identifier, 0, 0 and 0, the name MoreFaults, and four empty fields, with a line feed.
+/// identifier, 0, 0 and 0, the name MoreFaults, and eight empty fields, with a line feed.
 pub fn more_faults_row(alloc: Global, id: &str) -> Result<Vec<u8>, AllocError>
     ensures { IfOk result (λ v. IsRecordText (more_fields id.now) v.items) }
 {
@@ -145,7 +174,8 @@ pub fn more_faults_row(alloc: Global, id: &str) -> Result<Vec<u8>, AllocError>
 
 /// Returns the record of a fault of the metadata, the types table or the parameters file: an empty
 /// field, 0 and 0 for table, row and column, the fault's number and name, two empty fields, what is
-/// at the place, and the place, with a line feed. It is written as `fault_row` writes it.
+/// at the place, the place, and four empty fields, with a line feed. It is written as `fault_row`
+/// writes it.
 pub fn report_fault_row(
     alloc: Global,
     fault: MetaFault,

@@ -17,7 +17,7 @@
 //!   first byte
 //!   (`lines_are_of_records`, `specs/LineNumbers.antt`);
 //! - `fault_row` and `report_fault_row` give the record of a fault in the file of faults. It is
-//!   read as its nine fields, whatever follows it (`specs/FaultRows.antt`);
+//!   read as its thirteen fields, whatever follows it (`specs/FaultRows.antt`);
 //! - `shown` gives a text with an escape for each control character, and `excerpt` its first 80
 //!   characters (`specs/Shown.antt`). `pointer` gives the JSON pointer of keys
 //!   (`specs/Pointers.antt`), `place_in_file` the text of a line and a cell
@@ -25,7 +25,8 @@
 //!   record (`specs/Cells.antt`).
 //!
 //! Not proved: the text of `standing` for a JSON value, the part of a JSON text that `part_at`
-//! finds, and that `first_record_with` finds the first record. Tests cover them.
+//! finds, the lines of `ParameterLines`, and that `first_record_with` finds the first record. Tests
+//! cover them.
 //!
 //! A call, which returns whether the fault of a table's first row is in line 2 of its file, at a
 //! cell `x` under the header `cash`:
@@ -47,11 +48,13 @@
 mod bad_rows;
 mod cells;
 mod excerpts;
+mod fault_cause;
 mod fault_places;
 mod fault_rows;
 mod file_places;
 mod json_values;
 mod line_number;
+mod parameter_lines;
 mod parts;
 mod pointers;
 mod record_lines;
@@ -61,8 +64,9 @@ mod reread;
 mod terminal;
 
 pub use bad_rows::{BadRows, LocatedFault, fault_records_are_by_row};
-pub use cells::{cell_shown, record_shown, text_at};
+pub use cells::{cell_shown, field_as_text, record_shown, text_at};
 pub use excerpts::excerpt;
+pub use fault_cause::FaultCause;
 pub use fault_places::{
     FaultPlace, FaultRecord, bad_rows_at, fault_place, fault_record, is_of_file, place_in_record,
     table_path,
@@ -71,6 +75,7 @@ pub use fault_rows::{fault_header, fault_row, more_faults_row, report_fault_row}
 pub use file_places::{line_again, place_in_file};
 pub use json_values::{quoted, standing};
 pub use line_number::lines_are_of_records;
+pub use parameter_lines::ParameterLines;
 pub use parts::part_at;
 pub use pointers::{pointer, pointer_to};
 pub use record_walk::RowAgain;

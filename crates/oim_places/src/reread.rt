@@ -1,11 +1,13 @@
 //! The report of a run, read again.
 //!
-//! Not proved: `ReportAgain::metadata`, and the early fault that `report_again` returns.
+//! Not proved: `metadata` and `parameters` of `ReportAgain`, and the early fault that
+//! `report_again` returns.
 
 ghost use Rattle.std.specs.Prelude.{◌≡◌, IfOk, IfSome, Ok};
 ghost use Rattle.oim_files.specs.Steps.{GivesRest};
 ghost use Rattle.oim_places.specs.Reports.{IsReportOf};
 
+use crate::parameter_lines::ParameterLines;
 use crate::parts::after_mark;
 use oim_files::{EarlyFault, Folder, Source, folder_of, metadata_at, report_with};
 use oim_meta::{Finding, MetaFault, Report};
@@ -32,6 +34,8 @@ pub struct ReportAgain {
     pub report: Report,
     /// The value in its metadata file.
     pub metadata: Value,
+    /// Its parameters file, if it has one.
+    pub parameters: Option<ParameterLines>,
 }
 
 // Written by hand so that dropping one elsewhere compiles to a single call.
@@ -40,6 +44,7 @@ impl Drop for ReportAgain {
         let Self {
             report: _,
             metadata: _,
+            parameters: _,
         } = self;
     }
 }
@@ -81,9 +86,17 @@ fn with_metadata<R: Read + Drop, F: Folder<R>>(
     ensures same { F.files folder.new ≡ F.files folder.old }
     ensures report { IfOk result (λ a. IfSome (F.files folder.old) (λ files. GivesRest files base.now bytes.items types.now (Ok a.report))) }
 {
-    match report_with(alloc, folder, base, bytes, types) {
-        Ok(report) => Ok(ReportAgain { report, metadata }),
-        Err(early) => Err(early),
+    let report = match report_with(alloc, folder, base, bytes, types) {
+        Ok(report) => report,
+        Err(early) => return Err(early),
+    };
+    match ParameterLines::read(alloc, folder, base, &metadata) {
+        Ok(parameters) => Ok(ReportAgain {
+            report,
+            metadata,
+            parameters,
+        }),
+        Err(_) => Err(EarlyFault::Memory),
     }
 }
 
@@ -104,8 +117,8 @@ fn with_bytes<R: Read + Drop, F: Folder<R>>(
     }
 }
 
-/// Reads the report whose metadata and types table are at these paths again, each file once. May
-/// fail with an early fault, which names the file.
+/// Reads the report whose metadata and types table are at these paths again, each file once, and
+/// the lines of its parameters. May fail with an early fault, which names the file.
 pub fn report_again<R: Read + Drop, F: Folder<R>>(
     alloc: Global,
     meta: &str,

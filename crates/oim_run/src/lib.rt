@@ -87,10 +87,10 @@ pub use buffered::run_to;
 pub use conversion::{Course, convert_report};
 pub use held::{METADATA, TABLE, TYPES, convert_to, held_told};
 pub use oim_explain::{
-    ExplainedFault, Explanation, FaultPlace, ListedFaults, MOST_TABLES, RefusedTable, ReportAgain,
-    explain_metadata, explain_report, explained_fault, explained_faults, explanation_text,
-    fault_header, fault_place, fault_row, lines_are_of_records, lines_below, list_faults,
-    report_again, report_explanation, report_fault_row, shown,
+    ExplainedFault, Explanation, FaultCause, FaultPlace, ListedFaults, MOST_TABLES, RefusedTable,
+    ReportAgain, explain_metadata, explain_report, explained_fault, explained_faults,
+    explanation_text, fault_header, fault_place, fault_row, lines_are_of_records, lines_below,
+    list_faults, report_again, report_explanation, report_fault_row, shown,
 };
 pub use oim_files::{EarlyFault, Folder, Source, Texts};
 pub use outcome::{Outcome, line, status, table_line, terminal_line};

@@ -5,10 +5,10 @@ use oim_meta::{Finding, MetaFault};
 use oim_names::{Items, Text};
 use oim_rows::{TableFault, TableKind};
 use oim_run::{
-    ExplainedFault, Explanation, FaultPlace, METADATA, MOST_TABLES, ReportAgain, Source, TYPES,
-    Texts, explain_metadata, explained_fault, explained_faults, explanation_text, fault_header,
-    fault_place, fault_row, lines_are_of_records, lines_below, report_again, report_explanation,
-    report_fault_row, table_line,
+    ExplainedFault, Explanation, FaultCause, FaultPlace, METADATA, MOST_TABLES, ReportAgain,
+    Source, TYPES, Texts, explain_metadata, explained_fault, explained_faults, explanation_text,
+    fault_header, fault_place, fault_row, lines_are_of_records, lines_below, report_again,
+    report_explanation, report_fault_row, table_line,
 };
 use std::alloc::{AllocError, Global};
 
@@ -44,7 +44,7 @@ fn writes_the_key(alloc: Global, folder: &mut Texts<'_>, finding: &Finding) -> b
     match row_of_the_key(alloc, folder, finding) {
         Ok(row) => {
             row.as_slice()
-                == b",0,0,2,NotReport,,,(nothing),/documentInfo/documentType\n".as_slice()
+                == b",0,0,2,NotReport,,,(nothing),/documentInfo/documentType,,,,\n".as_slice()
         }
         Err(_) => false,
     }
@@ -104,7 +104,10 @@ const FAULT: TableFault = TableFault {
 
 /// Returns whether the fault has this record in the file of faults.
 fn is_written(alloc: Global, place: &FaultPlace, record: &[u8]) -> bool {
-    match fault_row(alloc, "t1", &FAULT, place) {
+    let Ok(cause) = FaultCause::none(alloc) else {
+        return false;
+    };
+    match fault_row(alloc, "t1", &FAULT, place, &cause) {
         Ok(row) => row.as_slice() == record,
         Err(_) => false,
     }
@@ -113,7 +116,7 @@ fn is_written(alloc: Global, place: &FaultPlace, record: &[u8]) -> bool {
 /// Returns whether it has a record if its place is not known.
 fn is_written_without_a_place(alloc: Global) -> bool {
     match FaultPlace::unknown(alloc) {
-        Ok(place) => is_written(alloc, &place, b"t1,1,1,40,BadNumber,,,,\n"),
+        Ok(place) => is_written(alloc, &place, b"t1,1,1,40,BadNumber,,,,,,,,\n"),
         Err(_) => false,
     }
 }
@@ -121,7 +124,7 @@ fn is_written_without_a_place(alloc: Global) -> bool {
 /// Returns whether it has one with its place, which is read again.
 fn is_written_with_its_place(alloc: Global, folder: &mut Texts<'_>, again: &ReportAgain) -> bool {
     match fault_place(alloc, "m.json", folder, again, &FAULT) {
-        Ok(place) => is_written(alloc, &place, b"t1,1,1,40,BadNumber,2,cash,x,\n"),
+        Ok(place) => is_written(alloc, &place, b"t1,1,1,40,BadNumber,2,cash,x,,,,,\n"),
         Err(_) => false,
     }
 }
@@ -134,7 +137,11 @@ fn explains_at_once(alloc: Global, folder: &mut Texts<'_>, again: &ReportAgain) 
     match explained {
         Ok(explained) => {
             has_text(alloc, &explained.explanation)
-                && is_written(alloc, &explained.place, b"t1,1,1,40,BadNumber,2,cash,x,\n")
+                && is_written(
+                    alloc,
+                    &explained.place,
+                    b"t1,1,1,40,BadNumber,2,cash,x,,,,,\n",
+                )
         }
         Err(_) => false,
     }
@@ -152,7 +159,7 @@ fn tells_once(alloc: Global, folder: &mut Texts<'_>, again: &ReportAgain) -> boo
     if told.len() != tables.len().min(MOST_TABLES) {
         return false;
     }
-    match lines_below(alloc, &tables, told.as_slice(), 1) {
+    match lines_below(alloc, &tables, told.as_slice(), &[], 1) {
         Ok(line) => line.as_str() == "    the same cause as in table t1: t1.csv, line 2, cell 1\n",
         Err(_) => false,
     }

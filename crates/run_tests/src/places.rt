@@ -122,14 +122,14 @@ fn lists_the_record(alloc: Global, folder: &mut Texts<'_>, again: &ReportAgain) 
         Ok(listed) => is_of_one(listed),
         Err(_) => false,
     };
-    is_listed && records.as_slice() == b"t1,1,1,40,BadNumber,2,cash,x,\n".as_slice()
+    is_listed && records.as_slice() == b"t1,1,1,40,BadNumber,2,cash,x,,,,,\n".as_slice()
 }
 
 /// Returns whether the record of a cut list is this one.
 fn ends_a_list(alloc: Global) -> bool {
     fault_records_are_by_row();
     match more_faults_row(alloc, "t1") {
-        Ok(record) => record.as_slice() == b"t1,0,0,0,MoreFaults,,,,\n".as_slice(),
+        Ok(record) => record.as_slice() == b"t1,0,0,0,MoreFaults,,,,,,,,\n".as_slice(),
         Err(_) => false,
     }
 }

@@ -6,9 +6,10 @@ use oim_meta::Finding;
 use oim_names::Text;
 use oim_rows::TableFault;
 use oim_run::{
-    EarlyFault, Explanation, FaultPlace, MOST_TABLES, Outcome, RefusedTable, ReportAgain, Source,
-    explained_faults, explanation_text, fault_header, fault_row, line, lines_below, list_faults,
-    report_again, report_explanation, report_fault_row, status, table_line,
+    EarlyFault, Explanation, FaultCause, FaultPlace, MOST_TABLES, Outcome, RefusedTable,
+    ReportAgain, Source, explained_faults, explanation_text, fault_header, fault_row, line,
+    lines_below, list_faults, report_again, report_explanation, report_fault_row, status,
+    table_line,
 };
 use std::alloc::{AllocError, Global};
 
@@ -55,7 +56,7 @@ fn put_tables(
     for (index, (id, fault)) in tables.iter().enumerate() {
         put(to, table_line(alloc, id.as_str(), fault))?;
         if index < told.len() {
-            put(to, lines_below(alloc, tables, told.as_slice(), index))?;
+            put(to, lines_below(alloc, tables, told.as_slice(), &[], index))?;
         } else if index < MOST_TABLES {
             to.extend_from_slice(CHANGED.as_bytes())?;
         }
@@ -98,8 +99,8 @@ fn put_faults(
     to: &mut Vec<u8>,
 ) -> Result<(), AllocError> {
     let Ok(again) = again else {
-        let place = FaultPlace::unknown(alloc)?;
-        return put_record(to, fault_row(alloc, table.id, table.fault, &place));
+        let (place, cause) = (FaultPlace::unknown(alloc)?, FaultCause::none(alloc)?);
+        return put_record(to, fault_row(alloc, table.id, table.fault, &place, &cause));
     };
     match list_faults(alloc, files, again, table, to) {
         Ok(_) => Ok(()),

@@ -209,7 +209,8 @@ impl<'a> Explainer<'a> {
         for (index, (id, fault)) in tables.iter().enumerate() {
             self.print_line(id.as_str(), fault);
             if index < told.len() {
-                self.print(lines_below(self.alloc, tables, told, index));
+                let listed = known.listed.as_slice();
+                self.print(lines_below(self.alloc, tables, told, listed, index));
             } else if index < MOST_TABLES {
                 let is_read = known.report.is_ok();
                 let _ = self.rt.eprint(if is_read { NO_MEMORY } else { CHANGED });

@@ -14,9 +14,9 @@ use oim_meta::Finding;
 use oim_names::Text;
 use oim_rows::TableFault;
 use oim_run::{
-    EarlyFault, Explanation, FaultPlace, ListedFaults, Outcome, RefusedTable, ReportAgain, Request,
-    Settings, Source, cannot_write, fault_header, fault_row, list_faults, report_explanation,
-    report_fault_row, status,
+    EarlyFault, Explanation, FaultCause, FaultPlace, ListedFaults, Outcome, RefusedTable,
+    ReportAgain, Request, Settings, Source, cannot_write, fault_header, fault_row, list_faults,
+    report_explanation, report_fault_row, status,
 };
 use std::alloc::{AllocError, Global};
 use std::io;
@@ -68,11 +68,13 @@ fn write_table<W: Write>(
     if let Ok(again) = report {
         return list_faults(alloc, files, again, table, to);
     }
-    let row = fault_row(alloc, table.id, table.fault, &FaultPlace::unknown(alloc)?)?;
+    let (place, cause) = (FaultPlace::unknown(alloc)?, FaultCause::none(alloc)?);
+    let row = fault_row(alloc, table.id, table.fault, &place, &cause)?;
     to.write_all(row.as_slice())?;
     Ok(ListedFaults {
         count: 1,
         is_cut: false,
+        rows: 0,
     })
 }
 

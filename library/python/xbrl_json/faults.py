@@ -21,6 +21,10 @@ class Fault:
     `line` is the line of the table's file where the record begins, `header` the column's header
     cell, and `cell` the row's cell. For another file `cell` is the text at the place, and `place`
     says where it is. `line` is None, and a text empty, if it does not apply.
+
+    `cause_file`, `cause_line`, `cause_cell` and `cause_text` are the place that causes the fault
+    and the text there: a parameter, another cell, a property of the metadata. `cause_line` is None,
+    and the others are empty, if that is the fault's own place.
     """
 
     table: str
@@ -32,6 +36,10 @@ class Fault:
     header: str
     cell: str
     place: str
+    cause_file: str = ""
+    cause_line: Optional[int] = None
+    cause_cell: str = ""
+    cause_text: str = ""
 
 
 class ConversionError(Exception):
@@ -71,9 +79,20 @@ def faults_in(records: str) -> List[Fault]:
     """Returns the faults of a file of faults, which has a header, or of an empty text."""
     rows = records_of(records)
     next(rows, None)
-    return [Fault(table, int(row), int(column), int(number), name, int(line) if line else None,
-                  header, cell, place)
-            for table, row, column, number, name, line, header, cell, place in rows]
+    return [fault_of(*row) for row in rows]
+
+
+def fault_of(table: str, row: str, column: str, number: str, name: str, line: str, header: str,
+             cell: str, place: str, *cause: str) -> Fault:
+    """Returns the fault of a record."""
+    file, cause_line, cause_cell, text = cause
+    return Fault(table, int(row), int(column), int(number), name, number_in(line), header, cell,
+                 place, file, number_in(cause_line), cause_cell, text)
+
+
+def number_in(text: str) -> Optional[int]:
+    """Returns a number, or None if the field is empty."""
+    return int(text) if text else None
 
 
 def error_of(status: int, lines: str, records: str) -> ConversionError:

@@ -1,7 +1,7 @@
 use Rattle.std.proofs.Common.{rules, ◌≡◌, ◌∙◌, IfSome, None, Ok, Some, Err, subst}
 use Rattle.oim_places.specs.FaultLists.{GivesRow}
-use Rattle.oim_explain.specs.ListedFaults.{Writes}
-use Rattle.oim_explain.specs.state.ListedRows.{located_records}
+use Rattle.oim_explain.specs.ListedFaults.{WritesEach}
+use Rattle.oim_explain.specs.state.ListedRows.{located_record}
 use Rattle.oim_places.specs.FaultLists.{record_of}
 use Rattle.oim_explain.proofs.FaultTexts.{completes_cut, completes_end, completes_failed, completes_more, places_known}
 use Rattle.oim_explain.proofs.fault_list.put_rest.Goals as goal
@@ -15,10 +15,10 @@ returns-in-None g c =
     let next = c.next_row.new.self.left in
     let gives = subst (λ t. IfSome c.loop.rows.left (λ rows. GivesRow t rows (Ok (Some located)) next)) c.loop.invariant.table (rw c.in-Ok-Some.field-0-is at c.in-Ok-Some.ensures.next) in
     let places = rw c.in-Ok-Some.field-0-is at c.in-Ok-Some.ensures.places in
-    let same : c.as_slice.result.now ≡ located = search rules in
-    let there : Writes a b c.args.id.now c.loop.left (located_records c.args.id.now c.as_slice.result.now) c.in_ok-after-in-Ok-Some.field-0 = c.in_ok-after-in-Ok-Some.ensures in
-    let here = subst (λ ls. Writes a b c.args.id.now c.loop.left (located_records c.args.id.now ls) c.in_ok-after-in-Ok-Some.field-0) same there in
-    let writes = subst (λ o. Writes a b c.args.id.now c.loop.left (located_records c.args.id.now located) o) c.in-None.is here in
+    let same : c.as_slice-located.result.now ≡ located = search rules in
+    let there : WritesEach a b c.args.id.now c.loop.left (located_record c.args.id.now) c.as_slice-located.result.now c.in_ok-after-in-Ok-Some.field-0 = c.in_ok-after-in-Ok-Some.ensures in
+    let here = subst (λ ls. WritesEach a b c.args.id.now c.loop.left (located_record c.args.id.now) ls c.in_ok-after-in-Ok-Some.field-0) same there in
+    let writes = subst (λ o. WritesEach a b c.args.id.now c.loop.left (located_record c.args.id.now) located o) c.in-None.is here in
     λ bytes is are. completes_cut from a b c.args.rows.now.table c.args.id.now bytes c.args.room c.loop.left c.args.rows.now.left c.loop.rows.left next located
     (c.loop.invariant.rest bytes is are) gives (places_known c.loop.rows.cells c.loop.rows.lines bytes located (c.loop.invariant.cells ∙ is) (c.loop.invariant.lines ∙ are) places) writes
 
@@ -45,10 +45,10 @@ loop-preserved g c =
     let next = c.next_row.new.self.left in
     let gives = subst (λ t. IfSome c.loop.rows.left (λ rows. GivesRow t rows (Ok (Some located)) next)) c.loop.invariant.table (rw c.in-Ok-Some.field-0-is at c.in-Ok-Some.ensures.next) in
     let places = rw c.in-Ok-Some.field-0-is at c.in-Ok-Some.ensures.places in
-    let same : c.as_slice.result.now ≡ located = search rules in
-    let there : Writes a b c.args.id.now c.loop.left (located_records c.args.id.now c.as_slice.result.now) c.in_ok-after-in-Ok-Some.field-0 = c.in_ok-after-in-Ok-Some.ensures in
-    let here = subst (λ ls. Writes a b c.args.id.now c.loop.left (located_records c.args.id.now ls) c.in_ok-after-in-Ok-Some.field-0) same there in
-    let writes = subst (λ o. Writes a b c.args.id.now c.loop.left (located_records c.args.id.now located) o) c.in-Some.is here in
+    let same : c.as_slice-located.result.now ≡ located = search rules in
+    let there : WritesEach a b c.args.id.now c.loop.left (located_record c.args.id.now) c.as_slice-located.result.now c.in_ok-after-in-Ok-Some.field-0 = c.in_ok-after-in-Ok-Some.ensures in
+    let here = subst (λ ls. WritesEach a b c.args.id.now c.loop.left (located_record c.args.id.now) ls c.in_ok-after-in-Ok-Some.field-0) same there in
+    let writes = subst (λ o. WritesEach a b c.args.id.now c.loop.left (located_record c.args.id.now) located o) c.in-Some.is here in
     record {
       table = c.in-Ok-Some.ensures.same.0 ∙ c.loop.invariant.table;
       cells = c.in-Ok-Some.ensures.same.1 ∙ c.loop.invariant.cells;

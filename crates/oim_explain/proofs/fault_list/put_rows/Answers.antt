@@ -1,7 +1,7 @@
 use Rattle.std.proofs.Common.{rules, ◌≡◌, ◌∙◌, IfSome, subst, sym, true}
 use Rattle.oim_places.specs.FaultLists.{record_of}
-use Rattle.oim_explain.specs.ListedFaults.{Writes, WritesRows}
-use Rattle.oim_explain.specs.state.ListedRows.{ListsRows, StartsWith, located_records}
+use Rattle.oim_explain.specs.ListedFaults.{WritesEach, WritesRows}
+use Rattle.oim_explain.specs.state.ListedRows.{ListsRows, StartsWith, located_record}
 use Rattle.oim_explain.proofs.FaultTexts.{places_known, rows_listed, rows_listed_cut}
 use Rattle.oim_explain.proofs.fault_list.put_rows.Goals as goal
 
@@ -16,18 +16,18 @@ returns-in-Some g c =
     let next = c.next_row.new.self.left in
     let gives = rw c.in-Ok-Some.field-0-is at c.in-Ok-Some.ensures.next in
     let places = rw c.in-Ok-Some.field-0-is at c.in-Ok-Some.ensures.places in
-    let begun : c.as_slice.result.now ≡ located = search rules in
-    let written : c.as_slice-2.result.now ≡ located = search rules in
+    let begun : c.as_slice-located.result.now ≡ located = search rules in
+    let written : c.as_slice-located.result.now ≡ located = search rules in
     let yes : c.begin_with.result ≡ true = search rules in
     let starts = subst (λ ls. StartsWith c.args.table.fault.now ls) begun (c.begin_with.ensures yes) in
-    let there : Writes from a id most (located_records id c.as_slice-2.result.now) c.in_ok-room.field-0 = c.in_ok-room.ensures in
-    let here = subst (λ ls. Writes from a id most (located_records id ls) c.in_ok-room.field-0) written there in
-    let first = subst (λ o. Writes from a id most (located_records id located) o) c.in-Some.is here in
+    let there : WritesEach from a id most (located_record id) c.as_slice-located.result.now c.in_ok-room.field-0 = c.in_ok-room.ensures in
+    let here = subst (λ ls. WritesEach from a id most (located_record id) ls c.in_ok-room.field-0) written there in
+    let first = subst (λ o. WritesEach from a id most (located_record id) located o) c.in-Some.is here in
     λ bytes is are.
     let others = subst (λ t. IfSome next (λ later. WritesRows a out t id (record_of id bytes) c.in-Some.room later c.in_ok-after-in-Some.after)) c.in-Ok-Some.ensures.same.0
     (c.in_ok-after-in-Some.ensures bytes (c.in-Ok-Some.ensures.same.1 ∙ is) (c.in-Ok-Some.ensures.same.2 ∙ are)) in
     subst (λ listed. IfSome c.args.rows.now.left (λ rows. ListsRows from out c.args.rows.now.table id c.args.table.fault.now most (record_of id bytes) rows listed)) (sym c.counted.ensures)
-    (rows_listed from a out c.args.rows.now.table id bytes c.args.table.fault.now most c.in-Some.room c.args.rows.now.left next located c.in_ok-after-in-Some.after starts gives
+    (rows_listed from a out c.args.rows.now.table id bytes c.args.table.fault.now most c.in-Some.room c.args.rows.now.left next located c.in_ok-after-in-Some.after _ starts gives
     (places_known c.args.rows.now.cells c.args.rows.now.lines bytes located is are places) first others)
 
 pub returns : goal.returns
@@ -39,14 +39,14 @@ returns g c =
     let located = c.in-Ok-Some.located in
     let gives = rw c.in-Ok-Some.field-0-is at c.in-Ok-Some.ensures.next in
     let places = rw c.in-Ok-Some.field-0-is at c.in-Ok-Some.ensures.places in
-    let begun : c.as_slice.result.now ≡ located = search rules in
-    let written : c.as_slice-2.result.now ≡ located = search rules in
+    let begun : c.as_slice-located.result.now ≡ located = search rules in
+    let written : c.as_slice-located.result.now ≡ located = search rules in
     let yes : c.begin_with.result ≡ true = search rules in
     let starts = subst (λ ls. StartsWith c.args.table.fault.now ls) begun (c.begin_with.ensures yes) in
-    let there : Writes from out id most (located_records id c.as_slice-2.result.now) c.in_ok-room.field-0 = c.in_ok-room.ensures in
-    let here = subst (λ ls. Writes from out id most (located_records id ls) c.in_ok-room.field-0) written there in
-    let first = subst (λ o. Writes from out id most (located_records id located) o) c.in-None.is here in
+    let there : WritesEach from out id most (located_record id) c.as_slice-located.result.now c.in_ok-room.field-0 = c.in_ok-room.ensures in
+    let here = subst (λ ls. WritesEach from out id most (located_record id) ls c.in_ok-room.field-0) written there in
+    let first = subst (λ o. WritesEach from out id most (located_record id) located o) c.in-None.is here in
     λ bytes is are.
     subst (λ listed. IfSome c.args.rows.now.left (λ rows. ListsRows from out c.args.rows.now.table id c.args.table.fault.now most (record_of id bytes) rows listed)) (sym c.counted-in-None.ensures)
-    (rows_listed_cut from out c.args.rows.now.table id bytes c.args.table.fault.now most c.args.rows.now.left c.next_row.new.self.left located starts gives
+    (rows_listed_cut from out c.args.rows.now.table id bytes c.args.table.fault.now most c.args.rows.now.left c.next_row.new.self.left located _ starts gives
     (places_known c.args.rows.now.cells c.args.rows.now.lines bytes located is are places) first)

@@ -8,4 +8,5 @@ pub returns : goal.returns
 unfolding is_blank fields_text escaped
 returns c =
     text_of_record (codes "table_id") (codes "table_row")
-    (codes "table_column" ∷ codes "fault_number" ∷ codes "fault_name" ∷ codes "line" ∷ codes "header_cell" ∷ codes "row_cell" ∷ codes "place" ∷ []) _ refl
+    (codes "table_column" ∷ codes "fault_number" ∷ codes "fault_name" ∷ codes "line" ∷ codes "header_cell" ∷ codes "row_cell" ∷ codes "place"
+    ∷ codes "cause_file" ∷ codes "cause_line" ∷ codes "cause_cell" ∷ codes "cause_text" ∷ []) _ refl

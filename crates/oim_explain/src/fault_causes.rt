@@ -1,0 +1,102 @@
+//! The causes of a table's faults in the file of faults.
+//!
+//! Not proved: all of this file. Tests cover it.
+
+use crate::levels::RowOfFault;
+use crate::source_places::cause_of;
+use crate::sources::{SourcePlace, origin_of, sources};
+use crate::table_again::TableAgain;
+use oim_places::{FaultCause, RowAgain, place_in_record, text_at};
+use oim_rows::{TableFault, TableKind};
+use std::alloc::{AllocError, Global};
+
+/// Finds the causes of a table's faults, and counts the rows that have the first one.
+#[derive(Drop)]
+pub(crate) struct FaultCauses<'r> {
+    table: TableAgain<'r>,
+    /// The cause of the first fault.
+    first: Option<FaultCause>,
+    /// How many rows have it, if it is elsewhere.
+    pub(crate) rows: usize,
+    /// The last of these rows.
+    last: u32,
+}
+
+/// Returns whether two causes are at one place.
+fn is_same(one: &FaultCause, other: &FaultCause) -> bool {
+    one.line == other.line
+        && one.cell.as_str() == other.cell.as_str()
+        && one.file.as_str() == other.file.as_str()
+}
+
+impl<'r> FaultCauses<'r> {
+    /// Starts before the first fault.
+    pub(crate) fn new(table: TableAgain<'r>) -> FaultCauses<'r> {
+        FaultCauses {
+            table,
+            first: None,
+            rows: 0,
+            last: 0,
+        }
+    }
+
+    /// Returns the cause of a fault of these records, of which the row begins at this line.
+    fn found(
+        &self,
+        alloc: Global,
+        fault: &TableFault,
+        cells: &RowAgain,
+        line: Option<u64>,
+    ) -> Result<FaultCause, AllocError> {
+        let (TableKind::Cell(kind), Some(own)) = (fault.kind, place_in_record(fault)) else {
+            return FaultCause::none(alloc);
+        };
+        let name = text_at(&cells.header, own).unwrap_or("");
+        let Some(column) = self.table.place_of(name) else {
+            return FaultCause::none(alloc);
+        };
+        let number = fault.row;
+        let number = format!(in alloc; "{number}")?;
+        let row = RowOfFault {
+            table: &self.table,
+            column,
+            cells,
+            number: number.as_str(),
+            line,
+        };
+        let origin = origin_of(alloc, &row, kind)?;
+        let places = sources(alloc, &row, origin)?;
+        match places.as_slice().last() {
+            None => FaultCause::none(alloc),
+            Some(SourcePlace::Cell(place)) if *place == own => FaultCause::none(alloc),
+            Some(source) => cause_of(alloc, &row, source),
+        }
+    }
+
+    /// Counts the row of a fault if it has the cause of the first one, which is elsewhere.
+    fn count(&mut self, row: u32, cause: &FaultCause) {
+        if let Some(first) = &self.first {
+            if row > self.last && !cause.file.as_str().is_empty() && is_same(first, cause) {
+                self.rows = self.rows.saturating_add(1);
+                self.last = row;
+            }
+        }
+    }
+
+    /// Returns the cause of the next fault of the table. It is of these records, of which the row
+    /// begins at this line.
+    pub(crate) fn next(
+        &mut self,
+        alloc: Global,
+        fault: &TableFault,
+        cells: &RowAgain,
+        line: Option<u64>,
+    ) -> Result<FaultCause, AllocError> {
+        if self.first.is_none() {
+            self.first = Some(self.found(alloc, fault, cells, line)?);
+        }
+        let cause = self.found(alloc, fault, cells, line)?;
+        self.count(fault.row, &cause);
+        Ok(cause)
+    }
+}
