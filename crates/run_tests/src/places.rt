@@ -5,10 +5,11 @@ use oim_files::Texts;
 use oim_meta::Records;
 use oim_names::Text;
 use oim_places::{
-    BadRows, FaultPlace, FaultRecord, LocatedFault, ReportAgain, RowAgain, bad_rows_at, cell_shown,
-    excerpt, fault_place, fault_record, fault_records_are_by_row, first_record_with, is_of_file,
-    line_again, more_faults_row, part_at, place_in_file, place_in_record, pointer, pointer_to,
-    quoted, record_shown, report_again, standing, table_path, text_at,
+    BadRows, FaultPlace, FaultRecord, LocatedFault, ParameterLines, ReportAgain, RowAgain,
+    bad_rows_at, cell_shown, excerpt, fault_place, fault_record, fault_records_are_by_row,
+    field_as_text, first_record_with, is_of_file, line_again, more_faults_row, part_at,
+    place_in_file, place_in_record, pointer, pointer_to, quoted, record_shown, report_again,
+    standing, table_path, text_at,
 };
 use oim_rows::{TableFault, TableKind};
 use oim_run::{ListedFaults, METADATA, RefusedTable, TYPES, list_faults};
@@ -179,9 +180,58 @@ fn calls_of_places_of_faults(rt: HostRuntime) {
     assert!(rt; hold(rt.alloc()));
 }
 
+/// Returns whether a parameter's line is that of the file's third line.
+fn is_in_the_third_line(lines: &ParameterLines) -> bool {
+    lines.path() == "f/p.csv" && lines.line("b") == Some(3)
+}
+
+/// Returns whether a parameter is found in the file that a metadata names.
+fn finds_a_parameter(alloc: Global, metadata: &str) -> bool {
+    let files = [
+        ("f/m.json", metadata.as_bytes()),
+        ("t.csv", TYPES.as_bytes()),
+        ("f/t1.csv", b"cash\nx\n".as_slice()),
+        ("f/p.csv", b"name,value\na,x\nb,y\n".as_slice()),
+    ];
+    match report_again(alloc, "f/m.json", "t.csv", &mut Texts { files: &files }) {
+        Ok(again) => match &again.parameters {
+            Some(lines) => is_in_the_third_line(lines),
+            None => false,
+        },
+        Err(_) => false,
+    }
+}
+
+/// Returns the metadata with a parameters file.
+fn with_parameters(alloc: Global) -> Result<String, AllocError> {
+    let rest = METADATA.strip_prefix("{").unwrap_or("");
+    let mut text = String::from_str(alloc, "{\"parameterURL\":\"p.csv\",")?;
+    text.push_str(rest)?;
+    Ok(text)
+}
+
+#[test]
+fn calls_of_a_parameters_file(rt: HostRuntime) {
+    let alloc = rt.alloc();
+    let is_found = match with_parameters(alloc) {
+        Ok(text) => finds_a_parameter(alloc, text.as_str()),
+        Err(_) => false,
+    };
+    assert!(rt; is_found);
+}
+
+/// Returns whether the first cell of a record is read as the text `a`.
+fn reads_a_cell(alloc: Global, row: &ByteRecord) -> bool {
+    match field_as_text(alloc, row, Some(0)) {
+        Ok(text) => text.as_str() == "a",
+        Err(_) => false,
+    }
+}
+
 /// Returns whether a record of one cell is shown, and its cell.
 fn shows_a_record(alloc: Global, row: &ByteRecord) -> bool {
-    is_text(cell_shown(alloc, row, 0), "\"a\"")
+    reads_a_cell(alloc, row)
+        && is_text(cell_shown(alloc, row, 0), "\"a\"")
         && is_text(record_shown(alloc, row), "(a record of 1)")
 }
 
