@@ -17,9 +17,6 @@ from filing.faults import faults_of
 from tests.harness import PROGRAM, TestCase, write
 from tests.spoiled_filings import Spoiled, report, spoiled, taxonomy
 
-# What xbrl-json names by the fact, and not by the cell that is wrong: a unit that the schemas do
-# not allow, and an empty header cell instead of that of a unit.
-NOT_NAMED = {"cell 31 currency", "header empty"}
 WORDS = ["r", "--taxonomy", "t", "--out", "o.json", "--explain"]
 
 
@@ -68,8 +65,7 @@ class TestSpoiledFilings(TestCase):
                 status, lines = self.run_over(filing)
                 said = "\n".join(lines[:2])
                 missing = [it for it in filing.wanted if it not in said]
-                is_named = not missing
-                self.assertEqual((status, is_named), (1, filing.name not in NOT_NAMED), lines)
+                self.assertEqual((status, missing), (1, []), lines)
                 self.check_faults()
 
     def check_faults(self) -> None:

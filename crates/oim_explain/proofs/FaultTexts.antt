@@ -21,7 +21,8 @@ use Rattle.oim_places.specs.FolderFiles.{FoundAt}
 use Rattle.oim_places.specs.FaultRows.{no_cause}
 use Rattle.oim_places.specs.declared.bad_rows.LocatedFault.{LocatedFault}
 use Rattle.oim_places.specs.declared.fault_cause.FaultCause.{FaultCause}
-use Rattle.oim_explain.specs.ListedFaults.{IsRecordOf, ListsAlone, ListsRows, ListsTable, StartsRows, StartsWith, Writes, WritesEach, WritesRows, fault_text, listed_of, located_record, more_text, room_after, texts_of, up_to}
+use Rattle.oim_explain.specs.ListedFaults.{IsRecordOf, ListsAlone, ListsTable, Writes, WritesEach, WritesRows, fault_text, listed_of, room_after, texts_of, up_to}
+use Rattle.oim_explain.specs.state.ListedRows.{ListsRows, StartsRows, StartsWith, located_record, more_text}
 use Rattle.oim_explain.specs.declared.fault_list.ListedFaults.{ListedFaults}
 
 -- ---- records

@@ -1,3 +1,4 @@
 pub mod Explanations
 pub mod ListedFaults
 pub mod TablePlaces
+pub mod state

@@ -14,7 +14,6 @@ use Rattle.oim_table_faults.specs.TableFaults.{faults_of_rows}
 use Rattle.oim_places.specs.FaultLists.{faults_by_row, record_of}
 use Rattle.oim_places.specs.FaultPlaces.{HasFaultIn, IsTablePath, unknown_place}
 use Rattle.oim_places.specs.FaultRows.{fault_fields, more_fields, no_cause}
-use Rattle.oim_places.specs.declared.bad_rows.LocatedFault.{LocatedFault}
 use Rattle.oim_places.specs.declared.fault_cause.FaultCause.{FaultCause}
 use Rattle.oim_places.specs.declared.fault_places.FaultPlace.{FaultPlace}
 use Rattle.oim_explain.specs.declared.fault_list.ListedFaults.{ListedFaults}
@@ -25,12 +24,9 @@ use Rattle.oim_explain.specs.declared.fault_list.ListedFaults.{ListedFaults}
 abbrev pub texts_of : List Record → List ℕ
 texts_of rows = flat_map (λ r. row_text default_writer r) rows
 
--- The text of a fault's record, and of the record that a table has more faults.
+-- The text of a fault's record.
 abbrev pub fault_text : List ℕ → TableFault → FaultPlace → FaultCause → List ℕ
 fault_text id f p c = row_text default_writer (fault_fields id f p c)
-
-abbrev pub more_text : List ℕ → List ℕ
-more_text id = row_text default_writer (more_fields id)
 
 -- ---- the limit
 
@@ -56,10 +52,6 @@ abbrev pub alone_of : ListedFaults
 alone_of = record { count = 1; is_cut = false; rows = 0 }
 
 -- ---- what is written
-
--- The record of a fault with what is at its place and this cause.
-abbrev pub located_record : List ℕ → LocatedFault → FaultCause → Record
-located_record id l c = fault_fields id l.fault l.place c
 
 -- The record is that of the fault, with some cause.
 abbrev pub IsRecordOf : {A : Type 0} → (A → FaultCause → Record) → A → Record → Type 0
@@ -93,13 +85,6 @@ pub record WritesShort (old new : Option (List ℕ)) (table : ℕ) (id : List �
 abbrev pub WritesRows : (old new : Option (List ℕ)) → (table : ℕ) → (id : List ℕ) → (TableFault → FaultCause → Record) → (room : ℕ) → List (List TableFault) → (after : Option ℕ) → Type 0
 WritesRows old new table id rec room rows after = WritesEach old new id room rec (faults_of_rows rows) after ⊎ WritesShort old new table id rec room rows after
 
--- The faults with their places begin with this one, and so do those of these rows.
-abbrev pub StartsWith : TableFault → List LocatedFault → Type 0
-StartsWith f located = (first : LocatedFault) × (others : List LocatedFault) × (located ≡ first ∷ others) × (first.fault ≡ f)
-
-abbrev pub StartsRows : TableFault → List (List TableFault) → Type 0
-StartsRows f rows = (others : List TableFault) × (later : List (List TableFault)) × (rows ≡ (f ∷ others) ∷ later)
-
 -- Only the record of this fault was written, without its place.
 abbrev pub ListsAlone : (old new : Option (List ℕ)) → (id : List ℕ) → TableFault → ListedFaults → Type 0
 ListsAlone old new id f listed = (listed ≡ alone_of) × Appends old new (fault_text id f unknown_place no_cause)
@@ -107,10 +92,6 @@ ListsAlone old new id f listed = (listed ≡ alone_of) × Appends old new (fault
 -- The records of the faults of these rows, as far as the limit allows, were written.
 abbrev pub ListsAll : (old new : Option (List ℕ)) → (table : ℕ) → (id : List ℕ) → (most : ℕ) → (TableFault → FaultCause → Record) → List (List TableFault) → ListedFaults → Type 0
 ListsAll old new table id most rec rows listed = (after : Option ℕ) × (shared : ℕ) × (listed ≡ listed_of most after shared) × WritesRows old new table id rec most rows after
-
--- The same if the rows begin with this fault, or else only its record was written.
-abbrev pub ListsRows : (old new : Option (List ℕ)) → (table : ℕ) → (id : List ℕ) → TableFault → (most : ℕ) → (TableFault → FaultCause → Record) → List (List TableFault) → ListedFaults → Type 0
-ListsRows old new table id f most rec rows listed = ListsAlone old new id f listed ⊎ (StartsRows f rows × ListsAll old new table id most rec rows listed)
 
 -- ---- a table of a report
 

@@ -4,7 +4,8 @@ ghost use Rattle.std.specs.Prelude.{◌≡◌, ◌<◌, ℕ, List, IfOk, IfSome,
 ghost use Rattle.std.specs.Io.KnownBytes.{Appends};
 ghost use Rattle.oim_places.specs.FaultLists.{record_of};
 ghost use Rattle.oim_places.specs.FaultPlaces.{unknown_place};
-ghost use Rattle.oim_explain.specs.ListedFaults.{ListsAlone, ListsRows, ListsTable, StartsWith, WritesEach, WritesRows, fault_text, listed_of, located_record, more_text};
+ghost use Rattle.oim_explain.specs.ListedFaults.{ListsAlone, ListsTable, WritesEach, WritesRows, fault_text, listed_of};
+ghost use Rattle.oim_explain.specs.state.ListedRows.{ListsRows, StartsWith, located_record, more_text};
 ghost use Rattle.oim_places.specs.FaultRows.{no_cause};
 
 use crate::fault_causes::FaultCauses;

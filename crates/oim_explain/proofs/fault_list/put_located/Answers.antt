@@ -1,6 +1,7 @@
 use Rattle.std.proofs.Common.{◌≡◌, ◌+◌, ◌-◌, suc, None, Some, arith, drop, subst, sym}
 use Rattle.std.proofs.lemmas.List.{drop_all}
-use Rattle.oim_explain.specs.ListedFaults.{WritesEach, located_record}
+use Rattle.oim_explain.specs.ListedFaults.{WritesEach}
+use Rattle.oim_explain.specs.state.ListedRows.{located_record}
 use Rattle.oim_explain.proofs.FaultTexts.{each_more, each_none, each_one, next_is}
 use Rattle.oim_explain.proofs.fault_list.put_located.Goals as goal
 

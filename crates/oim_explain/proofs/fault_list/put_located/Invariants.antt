@@ -1,5 +1,6 @@
 use Rattle.std.proofs.Common.{ℕ, List, Option, drop}
-use Rattle.oim_explain.specs.ListedFaults.{WritesEach, located_record}
+use Rattle.oim_explain.specs.ListedFaults.{WritesEach}
+use Rattle.oim_explain.specs.state.ListedRows.{located_record}
 use Rattle.oim_explain.proofs.fault_list.put_located.Given as goal
 
 -- What is still to be written completes what was written.

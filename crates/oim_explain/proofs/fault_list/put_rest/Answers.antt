@@ -1,6 +1,7 @@
 use Rattle.std.proofs.Common.{rules, ◌≡◌, ◌∙◌, IfSome, None, Ok, Some, Err, subst}
 use Rattle.oim_places.specs.FaultLists.{GivesRow}
-use Rattle.oim_explain.specs.ListedFaults.{WritesEach, located_record}
+use Rattle.oim_explain.specs.ListedFaults.{WritesEach}
+use Rattle.oim_explain.specs.state.ListedRows.{located_record}
 use Rattle.oim_places.specs.FaultLists.{record_of}
 use Rattle.oim_explain.proofs.FaultTexts.{completes_cut, completes_end, completes_failed, completes_more, places_known}
 use Rattle.oim_explain.proofs.fault_list.put_rest.Goals as goal

@@ -1,6 +1,7 @@
 use Rattle.std.proofs.Common.{rules, ◌≡◌, ◌∙◌, IfSome, subst, sym, true}
 use Rattle.oim_places.specs.FaultLists.{record_of}
-use Rattle.oim_explain.specs.ListedFaults.{ListsRows, StartsWith, WritesEach, WritesRows, located_record}
+use Rattle.oim_explain.specs.ListedFaults.{WritesEach, WritesRows}
+use Rattle.oim_explain.specs.state.ListedRows.{ListsRows, StartsWith, located_record}
 use Rattle.oim_explain.proofs.FaultTexts.{places_known, rows_listed, rows_listed_cut}
 use Rattle.oim_explain.proofs.fault_list.put_rows.Goals as goal
 
