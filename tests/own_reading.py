@@ -418,7 +418,10 @@ class Report:
         return found
 
     def fault_records(self, contents: Mapping[str, bytes]) -> list[list[str]]:
-        """Returns the records of the file of faults, given the tables' files by their names."""
+        """Returns the records of the file of faults without their causes.
+
+        `contents` has the tables' files by their names.
+        """
         found = []
         for table in sorted(self.tables):
             records = self.tables[table]

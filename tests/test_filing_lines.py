@@ -13,7 +13,7 @@ from typing import Any, NoReturn
 from filing import command, library, refusals, stopping
 from filing.converter_lines import ConverterLines
 from filing.fault_names import name_places
-from filing.faults import HEADER, OLD_HEADER
+from filing.faults import FIRST, HEADER, OLD_HEADER
 from tests.filing_samples import (
     EG,
     Files,
@@ -295,7 +295,7 @@ class TestRuns(FilingTest):
         url = HOST + 'a"",\\n.json'
         refused = (
             f'{HEADER_OF_FAULTS},0,0,0,Refused,,,"no package has'
-            f' {url} (extends)",bad/reports/report.json\n'
+            f' {url} (extends)",bad/reports/report.json,,,,\n'
         )
         os.chmod(folder / "f.csv", 0o640)
         for words in (
@@ -329,7 +329,8 @@ class TestRuns(FilingTest):
             self.case(
                 f"what is no file of faults stays: {name}", (status, listing(folder)), (1, before)
             )
-        for older in (OLD_HEADER + b"t,1,1,40,BadNumber,2,a,x,\n", HEADER[:-1] + b",more\n"):
+        olds = (OLD_HEADER + b"t,1,1,40,BadNumber,2,a,x,\n", FIRST + b"\n", HEADER[:-1] + b",more\n")
+        for older in olds:
             (folder / "f.csv").write_bytes(older)
             run(["bad", "--taxonomy", "t", "--faults", "f.csv"], folder)
             self.case(f"over {older!r}", (folder / "f.csv").read_text(), refused)
