@@ -42,23 +42,6 @@ fn has_the_cell(cells: &RowAgain) -> bool {
     text_at(&cells.row, 0) == Some("x")
 }
 
-/// Returns whether the whole first cell of a row is `x`.
-fn has_the_text(alloc: Global, cells: &RowAgain) -> bool {
-    match field_as_text(alloc, &cells.row, Some(0)) {
-        Ok(text) => text.as_str() == "x",
-        Err(_) => false,
-    }
-}
-
-/// Returns whether a report that names no parameters file has none.
-fn has_no_parameters(again: &ReportAgain) -> bool {
-    let parameters: &Option<ParameterLines> = &again.parameters;
-    match parameters {
-        Some(parameters) => parameters.path().is_empty() && parameters.line("p").is_none(),
-        None => true,
-    }
-}
-
 /// Returns whether a fault's record is found, with that cell.
 fn is_of_the_cell(found: &Option<FaultRecord>) -> bool {
     match found {
@@ -95,9 +78,9 @@ fn is_in_the_second_line(located: &[LocatedFault]) -> bool {
 }
 
 /// Returns whether a copy of the records at hand has that cell.
-fn copies_the_cell(alloc: Global, rows: &BadRows<'_, &[u8]>) -> bool {
+fn copies_the_cell(rows: &BadRows<'_, &[u8]>) -> bool {
     match rows.cells().copied() {
-        Ok(cells) => has_the_cell(&cells) && has_the_text(alloc, &cells),
+        Ok(cells) => has_the_cell(&cells),
         Err(_) => false,
     }
 }
@@ -108,7 +91,7 @@ fn is_one_row(alloc: Global, rows: &mut BadRows<'_, &[u8]>) -> bool {
         Ok(Some(located)) => is_in_the_second_line(located.as_slice()),
         _ => false,
     };
-    is_there && copies_the_cell(alloc, rows) && matches!(rows.next_row(alloc), Ok(None))
+    is_there && copies_the_cell(rows) && matches!(rows.next_row(alloc), Ok(None))
 }
 
 /// Returns whether the table's file has one bad row.
@@ -161,7 +144,6 @@ fn finds_the_fault(alloc: Global, folder: &mut Texts<'_>) -> bool {
                 && finds_a_record(alloc, folder, &again, &FAULT)
                 && lists_the_row(alloc, folder, &again)
                 && lists_the_record(alloc, folder, &again)
-                && has_no_parameters(&again)
         }
         Err(_) => false,
     }
