@@ -78,7 +78,7 @@ class TestCauses(CausesTest):
 
     def test_missing_columns(self) -> None:
         """Writes the empty cell of the header, or that the header has no such column."""
-        edits = {(*CASH, "dimensions", "concept"): "$note"}
+        edits: dict[Place, Any] = {(*CASH, "dimensions", "concept"): "$note"}
         self.tables(edits, t1="\n\ncash,\n1,\n\n2,\n", t2="cash\n1\n")
         told = 'the header has no column "note"'
         wanted = [
@@ -139,8 +139,8 @@ class TestRows(CausesTest):
             (8, ["    the same in 7 more rows"]),
         ):
             with self.subTest(rows=rows):
-                edits = {**PERIOD, ("tableTemplates", "p", "columns", "two"): column_of("eg:x")}
-                self.tables(edits, t1="cash,two\n" + "1,1\n" * rows)
+                two: Place = ("tableTemplates", "p", "columns", "two")
+                self.tables({**PERIOD, two: column_of("eg:x")}, t1="cash,two\n" + "1,1\n" * rows)
                 self.assertEqual(len(self.causes()), 2 * rows)
                 self.assertEqual(self.shared(), wanted)
         cut = self.shared("--most-faults", "5")
@@ -148,7 +148,8 @@ class TestRows(CausesTest):
 
     def test_other_causes(self) -> None:
         """Counts only the rows with the first fault's cause, and none if that is its own cell."""
-        edits = {**PERIOD, **UNIT, ("tableTemplates", "p", "columns", "note"): {}}
+        note: Place = ("tableTemplates", "p", "columns", "note")
+        edits: dict[Place, Any] = {**PERIOD, **UNIT, note: {}}
         rows = "iso4217:EUR,1\nx,1\niso4217:EUR,1\niso4217:EUR,\n,1\n"
         self.tables(edits, t1=f"note,cash\n{rows}")
         found = [it[3:] for it in self.causes()]
