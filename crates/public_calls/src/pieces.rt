@@ -5,7 +5,7 @@ ghost use Rattle.std.specs.Prelude.{◌≤◌, ◌+◌};
 use crate::held::{Over, holds};
 use crate::rows::left_by;
 use oim_decode::{
-    FirstRecords, JoinedPiece, PieceAnswer, PieceDecoder, PieceJoin, file_in_pieces,
+    DecodedPart, FirstRecords, JoinedPiece, PieceDecoder, PieceJoin, file_in_pieces,
     joined_pieces_are_read, open_pieces, rows_in_pieces,
 };
 use oim_meta::Report;
@@ -27,8 +27,42 @@ fn next_piece(
     if bytes.extend_from_slice(piece).is_err() {
         return Err(whole_fault(decoder.header().table(), TableKind::Memory));
     }
-    let answer: PieceAnswer = decoder.decode(bytes, first);
+    let DecodedPart { answer, rest: _ } = decoder.decode(bytes, first);
     Ok(join.join(decoder.header(), first, answer))
+}
+
+/// Returns whether a piece is decoded in two parts: the first has texts of some bytes, and the
+/// second is the rest, with nothing left.
+fn decodes_in_parts(decoder: &mut PieceDecoder<'_>, join: &mut PieceJoin, piece: Vec<u8>) -> bool {
+    let DecodedPart { answer, rest } = decoder.decode(piece, 1);
+    let joined = join.join(decoder.header(), 1, answer);
+    match rest {
+        Some(rest) => {
+            let is_later = rest.first() > 1;
+            let last = decoder.decode_rest(rest);
+            is_later && joined.bytes() > 0 && last.rest.is_none()
+        }
+        None => false,
+    }
+}
+
+/// Returns whether a piece whose texts are long is decoded in two parts.
+fn stops(alloc: Global, header: TableHeader<'_>) -> bool
+    requires { header.limit ≤ 4294967294 }
+{
+    let table = header.table();
+    let Ok(mut decoder) = PieceDecoder::new(alloc, header) else {
+        return false;
+    };
+    let Ok(piece) = vec![in alloc; b'9'; 2_200_000] else {
+        return false;
+    };
+    let mut piece = piece;
+    if piece.extend_from_slice(b",n\n2,m\n").is_err() {
+        return false;
+    }
+    let refused = DecodedPart::refused(alloc, table);
+    refused.rest.is_none() && decodes_in_parts(&mut decoder, &mut PieceJoin::new(alloc), piece)
 }
 
 /// Returns a join without a piece, with memory that the identifiers of many rows left.
