@@ -65,7 +65,7 @@ impl<'a> PieceUnderWay<'a> {
     /// Makes a piece of the rest of another.
     pub(crate) fn left(header: &TableHeader<'a>, rest: PieceRest) -> PieceUnderWay<'a>
         requires { rest.first ≤ header.now.limit + 1 }
-        ensures { result ≡ record { header = header.now; first = rest.entry.first; rows = rest.entry.rows } }
+        ensures { result ≡ record { header = header.now; first = rest.first; rows = rest.rows } }
     {
         PieceUnderWay {
             asked: Asked::of_rest(header, &rest),

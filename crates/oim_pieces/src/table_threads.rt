@@ -317,7 +317,7 @@ impl<'a> TableThreads<'a> {
     /// Decodes the rest of a piece on the worker.
     pub(crate) fn decode_rest(&mut self, rest: PieceRest) -> DecodedPart
         requires { rest.first ≤ self.old.limit + 1 }
-        ensures answer { IsPieceAnswer self.old rest.entry.first rest.entry.rows result }
+        ensures answer { IsPieceAnswer self.old rest.first rest.rows result }
         ensures same { self.new ≡ self.old }
     {
         self.memory.lend(&mut self.mine);

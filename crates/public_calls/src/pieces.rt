@@ -11,7 +11,7 @@ use oim_decode::{
 use oim_meta::Report;
 use oim_records::RecordReader;
 use oim_rows::{TableFault, TableHeader, TableKind, whole_fault};
-use std::alloc::Global;
+use std::alloc::{AllocError, Global};
 
 /// Returns a piece of a table, decoded and joined, whose first row has this number.
 fn next_piece(
@@ -46,23 +46,23 @@ fn decodes_in_parts(decoder: &mut PieceDecoder<'_>, join: &mut PieceJoin, piece:
     }
 }
 
+/// Returns a piece of two rows, of which the first has a long text.
+fn long_piece(alloc: Global) -> Result<Vec<u8>, AllocError> {
+    let text = vec![in alloc; b'n'; 2_200_000]?;
+    let mut piece = Vec::new(alloc);
+    piece.extend_from_slice(b"1,")?;
+    piece.extend_from_slice(&text)?;
+    piece.extend_from_slice(b"\n2,m\n")?;
+    Ok(piece)
+}
+
 /// Returns whether a piece whose texts are long is decoded in two parts.
-fn stops(alloc: Global, header: TableHeader<'_>) -> bool
-    requires { header.limit ≤ 4294967294 }
-{
-    let table = header.table();
-    let Ok(mut decoder) = PieceDecoder::new(alloc, header) else {
+fn stops(alloc: Global, decoder: &mut PieceDecoder<'_>) -> bool {
+    let Ok(piece) = long_piece(alloc) else {
         return false;
     };
-    let Ok(piece) = vec![in alloc; b'9'; 2_200_000] else {
-        return false;
-    };
-    let mut piece = piece;
-    if piece.extend_from_slice(b",n\n2,m\n").is_err() {
-        return false;
-    }
-    let refused = DecodedPart::refused(alloc, table);
-    refused.rest.is_none() && decodes_in_parts(&mut decoder, &mut PieceJoin::new(alloc), piece)
+    let refused = DecodedPart::refused(alloc, 0);
+    refused.rest.is_none() && decodes_in_parts(decoder, &mut PieceJoin::new(alloc), piece)
 }
 
 /// Returns a join without a piece, with memory that the identifiers of many rows left.
@@ -93,7 +93,7 @@ fn decodes(alloc: Global, header: TableHeader<'_>, piece: &[u8]) -> bool
     requires { header.limit ≤ 4294967294 }
 {
     match PieceDecoder::new(alloc, header) {
-        Ok(mut decoder) => joins(alloc, &mut decoder, piece),
+        Ok(mut decoder) => joins(alloc, &mut decoder, piece) && stops(alloc, &mut decoder),
         Err(_) => false,
     }
 }

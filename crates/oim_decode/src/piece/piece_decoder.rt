@@ -232,7 +232,7 @@ impl PieceDecoder<'_> {
 
     /// Ends an answer before the current record, which is row `number`. No record is left then.
     fn stop(&mut self, number: u32, answer: PieceAnswer) -> DecodedPart
-        ensures answer { result.answer ≡ answer.entry }
+        ensures answer { result.answer ≡ answer }
         ensures rest { result.rest ≡ Some (record { first = number; rows = self.old.current ∷ self.old.left }) }
         ensures header { self.new.header ≡ self.old.header }
     {
