@@ -164,6 +164,16 @@ stops_decoded g first rs n r left a from (done, split, is, number, good) = recor
 pub whole_part : (g : TableHeaderValue) (n : ℕ) (rs : List Record) (a : Apart) (rest : Option RestLeft) → rest ≡ None → IsPieceDecoded g n rs a → IsPartDecoded g n rs a rest
 whole_part g n rs a rest none is = subst (λ (o : Option RestLeft). IsPartDecoded g n rs a o) (sym none) is
 
+-- The same for an answer that is known.
+pub answer_part : (g : TableHeaderValue) (n : ℕ) (rs : List Record) (a b : Apart) (rest : Option RestLeft) → a ≡ b → rest ≡ None → IsPieceDecoded g n rs b → IsPartDecoded g n rs a rest
+answer_part g n rs a b rest same none is = whole_part g n rs a rest none (subst (λ (x : Apart). IsPieceDecoded g n rs x) (sym same) is)
+
+-- Decoding stopped before the rest.
+pub stopped_part : (g : TableHeaderValue) (n : ℕ) (rs : List Record) (a b : Apart) (rest : Option RestLeft) (left : RestLeft) → a ≡ b → rest ≡ Some left → IsStopped g n rs b left
+    → IsPartDecoded g n rs a rest
+stopped_part g n rs a b rest left same is stops =
+    subst (λ (o : Option RestLeft). IsPartDecoded g n rs a o) (sym is) (subst (λ (x : Apart). IsStopped g n rs x left) (sym same) stops)
+
 -- The decoded rows are as many as the numbers that passed.
 pub from_first : (g : TableHeaderValue) (first : ℕ) (rs : List Record) (n : ℕ) (left : List Record) (a : Apart) → HasDecoded g first rs n left a → first ≤ n
 from_first g first rs n left a h = let number = h.3 in omega (arith, number)
