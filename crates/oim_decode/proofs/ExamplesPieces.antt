@@ -1,5 +1,5 @@
 -- Examples of the rules for pieces of a table (`specs/Apart.antt`, `specs/Pieces.antt`).
-use Rattle.std.proofs.Common.{◌≡◌, ◌++◌, ◌∷◌, [], ℕ, List, Some, None, Ok, Err, false, true, codes, refl, inl, inr}
+use Rattle.std.proofs.Common.{◌≡◌, ◌++◌, ◌∷◌, [], ℕ, List, Some, None, Ok, Err, false, true, ap, arith, codes, refl, inl, inr}
 use Rattle.std.specs.Str.{chars, is_utf8}
 use Rattle.csv.specs.Records.{field_at}
 use Rattle.oim_names.specs.Names.{is_ncname, is_name_char, is_name_start, is_plain_char, is_row_identifier}
@@ -17,8 +17,8 @@ use Rattle.oim_resolve.specs.FactParts.{FactParts as Fact}
 use Rattle.oim_resolve.specs.declared.fact.CellFault.TheVariants as cell
 use Rattle.oim_decode.specs.Apart.{Apart, apart_from, apart_row, cut_at, id_in, joined_piece, repeated_from, repeated_id}
 use Rattle.oim_rows.specs.Header.{fault_at, file_fault}
-use Rattle.oim_decode.specs.PieceAnswers.{IsJoined, apart_then, fault_or_next, refused}
-use Rattle.oim_decode.specs.state.PieceAnswers.{AddsApart, EndsRows, StepsRow, TakesRow, no_rows}
+use Rattle.oim_decode.specs.PieceAnswers.{IsJoined, IsPartDecoded, RestLeft, apart_then, fault_or_next, refused}
+use Rattle.oim_decode.specs.state.PieceAnswers.{AddsApart, EndsRows, ReadsRow, StepsRow, TakesRow, no_rows}
 use Rattle.oim_decode.specs.state.RowEnds.{counts_from, stretches}
 use Rattle.oim_decode.specs.state.RowTexts.{AddsRowFacts}
 use Rattle.oim_decode.specs.Pieces.{AreCut, EndsBetween, pieces_from, records_of, stream_then, stream_until}
@@ -160,6 +160,35 @@ no_row_taken h = h
 piece_ends : (StepsRow header 1 [] first false [] first) × EndsRows header 1 [] first first
 unfolding apart_from
 piece_ends = (inl refl, inl refl)
+
+-- `ReadsRow`: the first record left is the current one. At the end, or if memory ran out, none is.
+record_read : ReadsRow 0 (line [] (codes "a") ∷ line [] (codes "b") ∷ []) first true (line [] (codes "a")) (line [] (codes "b") ∷ []) first
+record_read = (refl, refl)
+
+no_record_read : ReadsRow 0 [] first false [] [] first × ReadsRow 0 twice first false [] [] (apart_then first (refused 0)) × (ReadsRow 0 twice first false [] [] first → ⊥)
+no_record_read = (inl (refl, refl), inr refl, never)
+  where
+    never : ReadsRow 0 twice first false [] [] first → ⊥
+    never (inl (none, same)) = cc none
+    never (inr short) = cc (ap (λ (a : Apart). a.fault) short)
+
+-- `IsPartDecoded`: decoding stopped before the second of two rows. It does not stop before the first,
+-- nor leaves out a row.
+abbrev two : List Record
+two = line [] (codes "a") ∷ line [] (codes "b") ∷ []
+
+abbrev later : RestLeft
+later = record { first = 2; rows = line [] (codes "b") ∷ [] }
+
+first_of_two : IsPartDecoded header 1 two first (Some later)
+unfolding apart_from cell_result rest_faults fact_of meaning_of chars is_row_identifier is_plain_char is_ncname is_name_char is_name_start qname_of field_at is_utf8 lib.Utf8.encode
+first_of_two = record { front = line [] (codes "a") ∷ []; split = refl; some = omega arith; more = omega arith; number = refl; good = refl; is = refl }
+
+no_row_decoded : (a : Apart) → IsPartDecoded header 1 two a (Some (record { first = 1; rows = two })) → ⊥
+no_row_decoded a h = let some = h.some in let number = h.number in absurd (omega (arith, some, number))
+
+row_left_out : (a : Apart) → IsPartDecoded header 1 two a (Some (record { first = 2; rows = [] })) → ⊥
+row_left_out a h = let more = h.more in absurd (omega (arith, more))
 
 joined_or_refused : IsJoined header 5 (codes "a" ∷ []) first (ending (Some (fault_at 0 5 2 kind.RepeatedRowId))) × IsJoined header 5 [] first (ending (Some (file_fault 0 kind.Memory)))
 joined_or_refused = (inl refl, inr refl)

@@ -3,6 +3,7 @@ use Rattle.std.proofs.Common.{nat_lt, length-append, ◌≡◌, ◌++◌, ◌+�
 use Rattle.std.specs.Option.{is_none}
 use Rattle.std.proofs.lemmas.Bool.{ltb-false}
 use Rattle.oim_records.specs.Grids.{Field, Record}
+use Rattle.oim_records.specs.Pieces.{Piece, TakesNext}
 use Rattle.oim_resolve.specs.FactParts.{FactParts as Fact}
 use Rattle.oim_row.specs.Rows.{RowValue}
 use Rattle.std.specs.Prelude.{if◌then◌else◌}
@@ -11,8 +12,8 @@ use Rattle.oim_rows.specs.RowFacts.{TableHeaderValue, facts_from, id_fault, id_p
 use Rattle.oim_rows.specs.declared.fault.TableFault.{TableFault}
 use Rattle.oim_rows.specs.declared.fault.TableKind.TheVariants as kind
 use Rattle.oim_decode.specs.Apart.{Apart, apart_from, apart_row, id_in}
-use Rattle.oim_decode.specs.PieceAnswers.{IsPieceDecoded, PieceLeft, apart_then, refused}
-use Rattle.oim_decode.specs.state.PieceAnswers.{AddsApart, EndsRows, StepsRow, TakesRow, cells_apart, no_rows}
+use Rattle.oim_decode.specs.PieceAnswers.{IsPartDecoded, IsPieceDecoded, IsStopped, PieceLeft, RestLeft, apart_then, refused}
+use Rattle.oim_decode.specs.state.PieceAnswers.{AddsApart, EndsRows, ReadsRow, StepsRow, TakesRow, cells_apart, no_rows}
 
 abbrev pub answer : List (List Fact) → List Field → Option TableFault → Apart
 answer rows ids fault = record { rows = rows; ids = ids; fault = fault }
@@ -114,6 +115,69 @@ all_decoded g first rs n old before after (done, split, is, number, good) ends =
         ∙ sym (apart_append g first done old fine) ∙ ap (apart_from g first) (sym split))
     by (inr short) = inr (record { front = done; rest = old; split = split; good = fine; is = short ∙ ap (λ b. apart_then b (refused g.table)) is })
 
+-- READING
+
+-- No record is left.
+pub ends_none : (g : TableHeaderValue) (n : ℕ) (rs : List Record) (before : Apart) → rs ≡ [] → before.fault ≡ None → EndsRows g n rs before before
+unfolding apart_from
+ends_none g n rs before none good = inl (sym (then_none before good) ∙ ap (λ t. apart_then before (apart_from g n t)) (sym none))
+
+-- The next record was read, or none is left.
+pub reads_next : (table : ℕ) (rs : List Record) (b : Bool) (p : Piece) (before : Apart) → TakesNext rs b p → ReadsRow table rs before b p.fields p.left before
+reads_next table rs true p before takes = (takes, refl)
+reads_next table rs false p before takes = inl (takes.0, refl)
+
+-- Memory ran out for it.
+pub reads_short : (table : ℕ) (rs : List Record) (r : Record) (left : List Record) (before after : Apart) → after ≡ answer before.rows before.ids (Some (file_fault table kind.Memory))
+    → ReadsRow table rs before false r left after
+reads_short table rs r left before after is = inr (is ∙ sym (then_fault before (file_fault table kind.Memory)))
+
+-- The next record is the current one.
+pub read_decoded : (g : TableHeaderValue) (first : ℕ) (rs : List Record) (n : ℕ) (old : List Record) (r : Record) (left : List Record) (before after : Apart) → HasDecoded g first rs n old before
+    → ReadsRow g.table old before true r left after → HasDecoded g first rs n (r ∷ left) after
+read_decoded g first rs n old r left before after h (next, same) =
+    subst (λ (a : Apart). HasDecoded g first rs n (r ∷ left) a) (sym same) (subst (λ (l : List Record). HasDecoded g first rs n l before) next h)
+
+-- No record is read after the decoded ones.
+pub end_decoded : (g : TableHeaderValue) (first : ℕ) (rs : List Record) (n : ℕ) (old : List Record) (r : Record) (left : List Record) (before after : Apart) → HasDecoded g first rs n old before
+    → ReadsRow g.table old before false r left after → IsPieceDecoded g first rs after
+end_decoded g first rs n old r left before after h reads = all_decoded g first rs n old before after h (by reads)
+  where
+    by : ReadsRow g.table old before false r left after → EndsRows g n old before after
+    by (inl (none, same)) = subst (λ (a : Apart). EndsRows g n old before a) (sym same) (ends_none g n old before none h.4)
+    by (inr short) = inr short
+
+-- Decoding stops before the current record.
+pub stops_decoded : (g : TableHeaderValue) (first : ℕ) (rs : List Record) (n : ℕ) (r : Record) (left : List Record) (a : Apart) → first ≤ n → HasDecoded g first rs (n + 1) (r ∷ left) a
+    → IsStopped g first rs a (record { first = n + 1; rows = r ∷ left })
+stops_decoded g first rs n r left a from (done, split, is, number, good) = record {
+  front = done;
+  split = split;
+  some = omega (arith, from, number);
+  more = omega arith;
+  number = number;
+  good = good;
+  is = is;
+}
+
+-- All records are decoded.
+pub whole_part : (g : TableHeaderValue) (n : ℕ) (rs : List Record) (a : Apart) (rest : Option RestLeft) → rest ≡ None → IsPieceDecoded g n rs a → IsPartDecoded g n rs a rest
+whole_part g n rs a rest none is = subst (λ (o : Option RestLeft). IsPartDecoded g n rs a o) (sym none) is
+
+-- The same for an answer that is known.
+pub answer_part : (g : TableHeaderValue) (n : ℕ) (rs : List Record) (a b : Apart) (rest : Option RestLeft) → a ≡ b → rest ≡ None → IsPieceDecoded g n rs b → IsPartDecoded g n rs a rest
+answer_part g n rs a b rest same none is = whole_part g n rs a rest none (subst (λ (x : Apart). IsPieceDecoded g n rs x) (sym same) is)
+
+-- Decoding stopped before the rest.
+pub stopped_part : (g : TableHeaderValue) (n : ℕ) (rs : List Record) (a b : Apart) (rest : Option RestLeft) (left : RestLeft) → a ≡ b → rest ≡ Some left → IsStopped g n rs b left
+    → IsPartDecoded g n rs a rest
+stopped_part g n rs a b rest left same is stops =
+    subst (λ (o : Option RestLeft). IsPartDecoded g n rs a o) (sym is) (subst (λ (x : Apart). IsStopped g n rs x left) (sym same) stops)
+
+-- The decoded rows are as many as the numbers that passed.
+pub from_first : (g : TableHeaderValue) (first : ℕ) (rs : List Record) (n : ℕ) (left : List Record) (a : Apart) → HasDecoded g first rs n left a → first ≤ n
+from_first g first rs n left a h = let number = h.3 in omega (arith, number)
+
 -- NUMBERS
 
 -- A row without a fault apart from its cells is within the limit.
@@ -153,13 +217,8 @@ decoded_within g n rs a small (inr h) =
 -- ONE STEP
 
 -- What is left of the current piece.
-abbrev pub piece_left : TableHeaderValue → List Record → PieceLeft
-piece_left g rs = record { header = g; left = rs }
-
--- No record is left.
-pub ends_none : (g : TableHeaderValue) (n : ℕ) (rs : List Record) (before : Apart) → rs ≡ [] → before.fault ≡ None → EndsRows g n rs before before
-unfolding apart_from
-ends_none g n rs before none good = inl (sym (then_none before good) ∙ ap (λ t. apart_then before (apart_from g n t)) (sym none))
+abbrev pub piece_left : TableHeaderValue → Record → List Record → PieceLeft
+piece_left g r rs = record { header = g; current = r; left = rs }
 
 -- The next row has a fault apart from its cells.
 pub ends_own : (g : TableHeaderValue) (n : ℕ) (ids : List Field) (rs left : List Record) (r fields : Record) (before after : Apart) (e : TableFault) → rs ≡ r ∷ left → fields ≡ r → ids ≡ []

@@ -1,5 +1,5 @@
 -- What decoding a piece answers, and what the join makes of it.
-use Rattle.std.specs.Prelude.{◌≡◌, ◌⊎◌, ◌+◌, List, [], ◌++◌, length, ℕ, Option, Some, None}
+use Rattle.std.specs.Prelude.{◌≡◌, ◌⊎◌, ◌+◌, ◌≤◌, List, [], ◌++◌, length, ℕ, Option, Some, None}
 use Rattle.oim_records.specs.Grids.{Field, Record}
 use Rattle.oim_rows.specs.Header.{file_fault}
 use Rattle.oim_rows.specs.RowFacts.{TableHeaderValue}
@@ -17,10 +17,16 @@ refused table = record { rows = []; ids = []; fault = Some (file_fault table kin
 abbrev pub apart_then : Apart → Apart → Apart
 apart_then a b = record { rows = a.rows ++ b.rows; ids = a.ids ++ b.ids; fault = b.fault }
 
--- The table's header, and the records that are left of the current piece.
+-- The table's header, and of the current piece the current record and the records that are left.
 pub record PieceLeft : Type 0 where
   pub header : TableHeaderValue
+  pub current : Record
   pub left : List Record
+
+-- The rows of a piece that were not decoded: the number of the first, and the rows.
+pub record RestLeft : Type 0 where
+  pub first : ℕ
+  pub rows : List Record
 
 -- A prefix of the records was decoded without a fault, and then memory ran out.
 pub record IsCutShort (g : TableHeaderValue) (n : ℕ) (rs : List Record) (a : Apart) : Type 0 where
@@ -33,6 +39,21 @@ pub record IsCutShort (g : TableHeaderValue) (n : ℕ) (rs : List Record) (a : A
 -- The records of a piece from row n on, decoded without the earlier rows, unless memory ran out.
 abbrev pub IsPieceDecoded : TableHeaderValue → ℕ → List Record → Apart → Type 0
 IsPieceDecoded g n rs a = (a ≡ apart_from g n rs) ⊎ IsCutShort g n rs a
+
+-- The records before the rest were decoded, at least one, and none of them has a fault.
+pub record IsStopped (g : TableHeaderValue) (n : ℕ) (rs : List Record) (a : Apart) (rest : RestLeft) : Type 0 where
+  pub front : List Record
+  pub split : rs ≡ front ++ rest.rows
+  pub some : 1 ≤ length front
+  pub more : 1 ≤ length rest.rows
+  pub number : rest.first ≡ n + length front
+  pub good : a.fault ≡ None
+  pub is : a ≡ apart_from g n front
+
+-- All records of a piece were decoded, or those before the rest.
+abbrev pub IsPartDecoded : TableHeaderValue → ℕ → List Record → Apart → Option RestLeft → Type 0
+IsPartDecoded g n rs a None = IsPieceDecoded g n rs a
+IsPartDecoded g n rs a (Some rest) = IsStopped g n rs a rest
 
 -- A piece from row n on, joined to rows with the identifiers `before`, unless memory ran out.
 abbrev pub IsJoined : TableHeaderValue → ℕ → List Field → Apart → Stream → Type 0

@@ -7,7 +7,8 @@
 //! call answers the same and takes no record.
 //!
 //! A table can also be decoded in pieces. `open_pieces` gives the head of its file and a reader of
-//! the pieces after it. A `PieceDecoder` decodes the records of one piece without the other pieces.
+//! the pieces after it. A `PieceDecoder` decodes the records of one piece without the other pieces,
+//! or the first of them if their texts are long: a `DecodedPart` has the rest, to be decoded later.
 //! A `PieceJoin` takes the decoded pieces in order and finds row identifiers that repeat earlier
 //! ones. However the records are cut, the result is the table's stream (`rows_in_pieces`,
 //! `file_in_pieces`, `joined_pieces_are_read`).
@@ -45,4 +46,5 @@ pub use piece::first_records::{FirstRecords, open_pieces};
 pub use piece::piece_answer::PieceAnswer;
 pub use piece::piece_decoder::PieceDecoder;
 pub use piece::piece_join::{JoinedPiece, PieceJoin};
+pub use piece::piece_rest::{DecodedPart, PieceRest};
 pub use table::table_blocks::TableBlocks;

@@ -5,7 +5,9 @@ use Rattle.oim_records.specs.Grids.{Record, records_left}
 use Rattle.oim_rows.specs.RowFacts.{TableHeaderValue}
 use Rattle.oim_decode.specs.Apart.{Apart}
 use Rattle.oim_decode.specs.PieceAnswers.{refused}
+use Rattle.oim_decode.specs.declared.piece.piece_rest.DecodedPart.{DecodedPart}
 use Rattle.oim_decode.proofs.HeadLaws.{refused_decoded}
+use Rattle.oim_decode.proofs.PieceSteps.{whole_part}
 use Rattle.oim_pieces.specs.state.PiecesUnderWay.{IsPieceAnswer}
 use Rattle.oim_pieces.specs.state.Channels.{FitsPiece, IsAnswerIn, IsLine, IsOf, IsPiece, IsReadBy}
 use Rattle.oim_pieces.specs.declared.decoded.Asked.{Asked}
@@ -21,19 +23,19 @@ may_decode g None q reads fits = absurd reads
 may_decode g (Some a) q reads fits = subst (λ (x : TableHeaderValue). q.asked.first ≤ x.limit + 1) reads fits.may
 
 -- The decoded answer fits the channel.
-pub decoded_here : (g : TableHeaderValue) (known : Option Asked) (q : PieceToDecode) (answer : Apart) → IsReadBy g known → IfSome known (λ a. FitsPiece a (ToDecode q))
+pub decoded_here : (g : TableHeaderValue) (known : Option Asked) (q : PieceToDecode) (answer : DecodedPart) → IsReadBy g known → IfSome known (λ a. FitsPiece a (ToDecode q))
     → IsPieceAnswer g q.asked.first (records_left state.StartRecord q.bytes.items) answer → IsAnswerIn known answer
 decoded_here g None q answer reads fits is = tt
 decoded_here g (Some a) q answer reads fits is = answer_same a.header.value g a.first q.asked.first a.rows.value (records_left state.StartRecord q.bytes.items) answer is (sym reads) fits.first fits.rows
 
 -- No answer arrives: the answer is Memory.
-pub refused_here : (g : TableHeaderValue) (first : ℕ) (known : Option Asked) (answer : Apart) → IsReadBy g known → IfSome known (λ a. a.first ≡ first)
+pub refused_here : (g : TableHeaderValue) (first : ℕ) (known : Option Asked) (answer : DecodedPart) → IsReadBy g known → IfSome known (λ a. a.first ≡ first)
     → ((rows : List Record) → IsPieceAnswer g first rows answer) → IsAnswerIn known answer
 refused_here g first None answer reads at is = tt
 refused_here g first (Some a) answer reads at is = answer_same a.header.value g a.first first a.rows.value a.rows.value answer (is a.rows.value) (sym reads) (sym at) refl
 
 -- An answer from the channel is for the piece that was asked for.
-pub of_asked : (asked : Asked) (known : Option Asked) (answer : Apart) → IsOf asked known → IsAnswerIn known answer
+pub of_asked : (asked : Asked) (known : Option Asked) (answer : DecodedPart) → IsOf asked known → IsAnswerIn known answer
     → IsPieceAnswer asked.header.value asked.first asked.rows.value answer
 of_asked asked None answer same is = absurd same
 of_asked asked (Some a) answer same is =
@@ -48,10 +50,11 @@ of_first asked None same = tt
 of_first asked (Some a) same = same.1
 
 -- Memory is an answer for any piece.
-pub refused_answer : (g : TableHeaderValue) (first : ℕ) (rows : List Record) (a : Apart) → a ≡ refused g.table → first ≤ 4294967296 → IsPieceAnswer g first rows a
-refused_answer g first rows a is may = record {
-  decoded = refused_decoded g first rows a is;
-  few = let none : length a.ids ≡ 0 = ap (λ (x : Apart). length x.ids) is in omega (arith, none, may);
+pub refused_answer : (g : TableHeaderValue) (first : ℕ) (rows : List Record) (a : DecodedPart) → a.answer ≡ refused g.table → a.rest ≡ None → first ≤ 4294967296
+    → IsPieceAnswer g first rows a
+refused_answer g first rows a is none may = record {
+  decoded = whole_part g first rows a.answer a.rest none (refused_decoded g first rows a.answer is);
+  few = let empty : length a.answer.ids ≡ 0 = ap (λ (x : Apart). length x.ids) is in omega (arith, empty, may);
 }
 
 -- THE QUEUE OF A TABLE

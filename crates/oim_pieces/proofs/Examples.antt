@@ -13,12 +13,13 @@ use Rattle.oim_rows.specs.Streams.{Stream, ending, stream_from}
 use Rattle.oim_rows.specs.declared.fault.TableFault.{TableFault}
 use Rattle.oim_rows.specs.declared.fault.TableKind.TheVariants as kind
 use Rattle.oim_decode.specs.Apart.{Apart, apart_from}
+use Rattle.oim_decode.specs.declared.piece.piece_rest.DecodedPart.{DecodedPart}
 use Rattle.oim_pieces.specs.state.ComingAnswers.{Comes}
 use Rattle.oim_pieces.specs.state.Cutting.{CutterLeft, HasAtLeast, IsOver, TakesRows, left_over}
 use Rattle.oim_pieces.specs.PiecesLeft.{FewerSteps, GivesBlocks, steps_for, steps_left}
-use Rattle.oim_pieces.specs.state.PiecesUnderWay.{AreChained, PieceRowsLeft, GivesJoined, IsEndOfTable, IsFront, IsPieceAnswer, KeepsStream, NoMoreSteps, ReadsJoined, fault_or_left, first_row_of, head_pieces, next_row, rows_in, rows_left, steps_in, stream_in}
+use Rattle.oim_pieces.specs.state.PiecesUnderWay.{AreChained, PieceRowsLeft, GivesJoined, IsEndOfTable, IsFront, IsPieceAnswer, KeepsStream, NoMoreSteps, ReadsJoined, fault_or_left, first_row_of, head_pieces, next_row, rest_piece, rows_in, rows_left, steps_in, stream_in}
 use Rattle.oim_pieces.specs.declared.decoded.Asked.{Asked}
-use Rattle.oim_pieces.specs.declared.piece_under_way.ComingAnswer.TheVariants.{Here, Awaited}
+use Rattle.oim_pieces.specs.declared.piece_under_way.ComingAnswer.TheVariants.{Here, Awaited, Left}
 
 -- A report of one table whose rows have an identifier and no facts.
 abbrev report : ReportValue
@@ -73,16 +74,31 @@ bytes_left_over_wrong : (HasAtLeast (Some (codes "kk")) (codes "kk") (Some (code
 bytes_left_over_wrong = (λ h. absurd (omega (arith, h)), λ h. h)
 
 -- DECODERS AND ANSWERS
+-- A part without a rest.
+abbrev whole : DecodedPart → Apart → DecodedPart
+whole any a = record any { answer = a; rest = None }
+
 abbrev ids_of : List (List ℕ) → Apart
 ids_of [] = record { rows = []; ids = []; fault = None }
 ids_of (k ∷ ks) = record { rows = [] ∷ (ids_of ks).rows; ids = k ∷ (ids_of ks).ids; fault = None }
 
-answer_of_a_piece : IsPieceAnswer header 4 (a ∷ b ∷ []) (ids_of (codes "k" ∷ codes "kk" ∷ []))
+answer_of_a_piece : (any : DecodedPart) → IsPieceAnswer header 4 (a ∷ b ∷ []) (whole any (ids_of (codes "k" ∷ codes "kk" ∷ [])))
 unfolding apart_from chars is_row_identifier is_plain_char is_ncname is_name_char is_name_start field_at is_utf8 lib.Utf8.encode
-answer_of_a_piece = record { decoded = inl refl; few = omega arith }
+answer_of_a_piece any = record { decoded = inl refl; few = omega arith }
 
-too_many : IsPieceAnswer header 4294967295 (a ∷ b ∷ []) (ids_of (codes "k" ∷ codes "kk" ∷ [])) → ⊥
-too_many h = let few : 4294967295 + 2 ≤ 4294967296 = h.few in absurd (omega (arith, few))
+too_many : (any : DecodedPart) → IsPieceAnswer header 4294967295 (a ∷ b ∷ []) (whole any (ids_of (codes "k" ∷ codes "kk" ∷ []))) → ⊥
+too_many any h = let few : 4294967295 + 2 ≤ 4294967296 = h.few in absurd (omega (arith, few))
+
+-- The first row of a piece was decoded; the rest begins with row 5.
+answer_of_a_part : (any : DecodedPart) → IsPieceAnswer header 4 (a ∷ b ∷ []) (record any { answer = ids_of (codes "k" ∷ []); rest = Some (record { first = 5; rows = b ∷ [] }) })
+unfolding apart_from chars is_row_identifier is_plain_char is_ncname is_name_char is_name_start field_at is_utf8 lib.Utf8.encode
+answer_of_a_part any = record {
+  decoded = record { front = a ∷ []; split = refl; some = omega arith; more = omega arith; number = refl; good = refl; is = refl };
+  few = omega arith;
+}
+
+rest_of_a_piece : (rest_piece header (Some (record { first = 5; rows = b ∷ [] })) ≡ Some (record { header = header; first = 5; rows = b ∷ [] })) × (rest_piece header None ≡ None)
+rest_of_a_piece = (refl, refl)
 
 -- PIECES: rows 4 and 5, then row 6. The next piece to cut starts with row 7.
 abbrev front : PieceRowsLeft
@@ -154,9 +170,9 @@ joined_to_its_fault = (refl, refl)
 ends : IsEndOfTable 0 (Some (ending None)) None × IsEndOfTable 0 (Some one) (Some read) × (IsEndOfTable 0 (Some one) None → ⊥)
 ends = (refl, inl refl, λ h. let counts : 1 ≡ 0 = ap (λ (s : Stream). length s.rows) h in absurd (omega (arith, counts)))
 
--- STEPS (`steps_for`): three bytes that are not cut, and pieces under way.
+-- STEPS (`steps_for`): three bytes that are not cut, and two rows under way.
 three_and_two : (steps_for 2 (Some (codes "kkk")) ≡ Some 5) × (steps_for 2 None ≡ None)
-    × (steps_in (record { header = header; ids = []; pieces = front ∷ []; cutter = record { table = 0; limit = 6; next = 6; left = None; over = None; unread = Some (codes "kkk") } }) ≡ Some 4)
+    × (steps_in (record { header = header; ids = []; pieces = front ∷ []; cutter = record { table = 0; limit = 6; next = 6; left = None; over = None; unread = Some (codes "kkk") } }) ≡ Some 5)
 three_and_two = (refl, refl, refl)
 
 steps_of_what_is_left : steps_left (record { table = 0; limit = 6; next = 4; left = None; answered = None; under_way = 2; unread = Some (codes "kkk") }) ≡ Some 5
@@ -169,22 +185,38 @@ fewer : FewerSteps (Some 3) (Some 2) × FewerSteps None (Some 3) × (FewerSteps 
 fewer = (omega arith, tt, λ h. absurd (omega (arith, h)), λ h. h)
 
 -- JOINED (`IsFront`): the identifier of `b` is in an earlier row, and ends the piece there.
-front_joined : IsFront front (codes "kk" ∷ []) (record { rows = [] ∷ []; fault = Some (fault_at 0 5 1 kind.RepeatedRowId) }) []
+front_joined : IsFront front (codes "kk" ∷ []) (record { rows = [] ∷ []; fault = Some (fault_at 0 5 1 kind.RepeatedRowId) }) [] None
 unfolding apart_from chars is_row_identifier is_plain_char is_ncname is_name_char is_name_start field_at is_utf8 lib.Utf8.encode
-front_joined = record { answer = ids_of (codes "k" ∷ codes "kk" ∷ []); decoded = inl refl; joined = inl refl; behind = λ h. absurd (cc h) }
+front_joined = record { answer = ids_of (codes "k" ∷ codes "kk" ∷ []); rest = None; decoded = inl refl; remains = refl; joined = inl refl; behind = λ h. absurd (cc h) }
 
-ids_behind : IsFront second (codes "kk" ∷ []) (record { rows = [] ∷ []; fault = None }) (codes "kk" ∷ codes "kkk" ∷ [])
+ids_behind : IsFront second (codes "kk" ∷ []) (record { rows = [] ∷ []; fault = None }) (codes "kk" ∷ codes "kkk" ∷ []) None
 unfolding apart_from chars is_row_identifier is_plain_char is_ncname is_name_char is_name_start field_at is_utf8 lib.Utf8.encode
-ids_behind = record { answer = ids_of (codes "kkk" ∷ []); decoded = inl refl; joined = inl refl; behind = λ h. refl }
+ids_behind = record { answer = ids_of (codes "kkk" ∷ []); rest = None; decoded = inl refl; remains = refl; joined = inl refl; behind = λ h. refl }
+
+-- The first row of the first piece was joined; the second is left.
+part_joined : IsFront front [] (record { rows = [] ∷ []; fault = None }) (codes "k" ∷ []) (Some (record { header = header; first = 5; rows = b ∷ [] }))
+unfolding apart_from chars is_row_identifier is_plain_char is_ncname is_name_char is_name_start field_at is_utf8 lib.Utf8.encode
+part_joined = record {
+  answer = ids_of (codes "k" ∷ []);
+  rest = Some (record { first = 5; rows = b ∷ [] });
+  decoded = record { front = a ∷ []; split = refl; some = omega arith; more = omega arith; number = refl; good = refl; is = refl };
+  remains = refl;
+  joined = inl refl;
+  behind = λ h. refl;
+}
 
 -- COMING (`Comes`): an answer that is here is for the piece that was asked for. An answer from a
 -- thread arrives through that piece's channel only.
 abbrev asked : Asked → List Record → Asked
 asked any rows = record any { header = record any.header { value = header }; first = 6; rows = record any.rows { value = rows } }
 
-comes_here : (any : Asked) → Comes (asked any (c ∷ [])) (Here (ids_of (codes "kkk" ∷ [])))
+comes_here : (any : Asked) (part : DecodedPart) → Comes (asked any (c ∷ [])) (Here (whole part (ids_of (codes "kkk" ∷ []))))
 unfolding apart_from chars is_row_identifier is_plain_char is_ncname is_name_char is_name_start field_at is_utf8 lib.Utf8.encode
-comes_here any = record { decoded = inl refl; few = omega arith }
+comes_here any part = record { decoded = inl refl; few = omega arith }
+
+-- The rest of another piece is decoded later. A rest of other rows is refused.
+comes_later : (any : Asked) → Comes (asked any (c ∷ [])) (Left (record { first = 6; rows = c ∷ [] })) × (Comes (asked any (c ∷ [])) (Left (record { first = 7; rows = c ∷ [] })) → ⊥)
+comes_later any = ((refl, refl, omega arith), λ h. absurd (omega (arith, h.0)))
 
 through_its_channel : (any : Asked) → Comes (asked any (c ∷ [])) (Awaited (Some (asked any (c ∷ [])))) × (Comes (asked any (c ∷ [])) (Awaited None) → ⊥)
 through_its_channel any = ((refl, refl, refl), λ h. h)

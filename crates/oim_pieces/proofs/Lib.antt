@@ -1,4 +1,5 @@
 pub mod Sends
+pub mod RecordCounts
 pub mod UnderWayLaws
 pub mod Openings
 pub mod Gives

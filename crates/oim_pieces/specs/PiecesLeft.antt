@@ -7,7 +7,7 @@ use Rattle.oim_decode.specs.Blocks.{GivesBlock}
 
 -- What is left of a table. `limit` is the most rows that it may have, and `next` the number of the
 -- next row to give. `left` is the stream, if it is known. `answered` is the end or the fault that
--- each further call answers, once it was found. `under_way` counts the pieces that are cut and not
+-- each further call answers, once it was found. `under_way` counts the rows that are cut and not
 -- joined. `unread` are the bytes after them, if they are known.
 pub record PiecesLeft : Type 0 where
   pub table : ℕ
@@ -23,9 +23,9 @@ pub record PiecesLeft : Type 0 where
 abbrev pub GivesBlocks : ℕ → Stream → List (List Fact) → Option Stream → Type 0
 GivesBlocks table s blocks left = GivesBlock table [] s (Ok (Some (facts_of_rows blocks))) [] left
 
--- The steps left: one for each byte that is not cut, and one for each piece under way.
+-- The steps left: one for each byte that is not cut, and one for each row under way.
 abbrev pub steps_for : ℕ → Option (List ℕ) → Option ℕ
-steps_for pieces unread = option_map (λ xs. length xs + pieces) unread
+steps_for rows unread = option_map (λ xs. length xs + rows) unread
 
 -- The steps left of a table.
 abbrev pub steps_left : PiecesLeft → Option ℕ

@@ -7,16 +7,22 @@ ghost use Rattle.oim_records.specs.PieceTaking.{bytes_left};
 ghost use Rattle.oim_records.specs.Reads.{KeepsLeft, left_behind};
 ghost use Rattle.oim_pieces.specs.state.Cutting.{HasAtLeast, IsOver, TakesRows};
 
-use crate::growth_looks::KnownGrowth;
-use crate::text_growth::{TextGrowth, has_memory};
 use oim_records::{FilePiece, PieceReader, ReadFault};
 use oim_rows::{TableFault, TableKind, fault_of_read, whole_fault};
 use std::io::Read;
 use std::marker::Model;
 
+/// About how many bytes the texts of a piece should have. A piece may have more, since only the rows
+/// before it tell how long its texts are.
+const TEXTS: usize = 1_048_576;
+
+/// The most bytes of texts of all pieces under way, except one, if all have as many as the longest
+/// of the last ones.
+const MOST_UNDER_WAY: usize = 16_777_216;
+
 /// A piece of a table: whole records, and the row number of the first. `stays` means that the
 /// worker that cut it also decodes it, as it does if the piece has less than half of the asked-for
-/// bytes, or if the table's facts are long.
+/// bytes.
 #[derive(Drop)]
 pub(crate) struct CutPiece {
     pub(crate) bytes: Vec<u8>,
@@ -53,11 +59,13 @@ pub(crate) struct Cutter<R: Read + Drop> {
     limit: u32,
     next: u64,
     over: Option<Option<TableFault>>,
-    // How many bytes a piece should have if the table's facts are not long.
+    // How many bytes a piece should have if the texts of its facts are not long.
     size: usize,
-    // How much longer than its rows the table's facts can be.
-    growth: Option<KnownGrowth>,
-    // How many bytes the metadata adds to the longest of the last pieces.
+    // How many bytes a row of the last piece has.
+    row: usize,
+    // How many bytes of texts a byte of the rows joined last gave.
+    growth: usize,
+    // How many bytes the texts of the longest of the pieces joined last have.
     longest: usize,
     // Whether the last piece or the last read was short, as at the end of a file, or with a reader
     // that gives few bytes at a time.
@@ -74,6 +82,7 @@ impl<R: Read + Drop> Drop for Cutter<R> {
             next: _,
             over: _,
             size: _,
+            row: _,
             growth: _,
             longest: _,
             is_slow: _,
@@ -148,31 +157,33 @@ impl<R: Read + Drop> Cutter<R> {
             next,
             over: None,
             size,
-            growth: None,
+            row: 0,
+            growth: 0,
             longest: 0,
             is_slow: false,
         }
     }
 
-    /// Sets how much longer than its rows the table's facts can be.
-    pub(crate) fn set_growth(&mut self, growth: KnownGrowth)
+    /// Records that the texts of the next `rows` rows have `bytes` bytes. Texts of earlier rows
+    /// count less with each call.
+    pub(crate) fn note_texts(&mut self, rows: usize, bytes: usize)
         ensures { self.new ≡ self.old }
     {
-        self.growth = Some(growth);
-    }
-
-    /// Returns how much longer than its rows the table's facts can be, as far as it is known.
-    fn growth(&self) -> TextGrowth {
-        match &self.growth {
-            Some(known) => known.get(),
-            None => TextGrowth::none(),
+        self.longest = bytes.max(self.longest.saturating_sub(self.longest / 4));
+        if self.row > 0 {
+            self.growth = bytes / rows.saturating_mul(self.row).max(1);
         }
     }
 
-    /// Returns whether the facts of one more piece may take memory in addition to those of `count`
+    /// Returns about how many bytes the next piece should have.
+    fn piece_size(&self) -> usize {
+        self.size.min(TEXTS / self.growth.max(1))
+    }
+
+    /// Returns whether the texts of one more piece may take memory in addition to those of `count`
     /// pieces.
     pub(crate) fn has_memory(&self, count: usize) -> bool {
-        has_memory(count, self.longest)
+        count.saturating_mul(self.longest) < MOST_UNDER_WAY
     }
 
     /// Returns the table's place in the report.
@@ -180,6 +191,13 @@ impl<R: Read + Drop> Cutter<R> {
         ensures { result ≡ self.now.table }
     {
         self.table
+    }
+
+    /// Returns the number of the next row to cut.
+    pub(crate) fn next(&self) -> u64
+        ensures { result ≡ self.now.next }
+    {
+        self.next
     }
 
     /// Returns whether the cut records may be all that the reader has for now. They then wait for
@@ -207,7 +225,7 @@ impl<R: Read + Drop> Cutter<R> {
     ///
     /// Returns `None` at the end of the file, if the reader failed, or if memory runs out. Further
     /// calls then return `None` and change nothing.
-    #[tactic(auto, using(crate::proofs::UnderWayLaws::rows_few, crate::proofs::CutLaws::left_same, crate::proofs::CutLaws::least_same, crate::proofs::CutLaws::least_ended))]
+    #[tactic(auto, using(crate::proofs::RecordCounts::rows_few, crate::proofs::CutLaws::left_same, crate::proofs::CutLaws::least_same, crate::proofs::CutLaws::least_ended))]
     pub(crate) fn cut(&mut self) -> Option<CutPiece>
         ensures some { IfSome result (λ piece. TakesRows self.old.left (records_left state.StartRecord piece.bytes.items) self.new.left) }
         ensures rows { IfSome result (λ piece. 1 ≤ length (records_left state.StartRecord piece.bytes.items)) }
@@ -230,20 +248,18 @@ impl<R: Read + Drop> Cutter<R> {
             self.over = Some(Some(whole_fault(self.table, TableKind::Memory)));
             return None;
         }
-        let growth = self.growth();
-        let size = growth.piece_size(self.size);
+        let size = self.piece_size();
         match next_with_rows(&mut self.pieces, size) {
             Ok(Some(FilePiece { bytes, records })) => {
                 let first = self.next as u32;
-                let rows = records as usize;
-                self.longest = growth.longest(self.longest, bytes.len(), rows);
+                self.row = bytes.len() / (records as usize).max(1);
                 let is_short = bytes.len() < size / 2;
                 self.is_slow = is_short || self.pieces.is_short();
                 self.next += records;
                 Some(CutPiece {
                     bytes,
                     first,
-                    stays: is_short || growth.is_long(),
+                    stays: is_short,
                 })
             }
             Ok(None) => {

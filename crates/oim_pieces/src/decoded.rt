@@ -5,7 +5,7 @@ ghost use Rattle.csv.specs.declared.parser.State.TheVariants as state;
 ghost use Rattle.oim_records.specs.Grids.{records_left};
 
 use ghost_value::{Denotes, GhostValue};
-use oim_decode::FirstRecords;
+use oim_decode::{FirstRecords, PieceRest};
 use oim_rows::TableHeader;
 use std::snapshot::Snapshot;
 
@@ -43,6 +43,16 @@ impl Denotes<FirstRecords> for RowsBehind<'_> {
     ghost denoted = { λ a. drop 1 a.head.now };
 }
 
+/// Denotes the rows of the rest of a piece.
+#[derive(Drop)]
+struct RowsOf<'a> {
+    rest: &'a PieceRest,
+}
+
+impl Denotes<FirstRecords> for RowsOf<'_> {
+    ghost denoted = { λ a. a.rest.now.rows };
+}
+
 impl<'a> Asked<'a> {
     /// Describes the rows of a piece whose first row has number `first`.
     pub(crate) fn of(header: &TableHeader<'a>, bytes: &Vec<u8>, first: u32) -> Asked<'a>
@@ -52,6 +62,17 @@ impl<'a> Asked<'a> {
             header: Snapshot::of(header),
             first,
             rows: GhostValue::of(&RecordsOf { bytes }),
+        }
+    }
+
+    /// Describes the rows of the rest of a piece.
+    pub(crate) fn of_rest(header: &TableHeader<'a>, rest: &PieceRest) -> Asked<'a>
+        ensures { (result.header.value ≡ header.now) × (result.first ≡ rest.now.first) × (result.rows.value ≡ rest.now.rows) }
+    {
+        Asked {
+            header: Snapshot::of(header),
+            first: rest.first(),
+            rows: GhostValue::of(&RowsOf { rest }),
         }
     }
 

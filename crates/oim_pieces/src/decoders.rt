@@ -5,7 +5,7 @@ ghost use Rattle.oim_decode.specs.Heads.{table_header_in};
 ghost use Rattle.oim_records.specs.Grids.{Record};
 ghost use Rattle.oim_pieces.specs.state.PiecesUnderWay.{IsPieceAnswer};
 
-use oim_decode::{FirstRecords, PieceAnswer, PieceDecoder};
+use oim_decode::{DecodedPart, FirstRecords, PieceDecoder};
 use oim_report::Report;
 use std::alloc::Global;
 use std::marker::Model;
@@ -71,9 +71,9 @@ impl<'a> Decoders<'a> {
 
     /// Returns Memory, without a row, for a piece whose answer never arrives.
     #[tactic(auto, using(crate::proofs::ChannelLaws::refused_answer))]
-    pub(crate) fn no_answer(&self, first: u32) -> PieceAnswer
+    pub(crate) fn no_answer(&self, first: u32) -> DecodedPart
         ensures { (rows : List Record) → IsPieceAnswer self.now first rows result }
     {
-        PieceAnswer::refused(self.alloc, self.table)
+        DecodedPart::refused(self.alloc, self.table)
     }
 }

@@ -5,7 +5,7 @@ ghost use Rattle.oim_pieces.specs.state.Channels.{IsPiece};
 
 use crate::decoded::Asked;
 use keyed::{Fit, Giver, Taker};
-use oim_decode::PieceAnswer;
+use oim_decode::DecodedPart;
 
 /// A piece to decode: which rows it has, its bytes, and how many spare vectors its texts may take.
 #[derive(Drop)]
@@ -15,10 +15,10 @@ pub(crate) struct PieceToDecode<'a> {
     pub(crate) spares: usize,
 }
 
-/// The answer for a piece, the vector of its bytes, and the number of the thread that decoded it.
+/// The answer for a piece, the vector of its bytes if no rest has it, and the number of the thread that decoded it.
 #[derive(Drop)]
 pub(crate) struct DecodedPiece {
-    pub(crate) answer: PieceAnswer,
+    pub(crate) answer: DecodedPart,
     pub(crate) bytes: Vec<u8>,
     pub(crate) by: usize,
 }

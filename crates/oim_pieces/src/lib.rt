@@ -5,6 +5,9 @@
 //! them. The worker does the same while it waits for the next answer. Short pieces, and the rows
 //! that were read with the header, it decodes at once.
 //!
+//! A piece whose texts are long is decoded in part. The worker decodes the rest once it is needed,
+//! as a piece of its own. So the texts of a piece take little memory unless one row's are long.
+//!
 //! `TablePieces` joins the answers in the order of the pieces. What it gives is the table's stream,
 //! or a prefix of it before Read or Memory, whichever thread decoded a piece and whenever it
 //! finished. Each piece has a channel of its own, which holds the piece until a thread takes it,
@@ -21,11 +24,9 @@
 //! - `HelperThread`, `HelperSetup`: what a helper thread is started with.
 //! - `SpareVectors`, `SparesByThread`: spare vectors, kept for the thread that last wrote to them.
 //! - `Memory`: all spare vectors of a table.
-//! - `TextGrowth`: how much longer than its rows a table's facts can be. It makes pieces small.
-//! - `GrowthLooks`, `KnownGrowth`: how it becomes known while the file is read.
 //! - `AtWork`: the count of the threads at work in the run.
 //!
-//! Not proved: what `AtWork`, `Memory` and `KnownGrowth` hold, and how many pieces the worker cuts
+//! Not proved: what `AtWork` and `Memory` hold, how long pieces are, and how many the worker cuts
 //! ahead. No result depends on them.
 //!
 //! A call, which returns how many blocks the first piece of a report's first table has:
@@ -58,17 +59,14 @@ mod at_work;
 mod cutter;
 mod decoded;
 mod decoders;
-mod growth_looks;
 mod helper_thread;
 mod in_channel;
 mod memory;
 mod piece_under_way;
 mod pieces_under_way;
-mod small_reads;
 mod spare_vectors;
 mod table_pieces;
 mod table_threads;
-mod text_growth;
 
 pub use at_work::AtWork;
 pub use table_pieces::{PIECE_SIZE, TablePieces};

@@ -1,21 +1,24 @@
 //! One piece that is under way.
 
-ghost use Rattle.std.specs.Prelude.{◌≡◌, Some};
+ghost use Rattle.std.specs.Prelude.{◌≡◌, ◌≤◌, ◌+◌, Some};
 ghost use Rattle.oim_pieces.specs.state.PiecesUnderWay.{IsPieceAnswer};
 ghost use Rattle.oim_pieces.specs.state.Channels.{IsOf};
 
 use crate::decoded::Asked;
 use crate::in_channel::Pending;
 use crate::table_threads::TableThreads;
-use oim_decode::PieceAnswer;
+use oim_decode::{DecodedPart, PieceRest};
+use oim_rows::TableHeader;
 use std::marker::Model;
 use std::sync::Wait;
 
-/// The answer for a piece: it arrives through the piece's channel, or is here already.
+/// The answer for a piece: it arrives through the piece's channel, or is here already. The rest of a
+/// piece is decoded once its answer is wanted.
 #[derive(Drop)]
 pub(crate) enum ComingAnswer<'a> {
     Awaited(Pending<'a>),
-    Here(PieceAnswer),
+    Here(DecodedPart),
+    Left(PieceRest),
 }
 
 /// A piece that is under way.
@@ -49,13 +52,24 @@ impl<'a> Model for PieceUnderWay<'a> {
 
 impl<'a> PieceUnderWay<'a> {
     /// Makes a piece whose answer is here.
-    pub(crate) fn here(asked: Asked<'a>, answer: PieceAnswer) -> PieceUnderWay<'a>
+    pub(crate) fn here(asked: Asked<'a>, answer: DecodedPart) -> PieceUnderWay<'a>
         requires { IsPieceAnswer asked.header.value asked.first asked.rows.value answer }
         ensures { (result.header ≡ asked.entry.header.value) × (result.first ≡ asked.entry.first) × (result.rows ≡ asked.entry.rows.value) }
     {
         PieceUnderWay {
             asked,
             coming: ComingAnswer::Here(answer),
+        }
+    }
+
+    /// Makes a piece of the rest of another.
+    pub(crate) fn left(header: &TableHeader<'a>, rest: PieceRest) -> PieceUnderWay<'a>
+        requires { rest.first ≤ header.now.limit + 1 }
+        ensures { result ≡ record { header = header.now; first = rest.first; rows = rest.rows } }
+    {
+        PieceUnderWay {
+            asked: Asked::of_rest(header, &rest),
+            coming: ComingAnswer::Left(rest),
         }
     }
 
@@ -85,13 +99,14 @@ impl<'a> PieceUnderWay<'a> {
         }
     }
 
-    /// Returns the answer for the piece. The worker decodes other pieces until it arrives.
+    /// Returns the answer for the piece. The worker decodes other pieces until it arrives, or the
+    /// rows of this one if it is a rest.
     #[tactic(auto, using(crate::proofs::ChannelLaws::of_asked, crate::proofs::ChannelLaws::of_reads, crate::proofs::ChannelLaws::of_first))]
     pub(crate) fn wait_for_answer<T: Wait>(
         self,
         rt: &T,
         threads: &mut TableThreads<'a>,
-    ) -> PieceAnswer
+    ) -> DecodedPart
         requires { self.header ≡ threads.old }
         ensures answer { IsPieceAnswer self.entry.header self.entry.first self.entry.rows result }
         ensures same { threads.new ≡ threads.old }
@@ -103,6 +118,7 @@ impl<'a> PieceUnderWay<'a> {
                 threads.await_answer(rt, pending, first)
             }
             ComingAnswer::Here(answer) => answer,
+            ComingAnswer::Left(rest) => threads.decode_rest(rest),
         }
     }
 }

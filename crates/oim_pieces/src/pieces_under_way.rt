@@ -1,6 +1,7 @@
 //! The pieces of a table that are under way: cut, and not joined yet.
 
-ghost use Rattle.std.specs.Prelude.{◌≡◌, ◌⊎◌, ◌+◌, ◌-◌, ◌<◌, ◌≤◌, [], drop, IfNone, IfOk, IfErr, IfSome, None, OnSome, Some, length, true};
+ghost use Rattle.std.specs.Prelude.{◌≡◌, ◌⊎◌, ◌++◌, ◌+◌, ◌-◌, ◌<◌, ◌≤◌, [], drop, IfNone, IfOk, IfErr, IfSome, None, OnSome, Some, length, option_to_list, true};
+ghost use Rattle.std.specs.VecDeque.{deque_capacity, deque_len};
 ghost use Rattle.oim_decode.specs.Heads.{table_header_in};
 ghost use Rattle.oim_records.specs.PieceTaking.{bytes_left};
 ghost use Rattle.oim_records.specs.Reads.{left_behind};
@@ -11,10 +12,9 @@ ghost use Rattle.oim_pieces.specs.state.PiecesUnderWay.{IsEndOfTable, IsFront, K
 
 use crate::at_work::AtWork;
 use crate::cutter::Cutter;
-use crate::growth_looks::KnownGrowth;
 use crate::piece_under_way::PieceUnderWay;
 use crate::table_threads::TableThreads;
-use oim_decode::{FirstRecords, JoinedPiece, PieceJoin};
+use oim_decode::{DecodedPart, FirstRecords, JoinedPiece, PieceJoin};
 use oim_records::PieceReader;
 use oim_report::Report;
 use oim_rows::{TableFault, TableKind, whole_fault};
@@ -101,20 +101,44 @@ fn open_table<'a>(
     }
 }
 
-/// Joins a piece, waiting for its answer.
+/// Joins a piece, waiting for its answer. Also returns the rest of the piece if it was decoded in
+/// part.
 fn join_piece<'a, T: Wait>(
     rt: &T,
     threads: &mut TableThreads<'a>,
     join: &mut PieceJoin,
     piece: PieceUnderWay<'a>,
-) -> JoinedPiece
+) -> (JoinedPiece, Option<PieceUnderWay<'a>>)
     requires { piece.header ≡ threads.old }
-    ensures joined { IsFront piece.entry join.old result join.new }
+    ensures joined { IsFront piece.entry join.old result.0 join.new result.1 }
     ensures same { threads.new ≡ threads.old }
 {
     let first = piece.first();
-    let answer = piece.wait_for_answer(rt, threads);
-    join.join(threads.header(), first, answer)
+    let DecodedPart { answer, rest } = piece.wait_for_answer(rt, threads);
+    let joined = join.join(threads.header(), first, answer);
+    let left = match rest {
+        Some(rest) => Some(PieceUnderWay::left(threads.header(), rest)),
+        None => None,
+    };
+    (joined, left)
+}
+
+/// Puts the rest of a piece before the others, for which there is room.
+fn put_front<'a>(under_way: &mut VecDeque<PieceUnderWay<'a>>, rest: Option<PieceUnderWay<'a>>)
+    requires { deque_len under_way.old < deque_capacity under_way.old }
+    ensures { under_way.new.items ≡ option_to_list rest ++ under_way.old.items }
+{
+    if let Some(rest) = rest {
+        under_way.push_front_reserved(rest);
+    }
+}
+
+/// Returns the number of the first row of the pieces, or `next` if there are no pieces.
+fn next_number(under_way: &VecDeque<PieceUnderWay<'_>>, next: u64) -> u64 {
+    match under_way.front() {
+        Some(piece) => piece.first() as u64,
+        None => next,
+    }
 }
 
 impl<'a, R: Read + Drop> PiecesUnderWay<'a, R> {
@@ -154,13 +178,6 @@ impl<'a, R: Read + Drop> PiecesUnderWay<'a, R> {
             }),
             Err(fault) => Err(fault),
         }
-    }
-
-    /// Sets how much longer than its rows the table's facts can be.
-    pub(crate) fn set_growth(&mut self, growth: KnownGrowth)
-        ensures { self.new ≡ self.old }
-    {
-        self.cutter.set_growth(growth);
     }
 
     /// Keeps the vector of a written block as a spare, for the thread that wrote the block if that
@@ -291,11 +308,10 @@ impl<'a, R: Read + Drop> PiecesUnderWay<'a, R> {
         true
     }
 
-    /// Joins the first piece under way, waiting for its answer. Returns `None` if no piece is under
-    /// way.
+    /// Joins the first piece under way, waiting for its answer. If the piece was decoded in part, the
+    /// rest is now the first piece. Returns `None` if no piece is under way.
     ///
     /// A piece has a row at least. Unless it has a fault, all its rows are within the limit.
-    #[tactic(auto, using(crate::proofs::StepLaws::steps_joined))]
     pub(crate) fn join_front<T: Wait>(&mut self, rt: &T) -> Option<JoinedPiece>
         ensures some { IfSome (stream_in self.old) (λ whole. IfSome result (λ s. ReadsJoined self.old.cutter.table whole s (stream_in self.new))) }
         ensures none { IfNone result ((self.old.pieces ≡ []) × (self.new ≡ self.old)) }
@@ -306,7 +322,12 @@ impl<'a, R: Read + Drop> PiecesUnderWay<'a, R> {
     {
         let piece = self.under_way.pop_front()?;
         self.has_given = true;
-        Some(join_piece(rt, &mut self.threads, &mut self.join, piece))
+        let first = piece.first();
+        let (joined, rest) = join_piece(rt, &mut self.threads, &mut self.join, piece);
+        put_front(&mut self.under_way, rest);
+        let rows = next_number(&self.under_way, self.cutter.next()).saturating_sub(first as u64);
+        self.cutter.note_texts(rows as usize, joined.bytes());
+        Some(joined)
     }
 
     /// Drops the pieces under way. Takes those that no thread has taken, so that none is decoded in

@@ -10,9 +10,7 @@ ghost use Rattle.oim_pieces.specs.PiecesLeft.{FewerSteps, GivesBlocks, steps_lef
 ghost use Rattle.oim_pieces.specs.state.PiecesUnderWay.{GivesJoined};
 
 use crate::at_work::AtWork;
-use crate::growth_looks::GrowthLooks;
 use crate::pieces_under_way::PiecesUnderWay;
-use crate::small_reads::SmallReads;
 use oim_decode::{JoinedPiece, open_pieces};
 use oim_json::Block;
 use oim_report::{Limits, Report};
@@ -30,12 +28,11 @@ pub const PIECE_SIZE: usize = 32_768;
 /// The remaining facts of one table, piece by piece, as blocks of text.
 ///
 /// Contracts see the table's place and limit, the number of the next row, the stream that is left,
-/// the answer of a settled table, the count of pieces under way, and the bytes that are not cut
-/// yet. The stream and the bytes are known only for a reader whose bytes are known.
+/// the answer of a settled table, the count of rows under way, and the bytes that are not cut yet. The stream and the bytes are known only for a reader whose bytes are known.
 #[derive(Drop)]
 pub struct TablePieces<'a, R: Read + Drop> {
     alloc: Global,
-    pieces_under_way: PiecesUnderWay<'a, SmallReads<'a, R>>,
+    pieces_under_way: PiecesUnderWay<'a, R>,
     // The end or the fault of the table, once it was found.
     settled: Option<Option<TableFault>>,
 }
@@ -44,7 +41,7 @@ impl<'a, R: Read + Drop> Model for TablePieces<'a, R> {
     ghost use Rattle.std.specs.Prelude.{length};
     ghost use Rattle.oim_decode.specs.state.Blocks.{end_or_left};
     ghost use Rattle.oim_pieces.specs.PiecesLeft.{PiecesLeft};
-    ghost use Rattle.oim_pieces.specs.state.PiecesUnderWay.{next_row, stream_in};
+    ghost use Rattle.oim_pieces.specs.state.PiecesUnderWay.{next_row, rows_in, stream_in};
 
     ghost Value = { PiecesLeft };
 
@@ -54,7 +51,7 @@ impl<'a, R: Read + Drop> Model for TablePieces<'a, R> {
       next = next_row a.pieces_under_way;
       left = end_or_left a.settled (stream_in a.pieces_under_way);
       answered = a.settled;
-      under_way = length a.pieces_under_way.pieces;
+      under_way = length (rows_in a.pieces_under_way.pieces);
       unread = a.pieces_under_way.cutter.unread;
     } };
 }
@@ -64,8 +61,8 @@ impl<'a, R: Read + Drop> TablePieces<'a, R> {
     /// byte-order mark.
     ///
     /// The table may have at most `limits.rows` rows. A piece has about as many bytes as `at_work`
-    /// sets, and fewer if the reader gives fewer at a time or the table's facts can be far longer
-    /// than its rows. The facts are the same for each size.
+    /// sets, and fewer if the reader gives fewer at a time or the last facts are far longer than
+    /// their rows. The facts are the same for each size.
     ///
     /// Fails with the header's first fault, in this order: NoHeader, UnknownHeader, RepeatedHeader,
     /// NoRowIdColumn. Fails with Read if the reader failed, and with Memory if memory runs out.
@@ -92,23 +89,17 @@ impl<'a, R: Read + Drop> TablePieces<'a, R> {
         ensures fault { IfSome (R.remaining reader) (λ bytes.
             IfErr result (λ e. IsOutside table e ⊎ (file_header_fault report.now table (grid bytes) ≡ Some e))) }
     {
-        let Ok((looks, growth)) = GrowthLooks::start(alloc, report, table, at_work.size()) else {
-            return Err(whole_fault(table, TableKind::Memory));
-        };
-        let (head, pieces) = match open_pieces(alloc, SmallReads::new(reader, looks)) {
+        let (head, pieces) = match open_pieces(alloc, reader) {
             Ok(Some(opened)) => opened,
             Ok(None) => return Err(whole_fault(table, TableKind::NoHeader)),
             Err(fault) => return Err(fault_of_read(table, fault)),
         };
         match PiecesUnderWay::after_head(alloc, at_work, report, table, limits.rows, head, pieces) {
-            Ok(mut pieces_under_way) => {
-                pieces_under_way.set_growth(growth);
-                Ok(TablePieces {
-                    alloc,
-                    pieces_under_way,
-                    settled: None,
-                })
-            }
+            Ok(pieces_under_way) => Ok(TablePieces {
+                alloc,
+                pieces_under_way,
+                settled: None,
+            }),
             Err(fault) => Err(fault),
         }
     }
@@ -120,8 +111,8 @@ impl<'a, R: Read + Drop> TablePieces<'a, R> {
     /// (`AtWork::start`): it rests while it waits for an answer. After the end or a fault, each
     /// call answers the same and cuts nothing. Each call that gives blocks has read a row, and at
     /// most `limits.rows` rows are read, so even an endless file of rows ends. For a reader whose
-    /// bytes are known, the calls that give blocks are at most one for each piece under way and
-    /// each byte after them, and one more.
+    /// bytes are known, the calls that give blocks are at most one for each row under way and each
+    /// byte after them, and one more.
     ///
     /// After the facts of all earlier rows, fails with the first fault of the first bad row, in
     /// this order: Ragged, NotUtf8, TooManyRows, MissingRowId, BadRowId, RepeatedRowId, then the

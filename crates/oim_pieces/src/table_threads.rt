@@ -22,7 +22,7 @@ use crate::in_channel::{
 use crate::memory::Memory;
 use crate::piece_under_way::PieceUnderWay;
 use keyed::Giver;
-use oim_decode::{FirstRecords, PieceAnswer, PieceDecoder};
+use oim_decode::{DecodedPart, FirstRecords, PieceDecoder, PieceRest};
 use oim_report::Report;
 use oim_rows::{SpareIds, TableFault, TableHeader};
 use std::alloc::Global;
@@ -297,7 +297,7 @@ impl<'a> TableThreads<'a> {
     }
 
     /// Decodes a piece on the worker.
-    fn decode(&mut self, to_decode: PieceToDecode<'a>) -> PieceAnswer
+    fn decode(&mut self, to_decode: PieceToDecode<'a>) -> DecodedPart
         requires { to_decode.asked.first ≤ self.old.limit + 1 }
         ensures answer { IsPieceAnswer self.old to_decode.entry.asked.first (records_left state.StartRecord to_decode.entry.bytes.items) result }
         ensures same { self.new ≡ self.old }
@@ -314,6 +314,18 @@ impl<'a> TableThreads<'a> {
         answer
     }
 
+    /// Decodes the rest of a piece on the worker.
+    pub(crate) fn decode_rest(&mut self, rest: PieceRest) -> DecodedPart
+        requires { rest.first ≤ self.old.limit + 1 }
+        ensures answer { IsPieceAnswer self.old rest.first rest.rows result }
+        ensures same { self.new ≡ self.old }
+    {
+        self.memory.lend(&mut self.mine);
+        let answer = self.mine.decode_rest(rest);
+        self.memory.take_back(&mut self.mine);
+        answer
+    }
+
     /// Returns the answer for a piece whose first row has number `first`. The worker waits for it,
     /// or decodes the piece itself if no thread has taken it.
     ///
@@ -324,7 +336,7 @@ impl<'a> TableThreads<'a> {
         rt: &T,
         pending: Pending<'a>,
         first: u32,
-    ) -> PieceAnswer
+    ) -> DecodedPart
         requires header { IsReadBy self.old pending }
         requires first { IfSome pending (λ a. a.first ≡ first) }
         ensures answer { IsAnswerIn pending.entry result }

@@ -5,13 +5,13 @@ ghost use Rattle.std.specs.Prelude.{◌≤◌, ◌+◌};
 use crate::held::{Over, holds};
 use crate::rows::left_by;
 use oim_decode::{
-    FirstRecords, JoinedPiece, PieceAnswer, PieceDecoder, PieceJoin, file_in_pieces,
+    DecodedPart, FirstRecords, JoinedPiece, PieceDecoder, PieceJoin, file_in_pieces,
     joined_pieces_are_read, open_pieces, rows_in_pieces,
 };
 use oim_meta::Report;
 use oim_records::RecordReader;
 use oim_rows::{TableFault, TableHeader, TableKind, whole_fault};
-use std::alloc::Global;
+use std::alloc::{AllocError, Global};
 
 /// Returns a piece of a table, decoded and joined, whose first row has this number.
 fn next_piece(
@@ -27,8 +27,42 @@ fn next_piece(
     if bytes.extend_from_slice(piece).is_err() {
         return Err(whole_fault(decoder.header().table(), TableKind::Memory));
     }
-    let answer: PieceAnswer = decoder.decode(bytes, first);
+    let DecodedPart { answer, rest: _ } = decoder.decode(bytes, first);
     Ok(join.join(decoder.header(), first, answer))
+}
+
+/// Returns whether a piece is decoded in two parts: the first has texts of some bytes, and the
+/// second is the rest, with nothing left.
+fn decodes_in_parts(decoder: &mut PieceDecoder<'_>, join: &mut PieceJoin, piece: Vec<u8>) -> bool {
+    let DecodedPart { answer, rest } = decoder.decode(piece, 1);
+    let joined = join.join(decoder.header(), 1, answer);
+    match rest {
+        Some(rest) => {
+            let is_later = rest.first() > 1;
+            let last = decoder.decode_rest(rest);
+            is_later && joined.bytes() > 0 && last.rest.is_none()
+        }
+        None => false,
+    }
+}
+
+/// Returns a piece of two rows, of which the first has a long text.
+fn long_piece(alloc: Global) -> Result<Vec<u8>, AllocError> {
+    let text = vec![in alloc; b'n'; 2_200_000]?;
+    let mut piece = Vec::new(alloc);
+    piece.extend_from_slice(b"1,")?;
+    piece.extend_from_slice(&text)?;
+    piece.extend_from_slice(b"\n2,m\n")?;
+    Ok(piece)
+}
+
+/// Returns whether a piece whose texts are long is decoded in two parts.
+fn stops(alloc: Global, decoder: &mut PieceDecoder<'_>) -> bool {
+    let Ok(piece) = long_piece(alloc) else {
+        return false;
+    };
+    let refused = DecodedPart::refused(alloc, 0);
+    refused.rest.is_none() && decodes_in_parts(decoder, &mut PieceJoin::new(alloc), piece)
 }
 
 /// Returns a join without a piece, with memory that the identifiers of many rows left.
@@ -59,7 +93,7 @@ fn decodes(alloc: Global, header: TableHeader<'_>, piece: &[u8]) -> bool
     requires { header.limit ≤ 4294967294 }
 {
     match PieceDecoder::new(alloc, header) {
-        Ok(mut decoder) => joins(alloc, &mut decoder, piece),
+        Ok(mut decoder) => joins(alloc, &mut decoder, piece) && stops(alloc, &mut decoder),
         Err(_) => false,
     }
 }

@@ -32,3 +32,8 @@ EndsRows g n rs before after = AddsApart g.table before (apart_from g n rs) afte
 abbrev pub StepsRow : TableHeaderValue → ℕ → List Record → Apart → Bool → List Record → Apart → Type 0
 StepsRow g n rs before true left after = TakesRow g n rs before left after
 StepsRow g n rs before false left after = EndsRows g n rs before after
+
+-- The next record was read and is the current one; or none was left, or memory ran out.
+abbrev pub ReadsRow : ℕ → List Record → Apart → Bool → Record → List Record → Apart → Type 0
+ReadsRow table rs before true current left after = (rs ≡ current ∷ left) × (after ≡ before)
+ReadsRow table rs before false current left after = ((rs ≡ []) × (after ≡ before)) ⊎ (after ≡ apart_then before (refused table))

@@ -164,7 +164,7 @@ impl FirstRecords {
     ) -> Result<PieceDecoder<'a>, TableFault>
         requires place { table < length report.now.tables }
         requires rows { limit ≤ 4294967294 }
-        ensures decoder { IfOk result (λ decoder. decoder ≡ record { header = table_header_in report.now table limit self.now; left = [] }) }
+        ensures decoder { IfOk result (λ decoder. decoder ≡ record { header = table_header_in report.now table limit self.now; current = []; left = [] }) }
         ensures header { IfOk result (λ _. file_header_fault report.now table self.now ≡ None) }
         ensures fault { IfErr result (λ e. IsOutside table e ⊎ (file_header_fault report.now table self.now ≡ Some e)) }
     {

@@ -37,6 +37,9 @@ impl Model for PieceAnswer {
     ghost view = { λ a. record { rows = a.rows; ids = a.ids.items; fault = a.fault } };
 }
 
+/// After how many bytes of texts an answer is long. Pieces of ordinary tables have fewer.
+const LONG: usize = 2_097_152;
+
 /// Returns the identifier of a row, if its table has a column for it, and reserves room for it in
 /// `ids`.
 #[inline]
@@ -89,6 +92,11 @@ impl PieceAnswer {
         let mut answer = PieceAnswer::within(alloc, Vec::new(alloc));
         answer.end(whole_fault(table, TableKind::Memory));
         answer
+    }
+
+    /// Returns whether the texts are so long that no more rows should be added.
+    pub(crate) fn is_long(&self) -> bool {
+        self.rows.bytes() > LONG
     }
 
     /// Ends the answer with a fault.

@@ -1,14 +1,15 @@
 //! Decoding pieces of a table.
 
-ghost use Rattle.std.specs.Prelude.{◌≡◌, ◌≤◌, ◌+◌, [], IfOk, IfSome, None, drop, length};
+ghost use Rattle.std.specs.Prelude.{◌≡◌, ◌≤◌, ◌+◌, ◌∷◌, [], IfOk, IfSome, None, true, drop, length};
 ghost use Rattle.csv.specs.declared.parser.State.TheVariants as state;
 ghost use Rattle.oim_records.specs.Grids.{records_left};
-ghost use Rattle.oim_decode.specs.PieceAnswers.{IsPieceDecoded};
-ghost use Rattle.oim_decode.specs.state.PieceAnswers.{StepsRow, no_rows};
+ghost use Rattle.oim_decode.specs.PieceAnswers.{IsPartDecoded};
+ghost use Rattle.oim_decode.specs.state.PieceAnswers.{ReadsRow, StepsRow, no_rows};
 ghost use Rattle.oim_rows.specs.RowFacts.{row_fault};
 
 use crate::piece::first_records::FirstRecords;
 use crate::piece::piece_answer::PieceAnswer;
+use crate::piece::piece_rest::{DecodedPart, PieceRest};
 use crate::piece::spare_vectors::SpareVectors;
 use crate::table::row_texts::RowTexts;
 use oim_fast::TableRow;
@@ -16,11 +17,13 @@ use oim_records::{Fields, PieceRecords, TextFields};
 use oim_rows::{RowIds, TableFault, TableHeader, TableKind, whole_fault};
 use std::alloc::{AllocError, Global};
 use std::marker::Model;
+use std::mem;
 
 /// A decoder for the pieces of one table. It needs only a piece's bytes and the number of its first
 /// row.
 ///
-/// Contracts see the table's header, and the records that are left of the current piece.
+/// Contracts see the table's header, and of the current piece the current record and the records
+/// that are left.
 pub struct PieceDecoder<'a> {
     alloc: Global,
     header: TableHeader<'a>,
@@ -52,7 +55,7 @@ impl<'a> Model for PieceDecoder<'a> {
 
     ghost Value = { PieceLeft };
 
-    ghost view = { λ a. record { header = a.header; left = a.records.left } };
+    ghost view = { λ a. record { header = a.header; current = a.records.fields; left = a.records.left } };
 
     ghost invariant = { λ a. (a.texts ≡ a.header) × (a.ids ≡ []) × (a.header.limit < 2 ^ 32 - 1) };
 }
@@ -79,7 +82,7 @@ impl<'a> PieceDecoder<'a> {
     /// Makes a decoder for the table with this header.
     pub fn new(alloc: Global, header: TableHeader<'a>) -> Result<PieceDecoder<'a>, AllocError>
         requires { header.limit ≤ 4294967294 }
-        ensures { IfOk result (λ decoder. decoder ≡ record { header = header.entry; left = [] }) }
+        ensures { IfOk result (λ decoder. decoder ≡ record { header = header.entry; current = []; left = [] }) }
     {
         let texts = RowTexts::new(alloc, &header)?;
         Ok(PieceDecoder {
@@ -106,16 +109,32 @@ impl PieceDecoder<'_> {
     /// Decodes a piece whose first row has number `first`. The piece must begin where a record may
     /// begin, and end at a record's end.
     ///
-    /// The answer has the piece's first fault: Ragged, NotUtf8, TooManyRows, MissingRowId, BadRowId
+    /// Stops after a row once the texts of the facts are long. The answer then has the rest.
+    /// Otherwise it has the piece's first fault: Ragged, NotUtf8, TooManyRows, MissingRowId, BadRowId
     /// or one of a cell; or Memory if memory runs out.
-    pub fn decode(&mut self, piece: Vec<u8>, first: u32) -> PieceAnswer
+    pub fn decode(&mut self, piece: Vec<u8>, first: u32) -> DecodedPart
         requires { first ≤ self.old.header.limit + 1 }
-        ensures answer { IsPieceDecoded self.old.header first (records_left state.StartRecord piece.items) result }
-        ensures numbers { first + length result.ids ≤ 4294967296 }
+        ensures answer { IsPartDecoded self.old.header first (records_left state.StartRecord piece.items) result.answer result.rest }
+        ensures numbers { first + length result.answer.ids ≤ 4294967296 }
+        ensures within { IfSome result.rest (λ rest. rest.first ≤ self.old.header.limit + 1) }
         ensures header { self.new.header ≡ self.old.header }
     {
         self.records.load(piece);
         self.decode_left(first)
+    }
+
+    /// Decodes the rest of a piece of this table. The answer is like that of `decode`.
+    pub fn decode_rest(&mut self, rest: PieceRest) -> DecodedPart
+        requires { rest.first ≤ self.old.header.limit + 1 }
+        ensures answer { IsPartDecoded self.old.header rest.first rest.rows result.answer result.rest }
+        ensures numbers { rest.first + length result.answer.ids ≤ 4294967296 }
+        ensures within { IfSome result.rest (λ rest. rest.first ≤ self.old.header.limit + 1) }
+        ensures header { self.new.header ≡ self.old.header }
+    {
+        let PieceRest { records, first } = rest;
+        self.records = records;
+        let answer = self.begin();
+        self.decode_read(first, answer)
     }
 
     /// Returns the vector of the last piece, with any bytes, for reading a later piece into it. No
@@ -142,18 +161,19 @@ impl PieceDecoder<'_> {
     }
 
     /// Decodes the rows after the header in a table's head. The answer is like that of `decode`.
-    pub fn decode_head(&mut self, head: &FirstRecords) -> PieceAnswer
-        ensures answer { IsPieceDecoded self.old.header 1 (drop 1 head.now) result }
-        ensures numbers { 1 + length result.ids ≤ 4294967296 }
+    pub fn decode_head(&mut self, head: &FirstRecords) -> DecodedPart
+        ensures answer { IsPartDecoded self.old.header 1 (drop 1 head.now) result.answer result.rest }
+        ensures numbers { 1 + length result.answer.ids ≤ 4294967296 }
+        ensures within { IfSome result.rest (λ rest. rest.first ≤ self.old.header.limit + 1) }
         ensures header { self.new.header ≡ self.old.header }
     {
         let Ok(piece) = head.piece(self.alloc) else {
-            return PieceAnswer::refused(self.alloc, self.header.table());
+            return DecodedPart::refused(self.alloc, self.header.table());
         };
         self.records.load(piece);
         match self.records.read() {
             Ok(_) => self.decode_left(1),
-            Err(_) => PieceAnswer::refused(self.alloc, self.header.table()),
+            Err(_) => DecodedPart::refused(self.alloc, self.header.table()),
         }
     }
 
@@ -166,40 +186,89 @@ impl PieceDecoder<'_> {
     }
 
     /// Decodes the records that are left of the current piece.
-    fn decode_left(&mut self, first: u32) -> PieceAnswer
+    fn decode_left(&mut self, first: u32) -> DecodedPart
         requires { first ≤ self.old.header.limit + 1 }
-        ensures answer { IsPieceDecoded self.old.header first self.old.left result }
-        ensures numbers { first + length result.ids ≤ 4294967296 }
+        ensures answer { IsPartDecoded self.old.header first self.old.left result.answer result.rest }
+        ensures numbers { first + length result.answer.ids ≤ 4294967296 }
+        ensures within { IfSome result.rest (λ rest. rest.first ≤ self.old.header.limit + 1) }
+        ensures header { self.new.header ≡ self.old.header }
+    {
+        let mut answer = self.begin();
+        if self.read_row(&mut answer) {
+            self.decode_read(first, answer)
+        } else {
+            DecodedPart::whole(answer)
+        }
+    }
+
+    /// Decodes the current record and those that are left of the current piece, until the texts of
+    /// the facts are long.
+    fn decode_read(&mut self, first: u32, none: PieceAnswer) -> DecodedPart
+        requires first { first ≤ self.old.header.limit + 1 }
+        requires none { none ≡ no_rows }
+        ensures answer { IsPartDecoded self.old.header first (self.old.current ∷ self.old.left) result.answer result.rest }
+        ensures numbers { first + length result.answer.ids ≤ 4294967296 }
+        ensures within { IfSome result.rest (λ rest. rest.first ≤ self.old.header.limit + 1) }
         ensures header { self.new.header ≡ self.old.header }
     {
         let table = self.header.table();
-        let mut answer = self.begin();
+        let mut answer = none;
         let mut number = first;
         for _ in 0..u64::MAX {
-            if !self.next_row(number, &mut answer) {
-                return answer;
+            if !self.add_row(number, &mut answer) {
+                return DecodedPart::whole(answer);
+            }
+            if !self.read_row(&mut answer) {
+                return DecodedPart::whole(answer);
             }
             number += 1;
+            if answer.is_long() {
+                return self.stop(number, answer);
+            }
         }
         answer.end(whole_fault(table, TableKind::Memory));
-        answer
+        DecodedPart::whole(answer)
     }
 
-    /// Adds row `number`, the next record, to an answer and returns true, or ends the answer and
-    /// returns false.
-    fn next_row(&mut self, number: u32, answer: &mut PieceAnswer) -> bool
-        requires { answer.old.fault ≡ None }
-        ensures row { StepsRow self.old.header number self.old.left answer.old result self.new.left answer.new }
+    /// Ends an answer before the current record, which is row `number`. No record is left then.
+    fn stop(&mut self, number: u32, answer: PieceAnswer) -> DecodedPart
+        ensures answer { result.answer ≡ answer }
+        ensures rest { result.rest ≡ Some (record { first = number; rows = self.old.current ∷ self.old.left }) }
+        ensures header { self.new.header ≡ self.old.header }
+    {
+        let none = PieceRecords::new(self.alloc, Vec::new(self.alloc));
+        let records = mem::replace(&mut self.records, none);
+        DecodedPart {
+            answer,
+            rest: Some(PieceRest {
+                records,
+                first: number,
+            }),
+        }
+    }
+
+    /// Reads the next record and returns true. If none is left returns false; if memory runs out
+    /// also ends the answer.
+    fn read_row(&mut self, answer: &mut PieceAnswer) -> bool
+        ensures row { ReadsRow self.old.header.table self.old.left answer.old result self.new.current self.new.left answer.new }
         ensures header { self.new.header ≡ self.old.header }
     {
         match self.records.read() {
-            Ok(true) => {}
-            Ok(false) => return false,
+            Ok(is_read) => is_read,
             Err(_) => {
                 answer.end(whole_fault(self.header.table(), TableKind::Memory));
-                return false;
+                false
             }
         }
+    }
+
+    /// Adds row `number`, the current record, to an answer and returns true, or ends the answer and
+    /// returns false.
+    fn add_row(&mut self, number: u32, answer: &mut PieceAnswer) -> bool
+        requires { answer.old.fault ≡ None }
+        ensures row { StepsRow self.old.header number (self.old.current ∷ self.old.left) answer.old result self.new.left answer.new }
+        ensures header { self.new.header ≡ self.old.header }
+    {
         let fields = self.records.fields();
         let texts = self.records.text_fields();
         if let Some(fault) = fault_of(&self.header, number, &self.ids, &fields, &texts) {

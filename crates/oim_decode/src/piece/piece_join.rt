@@ -156,6 +156,11 @@ impl JoinedPiece {
         self.fault
     }
 
+    /// Returns how many bytes the texts of the facts have.
+    pub fn bytes(&self) -> usize {
+        self.rows.bytes()
+    }
+
     /// Returns the facts of the piece in blocks of 1 to 256, in header order, row by row.
     pub fn into_blocks(self, alloc: Global) -> Result<Vec<Block>, AllocError>
         ensures { IfOk result (λ blocks. facts_of_rows blocks.items ≡ facts_of_rows self.rows) }

@@ -27,12 +27,18 @@ const FEW: usize = 16;
 pub(crate) struct PieceRows {
     full: Vec<WrittenRows>,
     last: WrittenRows,
+    // How many bytes the texts of the full stretches had as these were closed.
+    closed: usize,
 }
 
 // Written by hand so that dropping one elsewhere compiles to a single call.
 impl Drop for PieceRows {
     fn drop(self) {
-        let Self { full: _, last: _ } = self;
+        let Self {
+            full: _,
+            last: _,
+            closed: _,
+        } = self;
     }
 }
 
@@ -72,7 +78,13 @@ impl PieceRows {
         PieceRows {
             full: Vec::new(alloc),
             last: WrittenRows::within(alloc, spare),
+            closed: 0,
         }
+    }
+
+    /// Returns how many bytes the texts of the facts have, or had before rows were cut.
+    pub(crate) fn bytes(&self) -> usize {
+        self.closed.saturating_add(self.last.bytes())
     }
 
     /// Starts a new stretch, whose texts go to the spare vector `spare`. The rows stay.
@@ -84,9 +96,13 @@ impl PieceRows {
             self.full.reserve(FEW)?;
         }
         let next = self.last.like(alloc, spare)?;
+        let bytes = self.bytes();
         let full = mem::replace(&mut self.last, next);
         match self.full.push(full) {
-            Ok(()) => Ok(()),
+            Ok(()) => {
+                self.closed = bytes;
+                Ok(())
+            }
             Err(failed) => {
                 self.last = failed.value;
                 Err(AllocError)
@@ -112,7 +128,11 @@ impl PieceRows {
     pub(crate) fn into_stretches(self) -> (Vec<WrittenRows>, WrittenRows)
         ensures { self ≡ stretches result.0.items ++ result.1 }
     {
-        let PieceRows { full, last } = self;
+        let PieceRows {
+            full,
+            last,
+            closed: _,
+        } = self;
         (full, last)
     }
 

@@ -3,7 +3,7 @@ use Rattle.std.specs.Prelude.{◌≡◌, ◌+◌, ◌≤◌, Option, Some, None,
 use Rattle.csv.specs.declared.parser.State.TheVariants as state
 use Rattle.oim_records.specs.Grids.{records_left}
 use Rattle.oim_rows.specs.RowFacts.{TableHeaderValue}
-use Rattle.oim_decode.specs.Apart.{Apart}
+use Rattle.oim_decode.specs.declared.piece.piece_rest.DecodedPart.{DecodedPart}
 use Rattle.oim_pieces.specs.state.PiecesUnderWay.{IsPieceAnswer}
 use Rattle.oim_pieces.specs.declared.decoded.Asked.{Asked}
 use Rattle.oim_pieces.specs.declared.in_channel.PieceToDecode.{PieceToDecode}
@@ -32,7 +32,7 @@ IsReadBy g None = ⊥
 IsReadBy g (Some a) = a.header.value ≡ g
 
 -- The answer is for the piece that the channel is of.
-abbrev pub IsAnswerIn : Option Asked → Apart → Type 0
+abbrev pub IsAnswerIn : Option Asked → DecodedPart → Type 0
 IsAnswerIn known answer = IfSome known (λ a. IsPieceAnswer a.header.value a.first a.rows.value answer)
 
 -- The channel is of the piece that was asked for.

@@ -9,7 +9,8 @@ use Rattle.oim_rows.specs.Streams.{IsOutside, Stream, ending, facts_of_rows, str
 use Rattle.oim_rows.specs.declared.fault.TableFault.{TableFault}
 use Rattle.oim_decode.specs.Apart.{Apart}
 use Rattle.oim_decode.specs.Blocks.{ReadsRows}
-use Rattle.oim_decode.specs.PieceAnswers.{IsJoined, IsPieceDecoded}
+use Rattle.oim_decode.specs.PieceAnswers.{IsJoined, IsPartDecoded, RestLeft}
+use Rattle.oim_decode.specs.declared.piece.piece_rest.DecodedPart.{DecodedPart}
 use Rattle.oim_pieces.specs.state.Cutting.{CutterLeft}
 use Rattle.oim_pieces.specs.PiecesLeft.{steps_for}
 
@@ -19,10 +20,11 @@ pub record PieceRowsLeft : Type 0 where
   pub first : ℕ
   pub rows : List Record
 
--- The answer for a piece. No identifier in it belongs to a row after number 4,294,967,295.
-pub record IsPieceAnswer (g : TableHeaderValue) (first : ℕ) (rows : List Record) (a : Apart) : Type 0 where
-  pub decoded : IsPieceDecoded g first rows a
-  pub few : first + length a.ids ≤ 4294967296
+-- The answer for a piece, or for its rows before a rest. No identifier in it belongs to a row after
+-- number 4,294,967,295.
+pub record IsPieceAnswer (g : TableHeaderValue) (first : ℕ) (rows : List Record) (a : DecodedPart) : Type 0 where
+  pub decoded : IsPartDecoded g first rows a.answer a.rest
+  pub few : first + length a.answer.ids ≤ 4294967296
 
 -- The number of the first row of the pieces, or the next row's number if there are no pieces.
 abbrev pub first_row_of : List PieceRowsLeft → ℕ → ℕ
@@ -88,7 +90,7 @@ IsEndOfTable table left None = IfSome left (λ s. s ≡ ending None)
 IsEndOfTable table left (Some e) = IsOutside table e
 
 abbrev pub steps_in : UnderWayLeft → Option ℕ
-steps_in f = steps_for (length f.pieces) f.cutter.unread
+steps_in f = steps_for (length (rows_in f.pieces)) f.cutter.unread
 
 -- There are no more steps than before, if their number was known.
 abbrev pub NoMoreSteps : Option ℕ → Option ℕ → Type 0
@@ -96,9 +98,16 @@ NoMoreSteps None new = ⊤
 NoMoreSteps (Some n) None = ⊥
 NoMoreSteps (Some n) (Some m) = m ≤ n
 
--- The first piece under way was joined to rows with the identifiers `ids`, which become `ids'`.
-pub record IsFront (piece : PieceRowsLeft) (ids : List Field) (s : Stream) (ids' : List Field) : Type 0 where
+-- The rest of a piece as a piece of its own, if there is one.
+abbrev pub rest_piece : TableHeaderValue → Option RestLeft → Option PieceRowsLeft
+rest_piece g rest = option_map (λ (r : RestLeft). record { header = g; first = r.first; rows = r.rows }) rest
+
+-- The first piece under way was joined to rows with the identifiers `ids`, which become `ids'`. If it
+-- was decoded in part, `left` is the piece of the other rows.
+pub record IsFront (piece : PieceRowsLeft) (ids : List Field) (s : Stream) (ids' : List Field) (left : Option PieceRowsLeft) : Type 0 where
   pub answer : Apart
-  pub decoded : IsPieceDecoded piece.header piece.first piece.rows answer
+  pub rest : Option RestLeft
+  pub decoded : IsPartDecoded piece.header piece.first piece.rows answer rest
+  pub remains : left ≡ rest_piece piece.header rest
   pub joined : IsJoined piece.header piece.first ids answer s
   pub behind : s.fault ≡ None → ids' ≡ ids ++ answer.ids

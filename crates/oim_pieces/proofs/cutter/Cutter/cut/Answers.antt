@@ -1,7 +1,7 @@
 use Rattle.std.proofs.Common.{◌≡◌, [], Some, None, ap, sym, subst, ◌∙◌, arith}
 use Rattle.oim_records.specs.Reads.{KeepsLeft, left_behind}
 use Rattle.oim_pieces.specs.state.Cutting.{CutterLeft, left_over}
-use Rattle.oim_pieces.proofs.UnderWayLaws.{rows_few}
+use Rattle.oim_pieces.proofs.RecordCounts.{rows_few}
 use Rattle.oim_pieces.proofs.cutter.Cutter.cut.Goals as goal
 
 pub overflow_add-self : goal.overflow_add-self

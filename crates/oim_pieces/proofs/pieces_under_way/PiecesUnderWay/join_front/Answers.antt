@@ -5,17 +5,5 @@ pub returns-clause-some : goal.returns-clause-some
 returns-clause-some g c =
     let items = c.in_ok-piece.ensures.items in
     joined_front c.args.self.now c.self.inside.threads c.join_piece.new.threads c.self.inside.join c.join_piece.new.join c.in_ok-piece.piece c.self.inside.under_way.items
-    c.pop_front.new.self.items c.self.inside.cutter c.join_piece.result c.self.view_is items c.self.invariant.0 c.self.invariant.2 c.join_piece.ensures.joined
+    c.pop_front.new.self.items c.self.inside.cutter c.join_piece.result.0 c.join_piece.result.1 c.self.view_is items c.self.invariant.0 c.self.invariant.2 c.join_piece.ensures.joined
     c.join_piece.ensures.same
-
-pub returns-clause-next : goal.returns-clause-next
-returns-clause-next g c =
-    let items = c.in_ok-piece.ensures.items in
-    next_joined c.args.self.now c.self.inside.threads c.self.inside.join c.self.inside.under_way.items c.pop_front.new.self.items c.in_ok-piece.piece c.self.inside.cutter
-    c.self.view_is items c.self.invariant.2
-
-pub returns-clause-few : goal.returns-clause-few
-returns-clause-few g c = λ none.
-    let items = c.in_ok-piece.ensures.items in
-    few_joined c.args.self.now c.self.inside.threads c.self.inside.join c.self.inside.under_way.items c.pop_front.new.self.items c.in_ok-piece.piece c.self.inside.cutter
-    c.join_piece.new.join c.join_piece.result c.self.view_is items c.self.invariant.2 c.self.invariant.1 c.join_piece.ensures.joined none

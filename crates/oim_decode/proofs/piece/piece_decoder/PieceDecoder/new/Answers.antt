@@ -9,4 +9,5 @@ use Rattle.oim_decode.proofs.piece.piece_decoder.PieceDecoder.new.Goals as goal
 pub returns : goal.returns
 returns c =
     let none : c.new-3.result.left ≡ [] = ap (λ (p : Piece). p.left) c.new-3.ensures ∙ ap (records_left state.StartRecord) c.new-2.ensures.items ∙ no-record in
-    ap (λ (rs : List Record). piece_left c.args.header rs) none
+    let current : c.new-3.result.fields ≡ [] = ap (λ (p : Piece). p.fields) c.new-3.ensures in
+    ap (λ (r : Record). piece_left c.args.header r c.new-3.result.left) current ∙ ap (λ (rs : List Record). piece_left c.args.header [] rs) none
