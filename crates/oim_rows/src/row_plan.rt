@@ -1,6 +1,6 @@
 //! Turns the cells of a row into its facts.
 
-ghost use Rattle.std.specs.Prelude.{◌≡◌, ◌<◌, Err, IfErr, IfOk, IfSome, OnOk, length, map};
+ghost use Rattle.std.specs.Prelude.{◌≡◌, ◌<◌, Err, IfErr, IfOk, IfSome, IsOk, OnOk, length, map};
 ghost use Rattle.std.specs.List.{range_with_len};
 ghost use Rattle.std.specs.String.{string_bytes};
 ghost use Rattle.oim_report.specs.Readers.{columns_of};
@@ -204,6 +204,7 @@ impl RowPlan<'_> {
     ) -> Result<(), TableFault>
         requires header { header.now ≡ self.now }
         requires cells { length row.now.cells ≡ length (columns_of (self.now).report (self.now).table) }
+        ensures good { OnOk result (IsOk (facts_from (self.now).report (self.now).table row.now 0 (self.now).columns)) }
         ensures fault { IfErr result (λ e. OrNoMemory (self.now).table (Err e) (facts_from (self.now).report (self.now).table row.now 0 (self.now).columns)) }
     {
         let columns = header.columns();
@@ -225,6 +226,7 @@ impl RowPlan<'_> {
     ) -> Result<(), TableFault>
         requires header { header.now ≡ self.now }
         requires texts { IsTextRecord row.now }
+        ensures good { OnOk result (IsOk (facts_from (self.now).report (self.now).table (row_of self.now number row.now) 0 (self.now).columns)) }
         ensures fault { IfErr result (λ e. OrNoMemory (self.now).table (Err e) (facts_from (self.now).report (self.now).table (row_of self.now number row.now) 0 (self.now).columns)) }
     {
         let Ok(cells) = self.row(alloc, header, number, row) else {
