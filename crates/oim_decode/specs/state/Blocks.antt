@@ -7,14 +7,16 @@ use Rattle.oim_rows.specs.RowFacts.{TableHeaderValue}
 use Rattle.oim_rows.specs.Streams.{GivesNext, IsOutside, Stream, ending, facts_of_rows}
 use Rattle.oim_rows.specs.declared.fault.TableFault.{TableFault}
 use Rattle.oim_decode.specs.Blocks.{BlocksLeft, ReadsRows}
+use Rattle.oim_decode.specs.state.RowParts.{RowRestValue, facts_left}
 
 -- A table's header and how many of its rows were read. For a reader whose bytes are known, also the
--- stream of the other rows and the unread records.
+-- stream of the other rows and the unread records. `rest` is what is not written yet of the last row.
 pub record RowsUnread : Type 0 where
   pub header : TableHeaderValue
   pub given : ℕ
   pub left : Option Stream
   pub unread : Option (List Record)
+  pub rest : Option RowRestValue
 
 -- The stream that is left of a table: its end once that was found, else the given stream.
 abbrev pub end_or_left : Option (Option TableFault) → Option Stream → Option Stream
@@ -28,7 +30,7 @@ blocks_left rows facts settled = record {
   table = rows.header.table;
   limit = rows.header.limit;
   given = rows.given;
-  pending = facts;
+  pending = facts ++ facts_left rows.rest;
   answered = settled;
   left = end_or_left settled rows.left;
   unread = rows.unread;

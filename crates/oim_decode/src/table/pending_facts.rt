@@ -55,6 +55,34 @@ impl Denotes<Items<Fact>> for RowNote<'_, '_, '_> {
     ghost denoted = { λ t. facts_of_answer (facts_of_row t.row.now) };
 }
 
+/// The facts of a row whose texts are not written yet, from the column of facts at an index on.
+///
+/// Contracts see the index and these facts.
+#[derive(Drop)]
+pub(crate) struct RowRest {
+    next: usize,
+    facts: GhostValue<Items<Fact>>,
+}
+
+impl Model for RowRest {
+    ghost use Rattle.oim_decode.specs.state.RowParts.{RowRestValue};
+
+    ghost Value = { RowRestValue };
+
+    ghost view = { λ a. record { next = a.next; facts = a.facts.value } };
+}
+
+/// The first facts of a list.
+#[derive(Drop)]
+struct Written<'a> {
+    facts: &'a GhostValue<Items<Fact>>,
+    count: usize,
+}
+
+impl Denotes<Items<Fact>> for Written<'_> {
+    ghost denoted = { λ t. take t.count t.facts.now.value };
+}
+
 /// Returns how many bytes to reserve for texts of this length: 0 if they fit, else somewhat more
 /// than the length, so that they rarely move.
 fn more_than(capacity: usize, length: usize) -> usize {
@@ -153,6 +181,89 @@ impl PendingFacts {
                 self.ends.truncate(count);
                 Err(fault)
             }
+        }
+    }
+
+    /// Adds the facts of a row, or only the first of them if their texts are long. Then it returns
+    /// the others.
+    ///
+    /// Fails as `push_row` does.
+    pub(crate) fn begin_row<'a>(
+        &mut self,
+        alloc: Global,
+        texts: &mut RowTexts<'a>,
+        row: &TableRow<'a, '_>,
+        fields: &Fields<'_>,
+    ) -> Result<Option<RowRest>, TableFault>
+        requires header { row.now.header ≡ texts.old }
+        requires fields { fields.now ≡ row.now.fields }
+        requires texts { IsTextRecord fields.now }
+        ensures facts { BeginsRow row.now self.old self.new result }
+        ensures same { texts.new ≡ texts.old }
+    {
+        let all = GhostValue::of(&RowNote { row });
+        let length = self.bytes.len();
+        let count = self.ends.len();
+        match texts.begin_row(alloc, row, fields, &mut self.bytes, &mut self.ends) {
+            Ok(next) => Ok(self.note(next, &all, count)),
+            Err(fault) => {
+                self.bytes.truncate(length);
+                self.ends.truncate(count);
+                Err(fault)
+            }
+        }
+    }
+
+    /// Adds more facts of a row, and returns those that are left.
+    ///
+    /// Fails with Memory if memory runs out. Then nothing is added.
+    pub(crate) fn put_more<'a>(
+        &mut self,
+        alloc: Global,
+        texts: &mut RowTexts<'a>,
+        row: &TableRow<'a, '_>,
+        rest: RowRest,
+    ) -> Result<Option<RowRest>, TableFault>
+        requires header { row.now.header ≡ texts.old }
+        requires rest { IsRestOf row.now (Some rest) }
+        ensures facts { IfOk result (λ left. (self.new ++ facts_left left ≡ self.old ++ rest.facts) × IsRestOf row.now left) }
+        ensures fault { IfErr result (λ e. (e ≡ file_fault row.now.header.table kind.Memory) × (self.new ≡ self.old)) }
+        ensures same { texts.new ≡ texts.old }
+    {
+        let length = self.bytes.len();
+        let count = self.ends.len();
+        match texts.put_more(alloc, row, rest.next, &mut self.bytes, &mut self.ends) {
+            Ok(next) => Ok(self.note(next, &rest.facts, count)),
+            Err(fault) => {
+                self.bytes.truncate(length);
+                self.ends.truncate(count);
+                Err(fault)
+            }
+        }
+    }
+
+    // Notes that the texts after the first `count` are those of the first of these facts. Returns
+    // the others.
+    fn note(
+        &mut self,
+        next: Option<usize>,
+        facts: &GhostValue<Items<Fact>>,
+        count: usize,
+    ) -> Option<RowRest> {
+        let written = self.ends.len() - count;
+        self.facts = then(
+            &self.facts,
+            &Written {
+                facts,
+                count: written,
+            },
+        );
+        match next {
+            Some(next) => Some(RowRest {
+                next,
+                facts: rest(facts, written),
+            }),
+            None => None,
         }
     }
 

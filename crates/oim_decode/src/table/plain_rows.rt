@@ -57,6 +57,24 @@ fn put_facts(
     Ok(())
 }
 
+/// Returns the facts of a row. It first tests all cells, so that a bad row keeps no facts.
+fn checked_facts(
+    alloc: Global,
+    plan: &RowPlan<'_>,
+    row: &TableRow<'_, '_>,
+    fields: &Fields<'_>,
+) -> Result<Items<Fact>, TableFault>
+    requires header { row.now.header ≡ plan.now }
+    requires fields { fields.now ≡ row.now.fields }
+    requires texts { IsTextRecord fields.now }
+    ensures facts { OrNoMemory row.now.header.table result (facts_of_row row.now) }
+{
+    if let Err(fault) = plan.check(alloc, row.header(), row.number(), fields) {
+        return Err(fault);
+    }
+    plan.facts(alloc, row.header(), row.number(), fields)
+}
+
 impl<'a> PlainRows<'a> {
     /// Makes the plain way for a header, without taking memory.
     pub(crate) fn new(header: &TableHeader<'a>) -> PlainRows<'a>
@@ -82,12 +100,12 @@ impl<'a> PlainRows<'a> {
         ensures same { self.new ≡ self.old }
     {
         if let Some(plan) = &self.plan {
-            return plan.facts(alloc, row.header(), row.number(), fields);
+            return checked_facts(alloc, plan, row, fields);
         }
         let Ok(plan) = RowPlan::new(alloc, row.header()) else {
             return Err(whole_fault(row.table(), TableKind::Memory));
         };
-        let facts = plan.facts(alloc, row.header(), row.number(), fields);
+        let facts = checked_facts(alloc, &plan, row, fields);
         self.plan = Some(plan);
         facts
     }

@@ -129,7 +129,14 @@ impl<R: Read + Drop> TableBlocks<'_, R> {
 
         ensures same { (self.new.table ≡ self.old.table) × (self.new.limit ≡ self.old.limit) }
     {
-        let whole = self.fill();
+        let whole = if self.rows.is_open() {
+            if let Err(fault) = self.fill_from_row() {
+                return self.lose(fault);
+            }
+            0
+        } else {
+            self.fill()
+        };
         let count = self.facts.count();
         if count == 0 {
             return match self.settled {
@@ -144,11 +151,25 @@ impl<R: Read + Drop> TableBlocks<'_, R> {
             Ok(block) => Ok(Some(block)),
             Err(_) => {
                 let fault = whole_fault(self.rows.table(), TableKind::Memory);
-                self.facts = PendingFacts::new(self.alloc);
-                self.settled = Some(Some(fault));
-                Err(fault)
+                self.lose(fault)
             }
         }
+    }
+
+    // Settles the table with a fault, and drops the facts that wait.
+    fn lose(&mut self, fault: TableFault) -> Result<Option<Block>, TableFault> {
+        self.facts = PendingFacts::new(self.alloc);
+        self.rows.close();
+        self.settled = Some(Some(fault));
+        Err(fault)
+    }
+
+    // Adds more facts of the last row, unless the texts that wait are long.
+    fn fill_from_row(&mut self) -> Result<(), TableFault> {
+        if self.facts.bytes() > LONG {
+            return Ok(());
+        }
+        self.rows.put_more(&mut self.facts)
     }
 
     // Reads rows until one more might exceed a block. Returns how many facts there were before the
@@ -169,6 +190,9 @@ impl<R: Read + Drop> TableBlocks<'_, R> {
             match self.settled {
                 Some(_) => return whole,
                 None => {}
+            }
+            if self.rows.is_open() {
+                return whole;
             }
             whole = self.facts.count();
             match self.rows.next_row(&mut self.facts) {

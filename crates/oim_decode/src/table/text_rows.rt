@@ -13,7 +13,7 @@ ghost use Rattle.oim_decode.specs.state.Blocks.{AddsNone, AddsRow, CountsRow, Ta
 ghost use Rattle.oim_decode.specs.state.Heads.{IsHeaderFault};
 ghost use Rattle.oim_decode.specs.state.RowTexts.{AddsFacts};
 
-use crate::table::pending_facts::PendingFacts;
+use crate::table::pending_facts::{PendingFacts, RowRest};
 use crate::table::row_texts::RowTexts;
 use oim_fast::TableRow;
 use oim_records::{Fields, ReadFault, RecordReader};
@@ -40,6 +40,8 @@ pub(crate) struct TextRows<'a, R: Read + Drop> {
     // compared with `ids` when it is added to them.
     no_ids: RowIds,
     given: u32,
+    // The facts of the last row that are not written yet.
+    rest: Option<RowRest>,
 }
 
 impl<'a, R: Read + Drop> Model for TextRows<'a, R> {
@@ -54,9 +56,11 @@ impl<'a, R: Read + Drop> Model for TextRows<'a, R> {
       given = a.given;
       left = option_map (stream_from a.header (a.given + 1) a.ids) a.records.left;
       unread = a.records.left;
+      rest = a.rest;
     } };
 
-    ghost invariant = { λ a. (a.texts ≡ a.header) × (a.no_ids ≡ []) × (a.given ≤ a.header.limit) × (a.header.limit < 2 ^ 32 - 1) };
+    ghost invariant = { λ a. (a.texts ≡ a.header) × (a.no_ids ≡ []) × (a.given ≤ a.header.limit) × (a.header.limit < 2 ^ 32 - 1)
+        × (IsSome a.rest → IsTextRecord a.records.fields) × IsRestOf (record { header = a.header; number = a.given; fields = a.records.fields }) a.rest };
 }
 
 impl<'a, R: Read + Drop> TextRows<'a, R> {
@@ -97,6 +101,7 @@ impl<'a, R: Read + Drop> TextRows<'a, R> {
             ids: RowIds::new(alloc),
             no_ids: RowIds::new(alloc),
             given: 0,
+            rest: None,
         })
     }
 }
@@ -122,7 +127,8 @@ impl<R: Read + Drop> TextRows<'_, R> {
     /// Fails with the row's first fault, with Read if the reader failed, and with Memory if memory
     /// runs out. Then nothing is added.
     pub(crate) fn next_row(&mut self, facts: &mut PendingFacts) -> Result<bool, TableFault>
-        ensures next { IfSome self.old.left (λ s. AddsRow self.old.header.table s facts.old facts.new result self.new.left) }
+        requires closed { self.old.rest ≡ None }
+        ensures next { IfSome self.old.left (λ s. AddsRow self.old.header.table s facts.old (facts.new ++ facts_left self.new.rest) result self.new.left) }
         ensures header { self.new.header ≡ self.old.header }
         ensures counts { CountsRow self.old.header.limit result self.old.given self.new.given }
         ensures none { AddsNone result facts.old facts.new }
@@ -152,9 +158,46 @@ impl<R: Read + Drop> TextRows<'_, R> {
             &fields,
             facts,
         ) {
-            Ok(()) => {
+            Ok(rest) => {
                 self.given = number;
+                self.rest = rest;
                 Ok(true)
+            }
+            Err(fault) => Err(fault),
+        }
+    }
+
+    /// Returns whether facts of the last row are not written yet.
+    pub(crate) fn is_open(&self) -> bool
+        ensures { result ≡ is_some (self.now).rest }
+    {
+        self.rest.is_some()
+    }
+
+    /// Drops the facts of the last row that are not written yet.
+    pub(crate) fn close(&mut self)
+        ensures { self.new ≡ record self.old { rest = None } }
+    {
+        self.rest = None;
+    }
+
+    /// Adds more facts of the last row.
+    pub(crate) fn put_more(&mut self, facts: &mut PendingFacts) -> Result<(), TableFault>
+        ensures facts { OnOk result (facts.new ++ facts_left self.new.rest ≡ facts.old ++ facts_left self.old.rest) }
+        ensures fault { IfErr result (λ e. (e ≡ file_fault self.old.header.table kind.Memory) × (facts.new ≡ facts.old)) }
+        ensures same { self.new ≡ record self.old { rest = self.new.rest } }
+    {
+        let Some(rest) = self.rest.take() else {
+            return Ok(());
+        };
+        let Some(texts) = self.records.text_fields() else {
+            unreachable!()
+        };
+        let row = TableRow::new(&self.header, self.given, &texts);
+        match facts.put_more(self.alloc, &mut self.texts, &row, rest) {
+            Ok(rest) => {
+                self.rest = rest;
+                Ok(())
             }
             Err(fault) => Err(fault),
         }
@@ -245,7 +288,7 @@ fn add_row<'a>(
     row: &TableRow<'a, '_>,
     fields: &Fields<'_>,
     facts: &mut PendingFacts,
-) -> Result<(), TableFault>
+) -> Result<Option<RowRest>, TableFault>
     requires header { row.now.header ≡ texts.old }
     requires fields { fields.now ≡ row.now.fields }
     requires row { row_fault row.now.header row.now.number [] row.now.fields ≡ None }
@@ -256,7 +299,7 @@ fn add_row<'a>(
     ensures same { texts.new ≡ texts.old }
 {
     match keep_id(alloc, row, ids) {
-        Ok(()) => facts.push_row(alloc, texts, row, fields),
+        Ok(()) => facts.begin_row(alloc, texts, row, fields),
         Err(fault) => Err(fault),
     }
 }
