@@ -412,8 +412,8 @@ class Holding:
                 texts = {block: read_block(file, start, block) for block in blocks}
                 types = held_types(module, texts) if self.has_many else None
             self.room -= size
-            file = file_of(texts[module.types])
-            held[path] = Entry(module, texts.__getitem__, file, types)
+            types_file = file_of(texts[module.types])
+            held[path] = Entry(module, texts.__getitem__, types_file, types)
             gc.freeze()  # as the run does at its begin
 
 

@@ -66,31 +66,20 @@ class Files:
     @staticmethod
     def of(report: Found, merged: Merged) -> Files:
         """Return the files that the merged metadata of a report names."""
+        tables = objects(merged.value, "tables")
+        urls = frozenset(table["url"] for _, table in tables if is_plain(table.get("url")))
         parameters = merged.value.get("parameterURL")
         return Files(
             package=report.package,
             report=report.label,
             folder=report.name[: report.name.rfind("/") + 1],
             merged=merged,
-            tables=Files.of_tables(merged),
+            tables=urls,
             parameters=parameters if is_plain(parameters) else None,
         )
 
-    @staticmethod
-    def of_tables(merged: Merged) -> FrozenSet[str]:
-        """Return the URLs of the tables that the merged metadata has."""
-        tables = objects(merged.value, "tables")
-        return frozenset(table["url"] for _, table in tables if is_plain(table.get("url")))
-
     def all(self) -> List[str]:
         return sorted(self.tables | ({self.parameters} if self.parameters is not None else set()))
-
-    def named(self) -> List[str]:
-        """Return the same without those that only tables have which are left out."""
-        if not self.left_out:
-            return self.all()
-        urls = Files.of_tables(self.merged)
-        return [url for url in self.all() if url in urls or url == self.parameters]
 
     def name(self, url: str) -> str:
         """Return a file's name in the package.
@@ -253,7 +242,7 @@ def write_files(folder: str, files: Files, types: TypesTable, copy: bool) -> Wri
     names = files.new_names()
     merged = files.merged.with_urls(names)
     shown: Dict[str, str] = {}
-    for url in files.named():
+    for url in files.all():
         target, name = names.get(url, url), files.name(url)
         shown[target] = files.package.shown(name)
         put_file(os.path.join(folder, *target.split("/")), files.package, name, copy)
