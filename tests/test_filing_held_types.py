@@ -115,7 +115,7 @@ class TestManyReports(TestCase):
         return found, set(map(int, counts.read_text().split()))
 
     def measured(self, path: Path) -> bytes:
-        """Returns a file's bytes without names of temporary files; of an outcome, without measures."""
+        """Returns a file's bytes without temporary names; of an outcome, without measures."""
         if path.suffix != ".outcome":
             return re.sub(rb"xbrl-filing-[0-9a-f]{16}", b"xbrl-filing", path.read_bytes())
         outcome = json.loads(path.read_bytes())
