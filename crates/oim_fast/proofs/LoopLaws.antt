@@ -14,7 +14,7 @@ use Rattle.oim_rows.specs.Header.{Header}
 use Rattle.oim_rows.specs.RowFacts.{at_place, facts_from, in_front, is_fact_column}
 use Rattle.oim_rows.specs.declared.fault.TableFault.{TableFault}
 use Rattle.oim_fast.specs.state.CellWriters.{GivesPart, HasFacts, column_at}
-use Rattle.oim_fast.specs.Facts.{GiveFacts, HasFactsFrom, HasPart, WritesFacts, WritesPart, fact_columns_in}
+use Rattle.oim_fast.specs.Facts.{GiveFacts, HasPart, WritesFacts, WritesPart, fact_columns_in}
 use Rattle.oim_fast.specs.state.Facts.{WritesFact, fact_text}
 use Rattle.oim_row.specs.Rows.{RowValue, columns_in, row_in}
 use Rattle.oim_row.specs.state.Rows.{cell_in}
@@ -30,7 +30,7 @@ joined_front None fs = refl
 joined_front (Some f) fs = refl
 
 -- The columns of facts of a header give what the header gives.
-facts_found : (x : RowValue) (p : ℕ) (h : Header) (fs : List Fact) → GiveFacts x (fact_columns_in x.header h) fs → facts_from x.header.report x.header.table (row_in x) p h ≡ Ok fs
+pub facts_found : (x : RowValue) (p : ℕ) (h : Header) (fs : List Fact) → GiveFacts x (fact_columns_in x.header h) fs → facts_from x.header.report x.header.table (row_in x) p h ≡ Ok fs
 facts_found x p [] fs g = ap (λ (q : List Fact). Ok q) (sym g)
 facts_found x p (None ∷ h) fs g = facts_found x (p + 1) h fs g
 facts_found x p (Some c ∷ h) fs g = by (λ gs k. facts_found x (p + 1) h gs k) (is_fact_column (columns_in x.header) c) g
@@ -149,26 +149,6 @@ part_stays p = (behind_commas p.facts, sym p.text)
 
 pub part_ends_stay : {x : RowValue} {i j : ℕ} {old new noted ns : List ℕ} → WritesPart x i j old new noted ns → IsPrefix noted ns
 part_ends_stay {x} {i} {j} {old} p = (ends_from (length old) p.facts, sym p.ends)
-
--- What some columns give is the first part of what all give.
-pub give_split : (x : RowValue) (k : ℕ) (cs : List ℕ) (part all : List Fact) → GiveFacts x (take k cs) part → GiveFacts x cs all → (rest : List Fact) × (all ≡ part ++ rest) × GiveFacts x (drop k cs) rest
-give_split x 0 cs part all p a = (all, ap (λ (q : List Fact). q ++ all) (sym p), a)
-give_split x (suc k) [] part all p a = ([], a ∙ sym (append-nil part ∙ p), refl)
-give_split x (suc k) (c ∷ cs) part all (o, more, is, same, given) (o', more', is', same', given') =
-    let one : o ≡ o' = cc (is, is') in
-    let later = give_split x k cs more more' given given' in (
-      later.0,
-      same' ∙ ap (λ (q : List Fact). option_to_list o' ++ q) later.1.0 ∙ sym (append_assoc (option_to_list o') more later.0)
-          ∙ ap (λ (q : List Fact). q ++ later.0) (ap (λ (q : Option Fact). option_to_list q ++ more) (sym one) ∙ sym same),
-      later.1.1,
-    )
-
--- What both parts give is what all give.
-pub give_join : (x : RowValue) (k : ℕ) (cs : List ℕ) (part rest : List Fact) → GiveFacts x (take k cs) part → GiveFacts x (drop k cs) rest → GiveFacts x cs (part ++ rest)
-give_join x 0 cs part rest p r = subst (λ (q : List Fact). GiveFacts x cs (q ++ rest)) (sym p) r
-give_join x (suc k) [] part rest p r = ap (λ (q : List Fact). q ++ rest) p ∙ r
-give_join x (suc k) (c ∷ cs) part rest (o, more, is, same, given) r =
-    (o, more ++ rest, is, ap (λ (q : List Fact). q ++ rest) same ∙ append_assoc (option_to_list o) more rest, give_join x k cs more rest given r)
 
 -- The old text stays.
 pub text_stays : {x : RowValue} {i : ℕ} {old new noted ns : List ℕ} → HasFacts x i old new noted ns → IsPrefix old new

@@ -1,11 +1,16 @@
 //! The texts of facts that wait to be given.
 
-ghost use Rattle.std.specs.Prelude.{◌≡◌, ◌≤◌, [], IfOk, OnErr, OnOk, drop, length, take};
+ghost use Rattle.std.specs.Prelude.{◌≡◌, ◌≤◌, ◌++◌, [], IfErr, IfOk, OnErr, OnOk, drop, length, take};
+ghost use Rattle.oim_json.specs.Blocks.{behind_commas};
 ghost use Rattle.oim_fast.specs.Facts.{facts_of_row};
 ghost use Rattle.oim_rows.specs.RowFacts.{IsTextRecord};
+ghost use Rattle.oim_rows.specs.Header.{file_fault};
+ghost use Rattle.oim_rows.specs.declared.fault.TableKind.TheVariants as kind;
+ghost use Rattle.oim_decode.specs.state.RowParts.{AddsParts, IsLeft, IsRestOf, with_rest};
 ghost use Rattle.oim_decode.specs.state.RowTexts.{AddsFacts, facts_of_answer};
 
-use crate::table::fact_list::{first, none, rest, then};
+use crate::table::fact_list::{first, none, rest, then, then_first};
+use crate::table::row_rest::RowRest;
 use crate::table::row_texts::RowTexts;
 use crate::table::table_blocks::MOST;
 use ghost_value::{Denotes, GhostValue};
@@ -53,34 +58,6 @@ struct RowNote<'a, 'b, 'r> {
 
 impl Denotes<Items<Fact>> for RowNote<'_, '_, '_> {
     ghost denoted = { λ t. facts_of_answer (facts_of_row t.row.now) };
-}
-
-/// The facts of a row whose texts are not written yet, from the column of facts at an index on.
-///
-/// Contracts see the index and these facts.
-#[derive(Drop)]
-pub(crate) struct RowRest {
-    next: usize,
-    facts: GhostValue<Items<Fact>>,
-}
-
-impl Model for RowRest {
-    ghost use Rattle.oim_decode.specs.state.RowParts.{RowRestValue};
-
-    ghost Value = { RowRestValue };
-
-    ghost view = { λ a. record { next = a.next; facts = a.facts.value } };
-}
-
-/// The first facts of a list.
-#[derive(Drop)]
-struct Written<'a> {
-    facts: &'a GhostValue<Items<Fact>>,
-    count: usize,
-}
-
-impl Denotes<Items<Fact>> for Written<'_> {
-    ghost denoted = { λ t. take t.count t.facts.now.value };
 }
 
 /// Returns how many bytes to reserve for texts of this length: 0 if they fit, else somewhat more
@@ -147,7 +124,9 @@ impl PendingFacts {
     }
 
     /// Returns how many bytes the texts have.
-    pub(crate) fn bytes(&self) -> usize {
+    pub(crate) fn bytes(&self) -> usize
+        ensures { result ≡ length (behind_commas self.now) }
+    {
         self.bytes.len()
     }
 
@@ -198,14 +177,19 @@ impl PendingFacts {
         requires header { row.now.header ≡ texts.old }
         requires fields { fields.now ≡ row.now.fields }
         requires texts { IsTextRecord fields.now }
-        ensures facts { BeginsRow row.now self.old self.new result }
+        ensures facts { AddsParts row.now.header.table (facts_of_row row.now) self.old self.new result }
+        ensures rest { IfOk result (IsLeft row.now self.new) }
         ensures same { texts.new ≡ texts.old }
     {
-        let all = GhostValue::of(&RowNote { row });
+        let whole = RowRest::whole(&RowNote { row });
         let length = self.bytes.len();
         let count = self.ends.len();
         match texts.begin_row(alloc, row, fields, &mut self.bytes, &mut self.ends) {
-            Ok(next) => Ok(self.note(next, &all, count)),
+            Ok(next) => {
+                let more = self.ends.len() - count;
+                self.facts = then_first(&self.facts, whole.facts(), more);
+                Ok(whole.after(next, more))
+            }
             Err(fault) => {
                 self.bytes.truncate(length);
                 self.ends.truncate(count);
@@ -214,56 +198,41 @@ impl PendingFacts {
         }
     }
 
-    /// Adds more facts of a row, and returns those that are left.
+    /// Adds more facts of a row, those that are left, until their texts are long again. Returns
+    /// the others.
     ///
-    /// Fails with Memory if memory runs out. Then nothing is added.
+    /// Fails only if memory runs out. Then nothing is added.
     pub(crate) fn put_more<'a>(
         &mut self,
         alloc: Global,
         texts: &mut RowTexts<'a>,
         row: &TableRow<'a, '_>,
-        rest: RowRest,
+        fields: &Fields<'_>,
+        rest: &RowRest,
     ) -> Result<Option<RowRest>, TableFault>
         requires header { row.now.header ≡ texts.old }
-        requires rest { IsRestOf row.now (Some rest) }
-        ensures facts { IfOk result (λ left. (self.new ++ facts_left left ≡ self.old ++ rest.facts) × IsRestOf row.now left) }
-        ensures fault { IfErr result (λ e. (e ≡ file_fault row.now.header.table kind.Memory) × (self.new ≡ self.old)) }
+        requires fields { fields.now ≡ row.now.fields }
+        requires texts { IsTextRecord fields.now }
+        requires rest { IsRestOf row.now rest.now }
+        ensures facts { IfOk result (λ left. with_rest self.new left ≡ self.old ++ rest.now.facts) }
+        ensures rest { IfOk result (IsLeft row.now self.new) }
+        ensures fault { IfErr result (λ e. e ≡ file_fault row.now.header.table kind.Memory) }
+        ensures kept { OnErr result (self.new ≡ self.old) }
         ensures same { texts.new ≡ texts.old }
     {
         let length = self.bytes.len();
         let count = self.ends.len();
-        match texts.put_more(alloc, row, rest.next, &mut self.bytes, &mut self.ends) {
-            Ok(next) => Ok(self.note(next, &rest.facts, count)),
+        match texts.put_more(alloc, row, fields, rest, &mut self.bytes, &mut self.ends) {
+            Ok(next) => {
+                let more = self.ends.len() - count;
+                self.facts = then_first(&self.facts, rest.facts(), more);
+                Ok(rest.after(next, more))
+            }
             Err(fault) => {
                 self.bytes.truncate(length);
                 self.ends.truncate(count);
                 Err(fault)
             }
-        }
-    }
-
-    // Notes that the texts after the first `count` are those of the first of these facts. Returns
-    // the others.
-    fn note(
-        &mut self,
-        next: Option<usize>,
-        facts: &GhostValue<Items<Fact>>,
-        count: usize,
-    ) -> Option<RowRest> {
-        let written = self.ends.len() - count;
-        self.facts = then(
-            &self.facts,
-            &Written {
-                facts,
-                count: written,
-            },
-        );
-        match next {
-            Some(next) => Some(RowRest {
-                next,
-                facts: rest(facts, written),
-            }),
-            None => None,
         }
     }
 

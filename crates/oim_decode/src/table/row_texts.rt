@@ -1,28 +1,24 @@
 //! From a row of a table to the texts of its facts, by the fast or the plain way.
 
-ghost use Rattle.std.specs.Prelude.{◌≡◌, Err, IfErr, IfOk};
+ghost use Rattle.std.specs.Prelude.{◌≡◌, Err, IfErr, IfOk, IfSome};
 ghost use mathlib.Core.List.{IsPrefix};
 ghost use Rattle.oim_fast.specs.Facts.{WritesFacts, facts_of_row};
 ghost use Rattle.oim_rows.specs.RowFacts.{IsTextRecord};
 ghost use Rattle.oim_rows.specs.Streams.{OrNoMemory};
-ghost use Rattle.oim_decode.specs.state.RowParts.{BeginsTexts};
+ghost use Rattle.oim_rows.specs.Header.{file_fault};
+ghost use Rattle.oim_rows.specs.declared.fault.TableKind.TheVariants as kind;
+ghost use Rattle.oim_decode.specs.state.RowParts.{BeginsTexts, ContinuesTexts, IsRestOf};
 
 use crate::table::plain_rows::PlainRows;
+use crate::table::row_rest::RowRest;
 use oim_fast::{RowWriter, TableRow, TextBuffer};
 use oim_records::Fields;
 use oim_rows::{TableFault, TableHeader, TableKind, whole_fault};
 use std::alloc::{AllocError, Global};
 use std::marker::Model;
 
-/// The length of a row's texts, in bytes, after which the other cells are only tested at first.
+/// The length, in bytes, after which a text gets no further fact of a row at once.
 const LONG: usize = 1_048_576;
-
-/// What the fast way wrote of a row: all, the facts of the first columns, or nothing of use.
-enum Begun {
-    Whole,
-    Part(usize),
-    Left,
-}
 
 /// How the rows of a table become the texts of their facts.
 ///
@@ -88,9 +84,9 @@ impl<'a> RowTexts<'a> {
         self.plain.put_row(alloc, row, fields, out, ends)
     }
 
-    /// Appends the texts of a row's facts as `put_row` does. If they become longer than `LONG`
-    /// bytes, it stops after a fact and only tests the other cells. Then it returns the index of
-    /// the next column of facts.
+    /// Appends the texts of a row's facts as `put_row` does. If the text becomes long, it stops
+    /// after a fact and only tests the other cells. Then it returns the index of the next column
+    /// of facts.
     ///
     /// Fails as `put_row` does.
     pub(crate) fn begin_row(
@@ -112,9 +108,8 @@ impl<'a> RowTexts<'a> {
         let length = out.len();
         let count = ends.len();
         match self.begin_fast(alloc, row, out, ends) {
-            Ok(Begun::Whole) => return Ok(None),
-            Ok(Begun::Part(next)) => return Ok(Some(next)),
-            Ok(Begun::Left) => {}
+            Ok(Some(next)) => return Ok(next),
+            Ok(None) => {}
             Err(_) => return Err(whole_fault(row.table(), TableKind::Memory)),
         }
         out.truncate(length);
@@ -125,59 +120,75 @@ impl<'a> RowTexts<'a> {
         }
     }
 
-    /// Begins a row by the fast way.
+    /// Begins a row as `begin_row` does, or returns None if the fast way leaves it. Then more may
+    /// follow the old items of both lists.
+    #[inline(always)]
     fn begin_fast(
         &mut self,
         alloc: Global,
         row: &TableRow<'a, '_>,
         out: &mut TextBuffer,
         ends: &mut Vec<usize>,
-    ) -> Result<Begun, AllocError>
+    ) -> Result<Option<Option<usize>>, AllocError>
         requires header { row.now.header ≡ self.old }
+        ensures facts { IfOk result (λ o. IfSome o (λ next. BeginsTexts row.now next out.old.items out.new.items ends.old.items ends.new.items)) }
         ensures front { IsPrefix out.old.items out.new.items × IsPrefix ends.old.items ends.new.items }
-        ensures whole { IfOk result (λ b. b ≡ Begun.Whole → BeginsTexts row.now None out.old.items out.new.items ends.old.items ends.new.items) }
-        ensures part { IfOk result (λ b. (next : ℕ) → b ≡ Begun.Part next → BeginsTexts row.now (Some next) out.old.items out.new.items ends.old.items ends.new.items) }
         ensures same { self.new ≡ self.old }
     {
         let most = out.len().saturating_add(LONG);
         let Some(next) = self.fast.put_part(alloc, row, 0, most, out, ends)? else {
-            return Ok(Begun::Left);
+            return Ok(None);
         };
         if next >= self.fast.columns() {
-            return Ok(Begun::Whole);
+            return Ok(Some(None));
         }
         if self.fast.writes_part(alloc, row, next, out)? {
-            Ok(Begun::Part(next))
+            Ok(Some(Some(next)))
         } else {
-            Ok(Begun::Left)
+            Ok(None)
         }
     }
 
-    /// Appends more of the texts of a row's facts, from the column of facts at index `from` on,
-    /// until they are longer than `LONG` bytes. Returns the index of the next column, or None if
-    /// the row is complete.
+    /// Appends more of the texts of a row's facts, those that are left, until the text is long
+    /// again. Returns the index of the next column of facts, or None if the row is complete.
     ///
-    /// Fails with Memory if memory runs out. Then the old text stays, perhaps with more after it.
+    /// Fails only if memory runs out. Then the old text stays, perhaps with more after it.
     pub(crate) fn put_more(
         &mut self,
         alloc: Global,
         row: &TableRow<'a, '_>,
-        from: usize,
+        fields: &Fields<'_>,
+        rest: &RowRest,
         out: &mut TextBuffer,
         ends: &mut Vec<usize>,
     ) -> Result<Option<usize>, TableFault>
         requires header { row.now.header ≡ self.old }
-        requires from { from ≤ length (fact_columns_in row.now.header row.now.header.columns) }
-        ensures facts { IfOk result (λ o. WritesPart row.now from (unwrap_or o (length (fact_columns_in row.now.header row.now.header.columns))) out.old.items out.new.items ends.old.items ends.new.items) }
+        requires fields { fields.now ≡ row.now.fields }
+        requires texts { IsTextRecord fields.now }
+        requires rest { IsRestOf row.now rest.now }
+        ensures facts { IfOk result (λ next. ContinuesTexts row.now rest.now next out.old.items out.new.items ends.old.items ends.new.items) }
         ensures fault { IfErr result (λ e. e ≡ file_fault row.now.header.table kind.Memory) }
         ensures front { IsPrefix out.old.items out.new.items × IsPrefix ends.old.items ends.new.items }
         ensures same { self.new ≡ self.old }
     {
-        let most = out.len().saturating_add(LONG);
-        match self.fast.put_part(alloc, row, from, most, out, ends) {
-            Ok(Some(next)) if next < self.fast.columns() => Ok(Some(next)),
-            Ok(Some(_)) => Ok(None),
-            Ok(None) | Err(_) => Err(whole_fault(row.table(), TableKind::Memory)),
+        let length = out.len();
+        let count = ends.len();
+        let most = length.saturating_add(LONG);
+        match self.fast.put_part(alloc, row, rest.next(), most, out, ends) {
+            Ok(Some(next)) => {
+                if next < self.fast.columns() {
+                    return Ok(Some(next));
+                }
+                return Ok(None);
+            }
+            Ok(None) => {}
+            Err(_) => return Err(whole_fault(row.table(), TableKind::Memory)),
+        }
+        out.truncate(length);
+        ends.truncate(count);
+        match self.plain.put_rest(alloc, row, fields, rest.written(), out, ends) {
+            Ok(()) => Ok(None),
+            Err(fault) => Err(fault),
         }
     }
 }

@@ -1,6 +1,6 @@
 //! Writing the facts of a row cell by cell.
 
-ghost use Rattle.std.specs.Prelude.{◌≡◌, ◌<◌, ◌≤◌, ◌++◌, ◌∷◌, [], IfOk, IfSome, OnOk, Some, length, true};
+ghost use Rattle.std.specs.Prelude.{◌≡◌, ◌+◌, ◌<◌, ◌≤◌, ◌++◌, ◌∷◌, [], IfOk, IfSome, OnOk, Some, length, true, vec_capacity, vec_len};
 ghost use mathlib.Core.List.{IsPrefix};
 ghost use Rattle.oim_cells.specs.Cells.{meaning_of};
 ghost use Rattle.oim_resolve.specs.Facts.{is_absent};
@@ -46,13 +46,28 @@ fn note_end(before: usize, end: usize, ends: &mut Vec<usize>) -> Result<(), Allo
     Ok(())
 }
 
+/// Records the end of a text as `note_end` does. The list has spare capacity.
+#[inline(always)]
+fn note_reserved(before: usize, end: usize, ends: &mut Vec<usize>)
+    requires { vec_len ends.old < vec_capacity ends.old }
+    ensures more { before < end → ends.new.items ≡ ends.old.items ++ end ∷ [] }
+    ensures none { end ≤ before → ends.new.items ≡ ends.old.items }
+    ensures len { vec_len ends.new ≤ vec_len ends.old + 1 }
+    ensures capacity { vec_capacity ends.new ≡ vec_capacity ends.old }
+{
+    if before < end {
+        ends.push_reserved(end);
+    }
+}
+
 /// The most facts that a block of texts has.
 const BLOCK: usize = 256;
 
 /// Takes memory for the ends of `count` more texts, at first for a whole block.
 #[inline(always)]
 fn reserve_ends(ends: &mut Vec<usize>, count: usize) -> Result<(), AllocError>
-    ensures { ends.new.items ≡ ends.old.items }
+    ensures items { ends.new.items ≡ ends.old.items }
+    ensures room { OnOk result (vec_len ends.new + count ≤ vec_capacity ends.new) }
 {
     let more = if ends.is_empty() {
         count.max(BLOCK)
@@ -223,6 +238,7 @@ impl<'a> CellWriter<'a> {
         ensures header { IsCellWriter row.now.header self.new }
         ensures front { IsPrefix out.old.items out.new.items × IsPrefix ends.old.items ends.new.items }
         ensures facts { IfOk result (λ o. IfSome o (λ next. WritesPart row.now from next out.old.items out.new.items ends.old.items ends.new.items)) }
+        ensures long { IfOk result (λ o. IfSome o (λ next. next < length self.old.columns.items → most < length out.new.items)) }
     {
         let count = self.columns.len();
         reserve_ends(ends, count - from)?;
@@ -233,7 +249,7 @@ impl<'a> CellWriter<'a> {
                 return Ok(None);
             }
             let end = out.len();
-            note_end(before, end, ends)?;
+            note_reserved(before, end, ends);
             if end > most {
                 return Ok(Some(i + 1));
             }

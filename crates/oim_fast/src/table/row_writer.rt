@@ -1,6 +1,6 @@
 //! The fast way from a row to the texts of its facts.
 
-ghost use Rattle.std.specs.Prelude.{◌≡◌, ◌≤◌, IfOk, IfSome, length, true};
+ghost use Rattle.std.specs.Prelude.{◌≡◌, ◌<◌, ◌≤◌, IfOk, IfSome, length, true};
 ghost use mathlib.Core.List.{IsPrefix};
 ghost use Rattle.oim_fast.specs.Facts.{HasPart, WritesFacts, WritesPart, fact_columns_in};
 
@@ -100,6 +100,7 @@ impl<'a> RowWriter<'a> {
         ensures same { self.new ≡ self.old }
         ensures front { IsPrefix out.old.items out.new.items × IsPrefix ends.old.items ends.new.items }
         ensures facts { IfOk result (λ o. IfSome o (λ next. WritesPart row.now from next out.old.items out.new.items ends.old.items ends.new.items)) }
+        ensures long { IfOk result (λ o. IfSome o (λ next. next < length (fact_columns_in row.now.header row.now.header.columns) → most < length out.new.items)) }
     {
         self.cells.refresh(alloc, row)?;
         self.cells.put_part(alloc, row, from, most, out, ends)

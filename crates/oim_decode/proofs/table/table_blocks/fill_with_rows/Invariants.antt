@@ -1,21 +1,24 @@
-use Rattle.std.proofs.Common.{◌≡◌, ◌⊎◌, ◌<◌, ◌≤◌, ◌-◌, IfSome, IsSome, None}
+use Rattle.std.proofs.Common.{◌≡◌, ◌⊎◌, ◌<◌, ◌≤◌, ◌-◌, length, IfSome, IsSome, None}
+use Rattle.oim_json.specs.Blocks.{behind_commas}
 use Rattle.oim_decode.specs.Blocks.{IsBehind}
 use Rattle.oim_decode.specs.state.Blocks.{HasRead, blocks_left, end_or_left, turns_left}
-use Rattle.oim_decode.proofs.table.table_blocks.TableBlocks.fill.Given as goal
+use Rattle.oim_decode.specs.state.RowParts.{with_rest}
+use Rattle.oim_decode.proofs.table.table_blocks.fill_with_rows.Given as goal
 
-abbrev pub invariant-loop-self : goal.invariant-loop-self
-invariant-loop-self g l = record {
-  reads : IfSome l.fn.self.left (λ s. HasRead l.fn.self.table s l.fn.self.pending l.self-inside.facts (end_or_left l.self-inside.settled l.self-inside.rows.left));
-  again : IsSome l.fn.self.answered → blocks_left l.self-inside.rows l.self-inside.facts l.self-inside.settled ≡ l.fn.self;
-  table : l.self-inside.rows.header.table ≡ l.fn.self.table;
-  limit : l.self-inside.rows.header.limit ≡ l.fn.self.limit;
+abbrev pub invariant-loop-facts : goal.invariant-loop-facts
+invariant-loop-facts g l = record {
+  reads : IfSome (end_or_left l.fn.settled l.fn.rows.left) (λ s. HasRead l.fn.rows.header.table s (with_rest l.fn.facts l.fn.rows.rest) (with_rest l.facts l.rows.rest) (end_or_left l.settled l.rows.left));
+  again : IsSome l.fn.settled → blocks_left l.rows l.facts l.settled ≡ blocks_left l.fn.rows l.fn.facts l.fn.settled;
+  table : l.rows.header.table ≡ l.fn.rows.header.table;
+  limit : l.rows.header.limit ≡ l.fn.rows.header.limit;
   whole : l.whole ≤ 256;
-  behind : l.fn.self.answered ≡ None → IfSome l.fn.self.unread (λ rs. IsBehind l.fn.self.table rs (l.self-inside.rows.given - l.fn.self.given)
-      l.self-inside.settled l.self-inside.rows.unread);
-  begun : l.fn.self.given ≤ l.self-inside.rows.given;
-  within : l.self-inside.rows.given ≤ l.self-inside.rows.header.limit;
-  moves : (l.fn.self.given < l.self-inside.rows.given) ⊎ (l.self-inside.facts ≡ l.fn.self.pending);
+  behind : l.fn.settled ≡ None → IfSome l.fn.rows.unread (λ rs. IsBehind l.fn.rows.header.table rs (l.rows.given - l.fn.rows.given) l.settled l.rows.unread);
+  begun : l.fn.rows.given ≤ l.rows.given;
+  within : l.rows.given ≤ l.rows.header.limit;
+  moves : (l.fn.rows.given < l.rows.given) ⊎ (with_rest l.facts l.rows.rest ≡ with_rest l.fn.facts l.fn.rows.rest);
+  long : IsSome l.rows.rest → 131072 < length (behind_commas l.facts);
+  closed : IsSome l.settled → l.rows.rest ≡ None;
 }
 
-abbrev pub decreases-loop-self : goal.decreases-loop-self
-decreases-loop-self g l = turns_left l.self-inside.settled (l.self-inside.rows.header.limit - l.self-inside.rows.given)
+abbrev pub decreases-loop-facts : goal.decreases-loop-facts
+decreases-loop-facts g l = turns_left l.settled (l.rows.header.limit - l.rows.given)

@@ -85,5 +85,5 @@ loop-i-init c =
     let x = c.args.row.now in
     record {
       row = c.requires;
-      facts = subst (λ (ns : List ℕ). HasFacts x 0 c.args.out.now.items c.args.out.now.items c.args.ends.now.items ns) (sym c.reserve_ends.ensures) (none_yet x c.args.out.now.items c.args.ends.now.items);
+      facts = subst (λ (ns : List ℕ). HasFacts x 0 c.args.out.now.items c.args.out.now.items c.args.ends.now.items ns) (sym c.reserve_ends.ensures.items) (none_yet x c.args.out.now.items c.args.ends.now.items);
     }
