@@ -1,5 +1,5 @@
--- Examples of the limit of the file of faults: three faults of a table, of which at most so many
--- are listed.
+-- Examples of the limit of the file of faults: three faults of a table, and limits below, at and
+-- above three.
 use Rattle.std.proofs.Common.{◌≡◌, ℕ, List, [], ◌∷◌, Option, Some, None, false, refl, true}
 use Rattle.std.specs.Prelude.{codes}
 use Rattle.oim_records.specs.Grids.{Record}

@@ -92,7 +92,7 @@ StartsRows f rows = (others : List TableFault) × (later : List (List TableFault
 abbrev pub ListsAlone : (old new : Option (List ℕ)) → (id : List ℕ) → TableFault → ListedFaults → Type 0
 ListsAlone old new id f listed = (listed ≡ alone_of) × Appends old new (fault_text id f unknown_place)
 
--- The records of at most so many faults of these rows were written.
+-- The records of the faults of these rows, as far as the limit allows, were written.
 abbrev pub ListsAll : (old new : Option (List ℕ)) → (table : ℕ) → (id : List ℕ) → (most : ℕ) → (TableFault → Record) → List (List TableFault) → ListedFaults → Type 0
 ListsAll old new table id most rec rows listed = (after : Option ℕ) × (listed ≡ listed_of most after) × WritesRows old new table id rec most rows after
 

@@ -51,7 +51,7 @@ records_of None number line header row located has placed = tt
 records_of (Some bytes) number line header row located has placed =
     All-weaker (IsPlaced number line header row) (λ l. HasRow (grid bytes) l.fault.row header row) (λ l h. subst (λ n. HasRow (grid bytes) n header row) (sym h.0) has) located placed
 
--- An answer of the faults alone is one of the faults with their places.
+-- An answer of the faults is one of the faults with their places.
 pub gives_located : (table : ℕ) (rows : Option (List (List TableFault))) (faults : List TableFault) (located : List LocatedFault) (after : Option (List (List TableFault)))
     → map (λ l. l.fault) located ≡ faults → IfSome rows (λ rows. GivesBadRow table rows (Ok (Some faults)) after) → IfSome rows (λ rows. GivesRow table rows (Ok (Some located)) after)
 gives_located table None faults located after is gives = tt

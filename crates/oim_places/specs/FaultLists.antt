@@ -22,8 +22,8 @@ header_or (Some e) rows = (e ∷ []) ∷ []
 abbrev pub faults_by_row : ReportValue → ℕ → ℕ → List Record → List (List TableFault)
 faults_by_row report table limit records = header_or (file_header_fault report table records) (bad_rows_of report table limit records)
 
--- The record of a fault in the file of faults, for a table with this identifier whose file has these
--- bytes.
+-- The record of a fault in the file of faults, for a table with this identifier whose file has
+-- these bytes.
 abbrev pub record_of : List ℕ → List ℕ → TableFault → Record
 record_of id bytes f = fault_fields id f (stands_at bytes f.row f.column)
 

@@ -4,9 +4,9 @@
 //!
 //! What is proved:
 //!
-//! - `BadRows` gives all faults of a table's file in order, by the definition of `oim_table_faults`,
-//!   row by row, each with its line and its cells of the header and of the row. It ends early only
-//!   if a reader fails or memory runs out (`specs/FaultLists.antt`);
+//! - `BadRows` gives all faults of a table's file in order, by the definition of
+//!   `oim_table_faults`, row by row, each with its line and its cells of the header and of the row.
+//!   It ends early only if a reader fails or memory runs out (`specs/FaultLists.antt`);
 //! - over a folder whose files are known, `fault_place` names a place in a table's file only if the
 //!   file's first fault is that fault, by the definition of the table's stream. It gives the line
 //!   of the fault's record, if that is known, and the cells of the header and of the row in its

@@ -53,7 +53,8 @@ impl<'a> Teller for StandardError<'a> {
 }
 
 /// Tells the lines of an outcome, with the places of its faults if they are asked for. Then the
-/// lines of tables are printed one by one, past the teller. `found` has what is known of its faults.
+/// lines of tables are printed one by one, past the teller. `found` has what is known of its
+/// faults.
 fn told_as_asked<L: Teller>(
     rt: &HostRuntime,
     alloc: Global,
@@ -188,8 +189,8 @@ fn convert_apart<
 }
 
 /// Converts as the command line asks, writes the file of the faults, tells the outcome, and writes
-/// the file of the counts. Returns the exit status of what was told last. `threads` starts the workers, and
-/// `noted` is what folder and outputs note.
+/// the file of the counts. Returns the exit status of what was told last. `threads` starts the
+/// workers, and `noted` is what folder and outputs note.
 pub fn convert_and_tell<
     R: Read + Drop + Send,
     F: Folder<R>,
