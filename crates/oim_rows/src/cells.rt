@@ -22,7 +22,7 @@ pub(crate) trait Cells {
 }
 
 impl Cells for Fields<'_> {
-    ghost cells = { λ record. record };
+    ghost cells = { λ fields. fields };
 
     fn count(&self) -> usize {
         self.len()
@@ -34,7 +34,7 @@ impl Cells for Fields<'_> {
 }
 
 impl Cells for ByteRecord {
-    ghost cells = { λ record. fields_of record };
+    ghost cells = { λ row. fields_of row };
 
     fn count(&self) -> usize {
         self.len()
