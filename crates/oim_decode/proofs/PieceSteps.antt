@@ -147,6 +147,11 @@ end_decoded g first rs n old r left before after h reads = all_decoded g first r
     by (inl (none, same)) = subst (λ (a : Apart). EndsRows g n old before a) (sym same) (ends_none g n old before none h.4)
     by (inr short) = inr short
 
+-- Memory ran out after the decoded ones.
+pub memory_decoded : (g : TableHeaderValue) (first : ℕ) (rs : List Record) (n : ℕ) (old : List Record) (before after : Apart) → HasDecoded g first rs n old before
+    → after ≡ answer before.rows before.ids (Some (file_fault g.table kind.Memory)) → IsPieceDecoded g first rs after
+memory_decoded g first rs n old before after h is = all_decoded g first rs n old before after h (inr (is ∙ sym (then_fault before (file_fault g.table kind.Memory))))
+
 -- Decoding stops before the current record.
 pub stops_decoded : (g : TableHeaderValue) (first : ℕ) (rs : List Record) (n : ℕ) (r : Record) (left : List Record) (a : Apart) → first ≤ n → HasDecoded g first rs (n + 1) (r ∷ left) a
     → IsStopped g first rs a (record { first = n + 1; rows = r ∷ left })

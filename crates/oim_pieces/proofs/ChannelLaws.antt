@@ -4,11 +4,13 @@ use Rattle.csv.specs.declared.parser.State.TheVariants as state
 use Rattle.oim_records.specs.Grids.{Record, records_left}
 use Rattle.oim_rows.specs.RowFacts.{TableHeaderValue}
 use Rattle.oim_decode.specs.Apart.{Apart}
-use Rattle.oim_decode.specs.PieceAnswers.{refused}
+use Rattle.oim_decode.specs.PieceAnswers.{RestLeft, refused}
 use Rattle.oim_decode.specs.declared.piece.piece_rest.DecodedPart.{DecodedPart}
 use Rattle.oim_decode.proofs.HeadLaws.{refused_decoded}
 use Rattle.oim_decode.proofs.PieceSteps.{whole_part}
 use Rattle.oim_pieces.specs.state.PiecesUnderWay.{IsPieceAnswer}
+use Rattle.oim_pieces.specs.state.ComingAnswers.{Comes}
+use Rattle.oim_pieces.specs.declared.piece_under_way.ComingAnswer.TheVariants.{Left}
 use Rattle.oim_pieces.specs.state.Channels.{FitsPiece, IsAnswerIn, IsLine, IsOf, IsPiece, IsReadBy}
 use Rattle.oim_pieces.specs.declared.decoded.Asked.{Asked}
 use Rattle.oim_pieces.specs.declared.in_channel.PieceToDecode.{PieceToDecode}
@@ -48,6 +50,16 @@ of_reads g asked (Some a) same reads = same.0 ∙ reads
 pub of_first : (asked : Asked) (known : Option Asked) → IsOf asked known → IfSome known (λ a. a.first ≡ asked.first)
 of_first asked None same = tt
 of_first asked (Some a) same = same.1
+
+-- The rest of another piece may be decoded.
+pub rest_may : (asked : Asked) (g : TableHeaderValue) (rest : RestLeft) → Comes asked (Left rest) → asked.header.value ≡ g → rest.first ≤ g.limit + 1
+rest_may asked g rest comes reads =
+    subst (λ (x : TableHeaderValue). rest.first ≤ x.limit + 1) reads (subst (λ n. n ≤ asked.header.value.limit + 1) (sym comes.0) comes.2)
+
+-- Its answer is for the piece that was asked for.
+pub rest_answer : (asked : Asked) (g : TableHeaderValue) (rest : RestLeft) (answer : DecodedPart) → Comes asked (Left rest) → asked.header.value ≡ g → IsPieceAnswer g rest.first rest.rows answer
+    → IsPieceAnswer asked.header.value asked.first asked.rows.value answer
+rest_answer asked g rest answer comes reads is = answer_same asked.header.value g asked.first rest.first asked.rows.value rest.rows answer is (sym reads) comes.0 comes.1
 
 -- Memory is an answer for any piece.
 pub refused_answer : (g : TableHeaderValue) (first : ℕ) (rows : List Record) (a : DecodedPart) → a.answer ≡ refused g.table → a.rest ≡ None → first ≤ 4294967296

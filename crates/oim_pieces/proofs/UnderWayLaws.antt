@@ -247,6 +247,23 @@ front_read g ids ids' f fs next records s left chain front = by front.rest front
         rows_at : List Record → Option Stream
         rows_at rows = option_map (λ more. stream_from g f.first ids (rows ++ more)) records
 
+-- A piece that was decoded and joined is the first piece of these.
+pub front_of : (f : PieceRowsLeft) (ids ids' : List Field) (s : Stream) (part : DecodedPart) (left : Option PieceRowsLeft) → IsPieceAnswer f.header f.first f.rows part
+    → IsJoined f.header f.first ids part.answer s → (s.fault ≡ None → ids' ≡ ids ++ part.answer.ids) → left ≡ rest_piece f.header part.rest → IsFront f ids s ids' left
+front_of f ids ids' s part left is joined behind remains = record {
+  answer = part.answer;
+  rest = part.rest;
+  decoded = is.decoded;
+  remains = remains;
+  joined = joined;
+  behind = behind;
+}
+
+-- The rest of a decoded piece may be decoded.
+pub part_within : (f : PieceRowsLeft) (part : DecodedPart) (rest : RestLeft) → IsPieceAnswer f.header f.first f.rows part → part.rest ≡ Some rest → rest.first ≤ f.header.limit + 1
+part_within f part rest is some =
+    rest_within f.header f.first f.rows part.answer rest (subst (λ (o : Option RestLeft). IsPartDecoded f.header f.first f.rows part.answer o) some is.decoded)
+
 -- If no row is left, the stream is at its end.
 pub none_left : (g : TableHeaderValue) (n : ℕ) (ids : List Field) → stream_from g n ids [] ≡ ending None
 unfolding stream_from

@@ -101,7 +101,7 @@ impl<'a> PieceUnderWay<'a> {
 
     /// Returns the answer for the piece. The worker decodes other pieces until it arrives, or the
     /// rows of this one if it is a rest.
-    #[tactic(auto, using(crate::proofs::ChannelLaws::of_asked, crate::proofs::ChannelLaws::of_reads, crate::proofs::ChannelLaws::of_first))]
+    #[tactic(auto, using(crate::proofs::ChannelLaws::of_asked, crate::proofs::ChannelLaws::of_reads, crate::proofs::ChannelLaws::of_first, crate::proofs::ChannelLaws::rest_may, crate::proofs::ChannelLaws::rest_answer))]
     pub(crate) fn wait_for_answer<T: Wait>(
         self,
         rt: &T,

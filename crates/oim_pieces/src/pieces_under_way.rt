@@ -103,6 +103,7 @@ fn open_table<'a>(
 
 /// Joins a piece, waiting for its answer. Also returns the rest of the piece if it was decoded in
 /// part.
+#[tactic(auto, using(crate::proofs::UnderWayLaws::front_of, crate::proofs::UnderWayLaws::part_within))]
 fn join_piece<'a, T: Wait>(
     rt: &T,
     threads: &mut TableThreads<'a>,
