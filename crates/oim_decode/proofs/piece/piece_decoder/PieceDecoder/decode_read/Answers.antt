@@ -1,9 +1,12 @@
 use Rattle.std.proofs.Common.{◌≡◌, ◌≤◌, ◌+◌, ◌∙◌, ◌∷◌, Bool, true, false, Option, Some, IfSome, ap, arith, length, refl, subst, sym}
+use Rattle.oim_rows.specs.Header.{file_fault}
 use Rattle.oim_rows.specs.RowFacts.{TableHeaderValue}
+use Rattle.oim_rows.specs.declared.fault.TableFault.{TableFault}
+use Rattle.oim_rows.specs.declared.fault.TableKind.TheVariants as kind
 use Rattle.oim_decode.specs.Apart.{Apart}
 use Rattle.oim_decode.specs.PieceAnswers.{PieceLeft, RestLeft}
 use Rattle.oim_decode.specs.state.PieceAnswers.{EndsRows, ReadsRow, TakesRow}
-use Rattle.oim_decode.proofs.PieceSteps.{all_decoded, answer_part, decoded_within, end_decoded, from_first, front_within, none_decoded, one_decoded, read_decoded, stopped_part, stops_decoded, taken_within}
+use Rattle.oim_decode.proofs.PieceSteps.{all_decoded, answer, answer_part, decoded_within, end_decoded, from_first, front_within, memory_decoded, none_decoded, one_decoded, read_decoded, stopped_part, stops_decoded, taken_within}
 use Rattle.oim_decode.proofs.piece.piece_decoder.PieceDecoder.decode_read.Goals as goal
 
 pub loop-init : goal.loop-init
@@ -125,7 +128,7 @@ returns-clause-answer c =
     let g = c.args.self.now.header in
     let rs = c.args.self.now.current ∷ c.args.self.now.left in
     let left = c.loop.self.current ∷ c.loop.self.left in
-    let table = c.table.ensures.value ∙ ap (λ (p : PieceLeft). p.header.table) c.self.view_is in
+    let table = c.table-table.ensures.value ∙ ap (λ (p : PieceLeft). p.header.table) c.self.view_is in
     let memory = c.end.ensures ∙ ap (λ (e : TableFault). answer c.loop.answer.rows c.loop.answer.ids (Some e)) (c.whole_fault.ensures ∙ ap (λ t. file_fault t kind.Memory) table) in
     answer_part g c.args.first rs c.whole-2.result.answer c.end.new.self c.whole-2.result.rest c.whole-2.ensures.answer c.whole-2.ensures.rest
     (memory_decoded g c.args.first rs c.loop.number left c.loop.answer c.end.new.self c.loop.invariant.decoded memory)
