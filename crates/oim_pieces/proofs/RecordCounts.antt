@@ -1,6 +1,6 @@
 -- A text has at most as many records as bytes.
 use Rattle.std.proofs.Common.{◌≡◌, ◌≤◌, ◌+◌, ℕ, suc, List, [], ◌∷◌, length, Bool, true, false, refl, arith}
-use Rattle.std.specs.Prelude.{if◌then◌else◌, ◌==◌}
+use Rattle.std.specs.Prelude.{if◌then◌else◌, ◌==◌, not}
 use Rattle.csv.specs.Machine.{after_end, ends_at_end, ends_with, in_field, is_end, start_field, start_record, step}
 use Rattle.csv.specs.Reading.{default_config}
 use Rattle.csv.specs.declared.parser.Action.{Action}
@@ -11,7 +11,6 @@ use Rattle.csv.specs.declared.parser.Terminator.TheVariants as term
 use Rattle.oim_records.specs.Cuts.{ended, is_between, state_after}
 use Rattle.oim_records.specs.Grids.{records_left}
 use Rattle.oim_records.proofs.RecordLaws.{left-count}
-use Rattle.std.specs.Bool.{not}
 
 -- A byte that ends a record leads between two.
 abbrev EndsBetween : State × Action → Type 0

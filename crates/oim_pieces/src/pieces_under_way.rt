@@ -127,7 +127,7 @@ fn join_piece<'a, T: Wait>(
 /// Puts the rest of a piece before the others, for which there is room.
 fn put_front<'a>(under_way: &mut VecDeque<PieceUnderWay<'a>>, rest: Option<PieceUnderWay<'a>>)
     requires { deque_len under_way.old < deque_capacity under_way.old }
-    ensures { under_way.new.items ≡ option_to_list rest ++ under_way.old.items }
+    ensures { under_way.new.items ≡ option_to_list rest.entry ++ under_way.old.items }
 {
     if let Some(rest) = rest {
         under_way.push_front_reserved(rest);
