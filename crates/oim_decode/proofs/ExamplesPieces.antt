@@ -172,8 +172,8 @@ no_record_read = (inl (refl, refl), inr refl, never)
     never (inl (none, same)) = cc none
     never (inr short) = cc (ap (λ (a : Apart). a.fault) short)
 
--- `IsPartDecoded`: decoding stopped before the second of two rows. It does not stop before the first,
--- nor leaves out a row.
+-- `IsPartDecoded`: decoding stopped before the second of two rows. It does not stop before the
+-- first, nor leaves out a row.
 abbrev two : List Record
 two = line [] (codes "a") ∷ line [] (codes "b") ∷ []
 

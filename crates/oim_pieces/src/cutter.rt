@@ -12,8 +12,8 @@ use oim_rows::{TableFault, TableKind, fault_of_read, whole_fault};
 use std::io::Read;
 use std::marker::Model;
 
-/// About how many bytes the texts of a piece should have. A piece may have more, since only the rows
-/// before it tell how long its texts are.
+/// About how many bytes the texts of a piece should have. A piece may have more, since only the
+/// rows before it tell how long its texts are.
 const TEXTS: usize = 1_048_576;
 
 /// The most bytes of texts of all pieces under way, except one, if all have as many as the longest

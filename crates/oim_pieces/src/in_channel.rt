@@ -15,7 +15,8 @@ pub(crate) struct PieceToDecode<'a> {
     pub(crate) spares: usize,
 }
 
-/// The answer for a piece, the vector of its bytes if no rest has it, and the number of the thread that decoded it.
+/// The answer for a piece, the vector of its bytes if no rest has it, and the number of the thread
+/// that decoded it.
 #[derive(Drop)]
 pub(crate) struct DecodedPiece {
     pub(crate) answer: DecodedPart,

@@ -12,8 +12,8 @@ use oim_rows::TableHeader;
 use std::marker::Model;
 use std::sync::Wait;
 
-/// The answer for a piece: it arrives through the piece's channel, or is here already. The rest of a
-/// piece is decoded once its answer is wanted.
+/// The answer for a piece: it arrives through the piece's channel, or is here already. The rest of
+/// a piece is decoded once its answer is wanted.
 #[derive(Drop)]
 pub(crate) enum ComingAnswer<'a> {
     Awaited(Pending<'a>),

@@ -309,8 +309,8 @@ impl<'a, R: Read + Drop> PiecesUnderWay<'a, R> {
         true
     }
 
-    /// Joins the first piece under way, waiting for its answer. If the piece was decoded in part, the
-    /// rest is now the first piece. Returns `None` if no piece is under way.
+    /// Joins the first piece under way, waiting for its answer. If the piece was decoded in part,
+    /// the rest is now the first piece. Returns `None` if no piece is under way.
     ///
     /// A piece has a row at least. Unless it has a fault, all its rows are within the limit.
     pub(crate) fn join_front<T: Wait>(&mut self, rt: &T) -> Option<JoinedPiece>

@@ -28,7 +28,8 @@ pub const PIECE_SIZE: usize = 32_768;
 /// The remaining facts of one table, piece by piece, as blocks of text.
 ///
 /// Contracts see the table's place and limit, the number of the next row, the stream that is left,
-/// the answer of a settled table, the count of rows under way, and the bytes that are not cut yet. The stream and the bytes are known only for a reader whose bytes are known.
+/// the answer of a settled table, the count of rows under way, and the bytes that are not cut yet.
+/// The stream and the bytes are known only for a reader whose bytes are known.
 #[derive(Drop)]
 pub struct TablePieces<'a, R: Read + Drop> {
     alloc: Global,

@@ -1,12 +1,12 @@
 //! Calls of `oim_decode` for the pieces of a table.
 
-ghost use Rattle.std.specs.Prelude.{◌≤◌, ◌+◌};
+ghost use Rattle.std.specs.Prelude.{◌≤◌, ◌+◌, length};
 
 use crate::held::{Over, holds};
 use crate::rows::left_by;
 use oim_decode::{
-    DecodedPart, FirstRecords, JoinedPiece, PieceDecoder, PieceJoin, file_in_pieces,
-    joined_pieces_are_read, open_pieces, rows_in_pieces,
+    DecodedPart, FirstRecords, JoinedPiece, PieceAnswer, PieceDecoder, PieceJoin, PieceRest,
+    file_in_pieces, joined_pieces_are_read, open_pieces, rows_in_pieces,
 };
 use oim_meta::Report;
 use oim_records::RecordReader;
@@ -31,17 +31,28 @@ fn next_piece(
     Ok(join.join(decoder.header(), first, answer))
 }
 
+/// Returns whether the texts of a table's first rows have some bytes.
+fn has_texts(header: &TableHeader<'_>, answer: PieceAnswer, join: &mut PieceJoin) -> bool
+    requires { 1 + length answer.ids ≤ 4294967296 }
+{
+    join.join(header, 1, answer).bytes() > 0
+}
+
+/// Returns whether the rest of a piece begins after its first row, and is decoded whole.
+fn is_last(decoder: &mut PieceDecoder<'_>, rest: PieceRest) -> bool
+    requires { rest.first ≤ decoder.old.header.limit + 1 }
+{
+    let is_later = rest.first() > 1;
+    let last = decoder.decode_rest(rest);
+    is_later && last.rest.is_none()
+}
+
 /// Returns whether a piece is decoded in two parts: the first has texts of some bytes, and the
 /// second is the rest, with nothing left.
 fn decodes_in_parts(decoder: &mut PieceDecoder<'_>, join: &mut PieceJoin, piece: Vec<u8>) -> bool {
     let DecodedPart { answer, rest } = decoder.decode(piece, 1);
-    let joined = join.join(decoder.header(), 1, answer);
     match rest {
-        Some(rest) => {
-            let is_later = rest.first() > 1;
-            let last = decoder.decode_rest(rest);
-            is_later && joined.bytes() > 0 && last.rest.is_none()
-        }
+        Some(rest) => has_texts(decoder.header(), answer, join) && is_last(decoder, rest),
         None => false,
     }
 }

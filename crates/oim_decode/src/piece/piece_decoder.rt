@@ -110,8 +110,8 @@ impl PieceDecoder<'_> {
     /// begin, and end at a record's end.
     ///
     /// Stops after a row once the texts of the facts are long. The answer then has the rest.
-    /// Otherwise it has the piece's first fault: Ragged, NotUtf8, TooManyRows, MissingRowId, BadRowId
-    /// or one of a cell; or Memory if memory runs out.
+    /// Otherwise it has the piece's first fault: Ragged, NotUtf8, TooManyRows, MissingRowId,
+    /// BadRowId or one of a cell; or Memory if memory runs out.
     pub fn decode(&mut self, piece: Vec<u8>, first: u32) -> DecodedPart
         requires { first ≤ self.old.header.limit + 1 }
         ensures answer { IsPartDecoded self.old.header first (records_left state.StartRecord piece.items) result.answer result.rest }

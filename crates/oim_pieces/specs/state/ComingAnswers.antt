@@ -6,8 +6,8 @@ use Rattle.oim_pieces.specs.declared.decoded.Asked.{Asked}
 use Rattle.oim_pieces.specs.declared.piece_under_way.ComingAnswer.{ComingAnswer}
 use Rattle.oim_pieces.specs.declared.piece_under_way.ComingAnswer.TheVariants.{Awaited, Here, Left}
 
--- The answer for the piece arrives through that piece's channel, or is here. Or the piece is the rest
--- of another.
+-- The answer for the piece arrives through that piece's channel, or is here. Or the piece is the
+-- rest of another.
 abbrev pub Comes : Asked → ComingAnswer → Type 0
 Comes asked (Awaited pending) = IsOf asked pending
 Comes asked (Here answer) = IsPieceAnswer asked.header.value asked.first asked.rows.value answer

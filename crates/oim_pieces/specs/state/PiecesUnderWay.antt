@@ -102,8 +102,8 @@ NoMoreSteps (Some n) (Some m) = m ≤ n
 abbrev pub rest_piece : TableHeaderValue → Option RestLeft → Option PieceRowsLeft
 rest_piece g rest = option_map (λ (r : RestLeft). record { header = g; first = r.first; rows = r.rows }) rest
 
--- The first piece under way was joined to rows with the identifiers `ids`, which become `ids'`. If it
--- was decoded in part, `left` is the piece of the other rows.
+-- The first piece under way was joined to rows with the identifiers `ids`, which become `ids'`. If
+-- it was decoded in part, `left` is the piece of the other rows.
 pub record IsFront (piece : PieceRowsLeft) (ids : List Field) (s : Stream) (ids' : List Field) (left : Option PieceRowsLeft) : Type 0 where
   pub answer : Apart
   pub rest : Option RestLeft

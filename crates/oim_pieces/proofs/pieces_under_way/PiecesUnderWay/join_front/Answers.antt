@@ -10,7 +10,7 @@ invariant_of-self g c =
       c.self.invariant.0,
       c.self.invariant.1,
       chained_front a.threads a.join c.join_piece.new.join c.in_ok-piece.piece a.under_way.items c.pop_front.new.self.items a.cutter.next c.join_piece.result.0 c.join_piece.result.1
-      items c.self.invariant.2 c.join_piece.ensures.joined,
+          items c.self.invariant.2 c.join_piece.ensures.joined,
     )
 
 pub returns-clause-some : goal.returns-clause-some
