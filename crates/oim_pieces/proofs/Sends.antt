@@ -16,6 +16,10 @@ use Rattle.oim_rows.proofs.ids.RowIds.TheSendSync as ids
 use Rattle.oim_rows.specs.contracts.table_header.TableHeader as Header
 use Rattle.oim_rows.specs.contracts.ids.RowIds as Ids
 use Rattle.oim_rows.specs.contracts.row_plan.RowPlan as RowPlan
+use Rattle.oim_decode.proofs.piece.piece_answer.PieceAnswer.TheSendSync as answer
+use Rattle.oim_decode.specs.contracts.piece.piece_answer.PieceAnswer as Answer
+use Rattle.oim_decode.proofs.piece.piece_rest.PieceRest.TheSendSync as rest
+use Rattle.oim_decode.specs.contracts.piece.piece_rest.PieceRest as Rest
 use Rattle.oim_decode.proofs.piece.piece_rest.DecodedPart.TheSendSync as part
 use Rattle.oim_decode.specs.contracts.piece.piece_rest.DecodedPart as Part
 use Rattle.oim_decode.specs.contracts.piece.piece_decoder.PieceDecoder as Decoder
@@ -35,6 +39,12 @@ use Rattle.oim_pieces.specs.contracts.in_channel.InChannel as InChannel
 use Rattle.oim_pieces.specs.contracts.helper_thread.HelperSetup as HelperSetup
 use Rattle.oim_pieces.specs.contracts.helper_thread.HelperThread as HelperThread
 use Rattle.oim_pieces.specs.contracts.helper_thread.HelperThread.TheInside as Inside
+
+answer_send : IsSend Answer.the_row
+answer_send = answer.the_send
+
+rest_send : IsSend Rest.the_row
+rest_send = rest.the_send
 
 part_send : IsSend Part.the_row
 part_send = part.the_send
@@ -67,7 +77,7 @@ bin_send : IsSend SpareVectors.the_row
 bin_send = kept.the_send
 
 decoded_send : IsSend DecodedPiece.the_row
-decoded_send = search (sendable, crosses, part_send) depth 20
+decoded_send = search (sendable, crosses, part_send, answer_send, rest_send) depth 20
 
 to_decode_send : (a : NamedLft) → IsSend (PieceToDecode.the_row a)
 to_decode_send a = search (sendable, crosses) depth 20
