@@ -3,4 +3,3 @@ pub mod Blocks
 pub mod Heads
 pub mod PieceAnswers
 pub mod RowTexts
-pub mod RowParts
