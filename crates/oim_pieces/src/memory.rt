@@ -131,8 +131,8 @@ impl Memory {
         }
     }
 
-    /// Takes back a decoder's memory: the vector of the decoded bytes, and the spares for texts that
-    /// it did not use.
+    /// Takes back a decoder's memory: the vector of the decoded bytes, and the spares for texts
+    /// that it did not use.
     pub(crate) fn take_back(&mut self, decoder: &mut PieceDecoder<'_>)
         ensures { decoder.new.header ≡ decoder.old.header }
     {

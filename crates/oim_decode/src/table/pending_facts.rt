@@ -176,8 +176,8 @@ impl PendingFacts {
         }
     }
 
-    /// Takes the first `count` facts as a block, and moves the other texts to the memory of `spare`.
-    /// If memory runs out, takes nothing.
+    /// Takes the first `count` facts as a block, and moves the other texts to the memory of
+    /// `spare`. If memory runs out, takes nothing.
     pub(crate) fn take_block(&mut self, count: usize, spare: Spare) -> Result<Block, AllocError>
         requires some { 1 ≤ count }
         requires most { count ≤ 256 }
