@@ -20,14 +20,14 @@ from .fault_names import name_places
 from .filed import filed_of
 from .final import check_final
 from .finding import Finder, Found
-from .kept_module import Joined, ModuleCache
+from .kept_module import Draft, Joined, ModuleCache
 from .kinds import REASONS, Kinds, kind_of
 from .kinds_reading import KindsReading, namespaces_of
 from .lost_cells import refuse_lost_cells
 from .marked_output import asked_for, check_asked
 from .members import member_places, takes_unread, unread_prefixes
 from .metadata import Merged, check_parts, merge
-from .named import Places, names_of
+from .named import Named, Places, names_of
 from .named_members import with_named_members
 from .nested import open_taxonomy
 from .origins import Origins
@@ -382,35 +382,53 @@ def join_anew(
         return kind_of(name, namespaces, reading.kinds())
 
     renaming = Renaming(lost, lambda name: kind(name) == "explicit")
+    merged, named, draft, kinds = merged_beside(chain, renaming, reading, module, may_fork)
+    origins = Origins(merged, chain, renaming)
+    types = types_table(kinds, namespaces.values(), with_members=True)
+    if module is not None and draft is not None:
+        module.keep(draft, named, renaming, namespaces, kinds, types)
+    files = Files.of(report, merged).without_absent()
+    named = named.used_by(files.merged.value.get("tableTemplates", {}))
+    refuse_impossible_concepts(origins, named.concepts, namespaces, kinds)
+    refuse_unknown_dimensions(origins, named.dimensions, namespaces, kinds)
+    check_files(files, renaming, named.references)
+    refuse_lost_cells(files.merged, lost, files, kind)
+    places = member_places(files.merged.value, unread_prefixes(namespaces, kinds), kind)
+    if takes_unread(places, files.merged, files):
+        types = types_table(kinds, namespaces.values(), with_members=False)
+    chosen = with_types_of_dates(types, date_places(files.merged.value, kind), files)
+    return origins, files, TypesTable(chosen)
+
+
+def merged_beside(
+    chain: Chain,
+    renaming: Renaming,
+    reading: KindsReading,
+    module: Optional[ModuleCache],
+    may_fork: bool,
+) -> Tuple[Merged, Named, Optional[Draft], Kinds]:
+    """Return the merged metadata, what it names, the draft of its cache entry, and the kinds.
+
+    A second process may read the kinds meanwhile. Refuse a taxonomy that is wrong.
+    """
     try:
         if may_fork:
             reading.begin()
         merged = merged_by(chain, renaming, reading)
         named = names_of(merged.value)
         draft = None if module is None else module.draft(chain, merged)
-        kinds = reading.kinds()
+        return merged, named, draft, reading.kinds()
     finally:
         reading.end()
-    origins = Origins(merged, chain, renaming)
-    types = types_table(kinds, namespaces.values(), with_members=True)
-    if module is not None and draft is not None:
-        module.keep(draft, named, renaming, namespaces, kinds, types)
-    files = Files.of(report, merged).without_absent()
-    merged = files.merged
-    named = named.used_by(merged.value.get("tableTemplates", {}))
-    refuse_impossible_concepts(origins, named.concepts, namespaces, kinds)
-    refuse_unknown_dimensions(origins, named.dimensions, namespaces, kinds)
+
+
+def check_files(files: Files, renaming: Renaming, references: Places) -> None:
+    """Refuse a report that lacks a parameter, or has a file or a parameter that nothing reads."""
     files.require_parameters()
     files.refuse_unread()
-    check_parameters(merged, renaming, files)
-    check_references(merged, files, named.references)
-    require_parameters(merged, files)
-    refuse_lost_cells(merged, lost, files, kind)
-    places = member_places(merged.value, unread_prefixes(namespaces, kinds), kind)
-    if takes_unread(places, merged, files):
-        types = types_table(kinds, namespaces.values(), with_members=False)
-    chosen = with_types_of_dates(types, date_places(merged.value, kind), files)
-    return origins, files, TypesTable(chosen)
+    check_parameters(files.merged, renaming, files)
+    check_references(files.merged, files, references)
+    require_parameters(files.merged, files)
 
 
 def merged_by(chain: Chain, renaming: Renaming, reading: KindsReading) -> Merged:
