@@ -3,7 +3,7 @@
 use crate::readers::{AtEnd, Slow, ending};
 use crate::reports::{HEAD, file_of};
 use crate::trials::{Case, Trial, holds};
-use oim_json::Block;
+use oim_json::{Block, Spare};
 use oim_meta::{Limits, Report};
 use oim_pieces::{AtWork, PIECE_SIZE, TablePieces};
 use oim_rows::TableFault;
@@ -35,7 +35,7 @@ fn first_piece<'s, E, T: Threads + Wait + Sync + 's>(
     }
 }
 
-/// Returns whether a table that was just opened needs no spare vectors, and gives back what it was
+/// Returns whether a table that was just opened needs no spares, and gives back what it was
 /// given.
 fn keeps_rooms(rt: &(impl AllocGlobal + Wait), report: &Report, file: &[u8]) -> bool {
     let alloc = rt.alloc();
@@ -50,7 +50,7 @@ fn keeps_rooms(rt: &(impl AllocGlobal + Wait), report: &Report, file: &[u8]) -> 
     let needs_none = table.wanted_spares() == 0;
     table.want(true);
     table.note_left(0);
-    table.keep_spare(rt, Vec::new(alloc));
+    table.keep_spare(rt, Spare::new(alloc));
     let has_one = table.free_spares(rt).len() == 1;
     let has_none = table.free_spares(rt).is_empty();
     mem::drop(table);

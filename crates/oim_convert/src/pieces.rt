@@ -99,7 +99,7 @@ fn send_pieces<'s, E, R: Read + Drop, T: Threads + Wait + Sync + 's>(
     }
 }
 
-/// Sends the pieces of an opened table with spare vectors, leaves the table's memory to others, and
+/// Sends the pieces of an opened table with spares, leaves the table's memory to others, and
 /// returns its ending.
 fn send_opened<'s, E, R: Read + Drop, T: Threads + Wait + Sync + 's>(
     scope: &Scope<'s, E>,
@@ -119,8 +119,8 @@ fn send_opened<'s, E, R: Read + Drop, T: Threads + Wait + Sync + 's>(
     ending
 }
 
-/// Passes to the pieces whether the writer has reached the table, and spare vectors for the texts
-/// of the next ones, if written blocks gave some back.
+/// Passes to the pieces whether the writer has reached the table, and spares for the texts of the
+/// next ones, if written blocks gave some back.
 fn make_ready<R: Read + Drop, T: Wait>(rt: &T, pieces: &mut TablePieces<'_, R>, feed: &mut Feed)
     ensures pieces { pieces.new ≡ pieces.old }
     ensures feed { feed.new ≡ feed.old }
@@ -137,7 +137,7 @@ fn make_ready<R: Read + Drop, T: Wait>(rt: &T, pieces: &mut TablePieces<'_, R>, 
     }
 }
 
-/// Gives back the vectors that a table kept for texts, if the rings keep them for others.
+/// Gives back the spares that a table kept for texts, if the rings keep them for others.
 fn give_back_spares<R: Read + Drop, T: Wait>(rt: &T, pieces: &mut TablePieces<'_, R>, feed: &Feed) {
     for spare in pieces.free_spares(rt) {
         feed.give_back(rt, spare);

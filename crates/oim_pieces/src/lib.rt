@@ -19,8 +19,9 @@
 //! - `TableThreads`: a table's threads, which are its worker and its helper threads.
 //! - `PieceQueue`, `PieceQueueEnd`: the ends of a table's queue: the worker's, a helper thread's.
 //! - `HelperThread`, `HelperSetup`: what a helper thread is started with.
-//! - `SpareVectors`, `SparesByThread`: spare vectors, kept for the thread that last wrote to them.
-//! - `Memory`: all spare vectors of a table.
+//! - `SpareVectors`, `SparesByThread`: the memory of blocks, kept for the thread that last wrote to
+//!   it.
+//! - `Memory`: all spare memory of a table.
 //! - `TextGrowth`: how much longer than its rows a table's facts can be. It makes pieces small.
 //! - `GrowthLooks`, `KnownGrowth`: how it becomes known while the file is read.
 //! - `AtWork`: the count of the threads at work in the run.

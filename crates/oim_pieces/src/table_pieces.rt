@@ -14,7 +14,7 @@ use crate::growth_looks::GrowthLooks;
 use crate::pieces_under_way::PiecesUnderWay;
 use crate::small_reads::SmallReads;
 use oim_decode::{JoinedPiece, open_pieces};
-use oim_json::Block;
+use oim_json::{Block, Spare};
 use oim_report::{Limits, Report};
 use oim_rows::{TableFault, TableKind, fault_of_read, whole_fault};
 use std::alloc::Global;
@@ -173,32 +173,32 @@ impl<'a, R: Read + Drop> TablePieces<'a, R> {
         self.pieces_under_way.want(is_wanted);
     }
 
-    /// Keeps the vector of a written block as a spare, or drops it if enough are kept.
+    /// Keeps the memory of a written block as a spare, or drops it if enough are kept.
     ///
     /// Once the writer has reached the table, its own blocks must return in the order they were
     /// given.
-    pub fn keep_spare<T: Wait>(&mut self, rt: &T, spare: Vec<u8>)
+    pub fn keep_spare<T: Wait>(&mut self, rt: &T, spare: Spare)
         ensures { self.new ≡ self.old }
     {
         self.pieces_under_way.keep_spare(rt, spare);
     }
 
-    /// Records that the vectors of all given blocks have returned, except those of the last `left`.
-    /// The next vectors to return are then matched with the threads that wrote them.
+    /// Records that the memory of all given blocks has returned, except that of the last `left`.
+    /// The next spares to return are then matched with the threads that wrote them.
     pub fn note_left(&mut self, left: usize)
         ensures { self.new ≡ self.old }
     {
         self.pieces_under_way.note_left(left);
     }
 
-    /// Returns how many more spare vectors to take for the next pieces: every one that has
+    /// Returns how many more spares to take for the next pieces: every one that has
     /// returned, once the writer has reached the table.
     pub fn wanted_spares(&self) -> usize {
         self.pieces_under_way.wanted_spares()
     }
 
-    /// Returns all spare vectors for texts.
-    pub fn free_spares<T: Wait>(&mut self, rt: &T) -> Vec<Vec<u8>>
+    /// Returns all spares for texts.
+    pub fn free_spares<T: Wait>(&mut self, rt: &T) -> Vec<Spare>
         ensures { self.new ≡ self.old }
     {
         self.pieces_under_way.free_spares(rt)

@@ -10,7 +10,7 @@ use crate::table::row_texts::RowTexts;
 use crate::table::table_blocks::MOST;
 use ghost_value::{Denotes, GhostValue};
 use oim_fast::{TableRow, TextBuffer};
-use oim_json::Block;
+use oim_json::{Block, Spare};
 use oim_names::Items;
 use oim_records::Fields;
 use oim_resolve::Fact;
@@ -75,6 +75,24 @@ fn no_text(alloc: Global, spare: Vec<u8>) -> TextBuffer
     }
 }
 
+/// Returns an empty list of ends in the memory of `spare`.
+fn no_ends(spare: Vec<usize>) -> Vec<usize>
+    ensures { result.items ≡ [] }
+{
+    let mut ends = spare;
+    ends.clear();
+    ends
+}
+
+/// Returns an empty list of ends in the memory of `spare`, with room for those of a block.
+fn ends_of_block(spare: Vec<usize>) -> Result<Vec<usize>, AllocError>
+    ensures { IfOk result (λ ends. ends.items ≡ []) }
+{
+    let mut ends = no_ends(spare);
+    ends.reserve(MOST)?;
+    Ok(ends)
+}
+
 impl PendingFacts {
     /// Makes an empty list, without taking memory.
     pub(crate) fn new(alloc: Global) -> PendingFacts
@@ -87,26 +105,28 @@ impl PendingFacts {
         }
     }
 
-    /// Makes an empty list whose texts go to the spare vector `spare`, without taking memory.
-    pub(crate) fn within(alloc: Global, spare: Vec<u8>) -> PendingFacts
+    /// Makes an empty list whose texts go to the memory of `spare`, without taking memory.
+    pub(crate) fn within(alloc: Global, spare: Spare) -> PendingFacts
         ensures { result ≡ [] }
     {
+        let Spare { bytes, ends } = spare;
         PendingFacts {
-            bytes: no_text(alloc, spare),
-            ends: Vec::new(alloc),
+            bytes: no_text(alloc, bytes),
+            ends: no_ends(ends),
             facts: none(),
         }
     }
 
     /// Makes an empty list with memory for texts as long as these and somewhat more, so that they
     /// are not copied as they grow. It uses the memory of `spare` first.
-    pub(crate) fn like(&self, alloc: Global, spare: Vec<u8>) -> Result<PendingFacts, AllocError>
+    pub(crate) fn like(&self, spare: Spare) -> Result<PendingFacts, AllocError>
         ensures { IfOk result (λ facts. facts ≡ []) }
     {
-        let more = more_than(spare.capacity(), self.bytes.len());
+        let Spare { bytes, ends } = spare;
+        let more = more_than(bytes.capacity(), self.bytes.len());
         Ok(PendingFacts {
-            bytes: TextBuffer::within(spare, more)?,
-            ends: Vec::with_capacity(alloc, MOST)?,
+            bytes: TextBuffer::within(bytes, more)?,
+            ends: ends_of_block(ends)?,
             facts: none(),
         })
     }
@@ -156,14 +176,9 @@ impl PendingFacts {
         }
     }
 
-    /// Takes the first `count` facts as a block, and moves the other texts to the spare vector
+    /// Takes the first `count` facts as a block, and moves the other texts to the memory of
     /// `spare`. If memory runs out, takes nothing.
-    pub(crate) fn take_block(
-        &mut self,
-        alloc: Global,
-        count: usize,
-        spare: Vec<u8>,
-    ) -> Result<Block, AllocError>
+    pub(crate) fn take_block(&mut self, count: usize, spare: Spare) -> Result<Block, AllocError>
         requires some { 1 ≤ count }
         requires most { count ≤ 256 }
         requires there { count ≤ length self.old }
@@ -171,29 +186,28 @@ impl PendingFacts {
         ensures left { OnOk result (self.new ≡ drop count self.old) }
         ensures same { OnErr result (self.new ≡ self.old) }
     {
-        let left = self.from_place(alloc, count, spare)?;
+        let left = self.from_place(count, spare)?;
         let all = mem::replace(self, left);
         Ok(all.into_block(count))
     }
 
-    // Copies the facts after the first `count`, with their texts in `spare`.
-    fn from_place(
-        &self,
-        alloc: Global,
-        count: usize,
-        spare: Vec<u8>,
-    ) -> Result<PendingFacts, AllocError>
+    // Copies the facts after the first `count` to the memory of `spare`.
+    fn from_place(&self, count: usize, spare: Spare) -> Result<PendingFacts, AllocError>
         requires some { 1 ≤ count }
         requires there { count ≤ length self.now }
         ensures { IfOk result (λ b. b ≡ drop count self.now) }
     {
         let start = self.ends[count - 1];
-        let more = more_than(spare.capacity(), self.bytes.len());
-        let mut bytes = TextBuffer::within(spare, more)?;
+        let Spare {
+            bytes: memory,
+            ends,
+        } = spare;
+        let more = more_than(memory.capacity(), self.bytes.len());
+        let mut bytes = TextBuffer::within(memory, more)?;
         bytes.put(after(self.bytes.as_slice(), start))?;
         Ok(PendingFacts {
             bytes,
-            ends: counted_from(alloc, behind(self.ends.as_slice(), count), start)?,
+            ends: counted_from(ends, behind(self.ends.as_slice(), count), start)?,
             facts: rest(&self.facts, count),
         })
     }
@@ -248,11 +262,12 @@ fn behind(ends: &[usize], count: usize) -> &[usize]
     &ends[count..]
 }
 
-// Returns the ends, counted from `start`.
-fn counted_from(alloc: Global, ends: &[usize], start: usize) -> Result<Vec<usize>, AllocError>
+// Returns the ends, counted from `start`, in the memory of `spare`.
+fn counted_from(spare: Vec<usize>, ends: &[usize], start: usize) -> Result<Vec<usize>, AllocError>
     ensures { IfOk result (λ counted. counted.items ≡ map (λ end. end - start) ends.now) }
 {
-    let mut counted = Vec::with_capacity(alloc, ends.len())?;
+    let mut counted = no_ends(spare);
+    counted.reserve(ends.len())?;
     for end in ends {
         counted.push(end.saturating_sub(start))?;
     }

@@ -10,7 +10,7 @@ ghost use Rattle.oim_decode.specs.Blocks.{GivesBlock, KeepsAnswer, KeepsFound, L
 
 use crate::table::pending_facts::PendingFacts;
 use crate::table::text_rows::TextRows;
-use oim_json::Block;
+use oim_json::{Block, Spare};
 use oim_report::{Limits, Report};
 use oim_rows::{TableFault, TableKind, whole_fault};
 use std::alloc::Global;
@@ -106,7 +106,7 @@ impl<R: Read + Drop> TableBlocks<'_, R> {
     /// Returns the next 1 to 256 facts in header order, row by row, or None at the end of the
     /// table.
     ///
-    /// Further texts go to the spare vector `spare`, which may be that of an earlier block. With
+    /// Further texts go to the memory of `spare`, which may be that of an earlier block. With
     /// each block a row was read or fewer facts wait, and at most `limits.rows` rows are read, so
     /// even an endless file ends. After the end or a fault each call answers the same and takes no
     /// record.
@@ -115,7 +115,7 @@ impl<R: Read + Drop> TableBlocks<'_, R> {
     /// this order: Ragged, NotUtf8, TooManyRows, MissingRowId, BadRowId, RepeatedRowId, then the
     /// faults of its cells from left to right. Fails with Read if the reader failed, and with
     /// Memory if memory runs out.
-    pub fn next_block(&mut self, spare: Vec<u8>) -> Result<Option<Block>, TableFault>
+    pub fn next_block(&mut self, spare: Spare) -> Result<Option<Block>, TableFault>
         ensures next { IfSome self.old.left (λ s. GivesBlock self.old.table self.old.pending s result self.new.pending self.new.left) }
         ensures kept { KeepsAnswer result self.new.answered }
         ensures again { IfSome self.old.answered (λ kept. self.old.pending ≡ [] → (result ≡ answer_of kept) × (self.new ≡ self.old)) }
@@ -137,10 +137,7 @@ impl<R: Read + Drop> TableBlocks<'_, R> {
                 Some(None) | None => Ok(None),
             };
         }
-        match self
-            .facts
-            .take_block(self.alloc, share(count, whole), spare)
-        {
+        match self.facts.take_block(share(count, whole), spare) {
             Ok(block) => Ok(Some(block)),
             Err(_) => {
                 let fault = whole_fault(self.rows.table(), TableKind::Memory);
