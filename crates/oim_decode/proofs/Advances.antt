@@ -1,7 +1,9 @@
 -- Rows that are read from a table's stream, one after another.
-use Rattle.std.proofs.Common.{◌≡◌, ◌⊎◌, ◌≤◌, ◌<◌, ◌+◌, ◌-◌, ℕ, arith, drop, List, [], ◌∷◌, ◌++◌, true, false, Option, Some, None, Ok, Err, IfSome, IsSome, refl, ap, sym, subst, ◌∙◌, inl, inr, append-nil, append_assoc}
+use Rattle.std.proofs.Common.{◌≡◌, ◌⊎◌, ◌≤◌, ◌<◌, ◌+◌, ◌-◌, ℕ, arith, drop, List, [], ◌∷◌, ◌++◌, true, false, Option, Some, None, Ok, Err, IfSome, IsSome, refl, ap, sym, subst, ◌∙◌, inl, inr, append-nil, append_assoc, length}
 use Rattle.std.proofs.lemmas.Grind.{flat_map-append}
 use Rattle.std.proofs.lemmas.List.{drop-drop}
+use Rattle.oim_json.specs.Blocks.{behind_commas}
+use Rattle.oim_json.proofs.Blocks.{nothing_written}
 use Rattle.oim_records.specs.Grids.{Record}
 use Rattle.oim_resolve.specs.FactParts.{FactParts as Fact}
 use Rattle.oim_rows.specs.Header.{file_fault}
@@ -10,6 +12,7 @@ use Rattle.oim_rows.specs.declared.fault.TableFault.{TableFault}
 use Rattle.oim_rows.specs.declared.fault.TableKind.TheVariants as kind
 use Rattle.oim_decode.specs.Blocks.{GivesBlock, IsBehind, ReadsRows}
 use Rattle.oim_decode.specs.state.Blocks.{AddsRow, HasRead, TakesOne}
+use Rattle.oim_decode.specs.state.RowParts.{RowRestValue, with_rest}
 
 pub none_read : (table : ℕ) (left : Option Stream) (before : List Fact) → IfSome left (λ s. HasRead table s before before left)
 none_read table None before = tt
@@ -119,6 +122,16 @@ memory_given table first before pending after left left' e reads none short over
 pub no_answer : {A : Type 0} (o : Option A) → None ≡ o → IsSome o → ⊥
 no_answer None none some = cc some
 no_answer (Some x) none some = cc none
+
+-- More rows are read only if nothing is left of the last one.
+pub no_rest : (rest : Option RowRestValue) (facts : List Fact) (count bytes : ℕ) → (IsSome rest → 131072 < length (behind_commas facts)) → count ≡ length facts
+    → bytes ≡ length (behind_commas facts) → (1 ≤ count → bytes ≤ 131072) → rest ≡ None
+no_rest None facts count bytes long are is short = refl
+no_rest (Some rest) [] count bytes long are is short = absurd (omega (arith, long refl, ap length nothing_written.0))
+no_rest (Some rest) (f ∷ fs) count bytes long are is short = let some : 1 ≤ count = omega (arith, are) in absurd (omega (arith, long refl, is, short some))
+
+pub none_more : (before after : List Fact) (rest left : Option RowRestValue) → rest ≡ None → left ≡ None → after ≡ before → with_rest after left ≡ with_rest before rest
+none_more before after rest left closed none same = ap (with_rest after) none ∙ same ∙ ap (with_rest before) (sym closed)
 
 -- WHAT IS LEFT UNREAD
 

@@ -1,11 +1,16 @@
 //! The texts of facts that wait to be given.
 
-ghost use Rattle.std.specs.Prelude.{◌≡◌, ◌≤◌, [], IfOk, OnErr, OnOk, drop, length, take};
+ghost use Rattle.std.specs.Prelude.{◌≡◌, ◌≤◌, ◌++◌, [], IfErr, IfOk, OnErr, OnOk, drop, length, take};
+ghost use Rattle.oim_json.specs.Blocks.{behind_commas};
 ghost use Rattle.oim_fast.specs.Facts.{facts_of_row};
 ghost use Rattle.oim_rows.specs.RowFacts.{IsTextRecord};
+ghost use Rattle.oim_rows.specs.Header.{file_fault};
+ghost use Rattle.oim_rows.specs.declared.fault.TableKind.TheVariants as kind;
+ghost use Rattle.oim_decode.specs.state.RowParts.{AddsParts, IsLeft, IsRestOf, with_rest};
 ghost use Rattle.oim_decode.specs.state.RowTexts.{AddsFacts, facts_of_answer};
 
-use crate::table::fact_list::{first, none, rest, then};
+use crate::table::fact_list::{first, none, rest, then, then_first};
+use crate::table::row_rest::RowRest;
 use crate::table::row_texts::RowTexts;
 use crate::table::table_blocks::MOST;
 use ghost_value::{Denotes, GhostValue};
@@ -139,7 +144,9 @@ impl PendingFacts {
     }
 
     /// Returns how many bytes the texts have.
-    pub(crate) fn bytes(&self) -> usize {
+    pub(crate) fn bytes(&self) -> usize
+        ensures { result ≡ length (behind_commas self.now) }
+    {
         self.bytes.len()
     }
 
@@ -167,6 +174,79 @@ impl PendingFacts {
             Ok(()) => {
                 self.facts = facts;
                 Ok(())
+            }
+            Err(fault) => {
+                self.bytes.truncate(length);
+                self.ends.truncate(count);
+                Err(fault)
+            }
+        }
+    }
+
+    /// Adds the facts of a row, or only the first of them if their texts are long. Then it returns
+    /// the others.
+    ///
+    /// Fails as `push_row` does.
+    pub(crate) fn begin_row<'a>(
+        &mut self,
+        alloc: Global,
+        texts: &mut RowTexts<'a>,
+        row: &TableRow<'a, '_>,
+        fields: &Fields<'_>,
+    ) -> Result<Option<RowRest>, TableFault>
+        requires header { row.now.header ≡ texts.old }
+        requires fields { fields.now ≡ row.now.fields }
+        requires texts { IsTextRecord fields.now }
+        ensures facts { AddsParts row.now.header.table (facts_of_row row.now) self.old self.new result }
+        ensures rest { IfOk result (IsLeft row.now self.new) }
+        ensures same { texts.new ≡ texts.old }
+    {
+        let whole = RowRest::whole(&RowNote { row });
+        let length = self.bytes.len();
+        let count = self.ends.len();
+        match texts.begin_row(alloc, row, fields, &mut self.bytes, &mut self.ends) {
+            Ok(next) => {
+                let more = self.ends.len() - count;
+                self.facts = then_first(&self.facts, whole.facts(), more);
+                Ok(whole.after(next, more))
+            }
+            Err(fault) => {
+                self.bytes.truncate(length);
+                self.ends.truncate(count);
+                Err(fault)
+            }
+        }
+    }
+
+    /// Adds more facts of a row, those that are left, until their texts are long again. Returns
+    /// the others.
+    ///
+    /// Fails only if memory runs out. Then nothing is added.
+    pub(crate) fn put_more<'a>(
+        &mut self,
+        alloc: Global,
+        texts: &mut RowTexts<'a>,
+        row: &TableRow<'a, '_>,
+        fields: &Fields<'_>,
+        rest: &RowRest,
+    ) -> Result<Option<RowRest>, TableFault>
+        requires header { row.now.header ≡ texts.old }
+        requires fields { fields.now ≡ row.now.fields }
+        requires texts { IsTextRecord fields.now }
+        requires rest { IsRestOf row.now rest.now }
+        ensures facts { IfOk result (λ left. with_rest self.new left ≡ self.old ++ rest.now.facts) }
+        ensures rest { IfOk result (IsLeft row.now self.new) }
+        ensures fault { IfErr result (λ e. e ≡ file_fault row.now.header.table kind.Memory) }
+        ensures kept { OnErr result (self.new ≡ self.old) }
+        ensures same { texts.new ≡ texts.old }
+    {
+        let length = self.bytes.len();
+        let count = self.ends.len();
+        match texts.put_more(alloc, row, fields, rest, &mut self.bytes, &mut self.ends) {
+            Ok(next) => {
+                let more = self.ends.len() - count;
+                self.facts = then_first(&self.facts, rest.facts(), more);
+                Ok(rest.after(next, more))
             }
             Err(fault) => {
                 self.bytes.truncate(length);
