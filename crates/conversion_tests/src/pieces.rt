@@ -5,7 +5,7 @@ use crate::reports::{HEAD, file_of};
 use crate::trials::{Case, Trial, holds};
 use oim_json::{Block, Spare};
 use oim_meta::{Limits, Report};
-use oim_pieces::{AtWork, PIECE_SIZE, TablePieces};
+use oim_pieces::{AtWork, PIECE_SIZE, TablePieces, TextGrowth};
 use oim_rows::TableFault;
 use std::alloc::{AllocError, Global};
 use std::sync::Wait;
@@ -25,8 +25,8 @@ fn first_piece<'s, E, T: Threads + Wait + Sync + 's>(
     if report.tables() == 0 {
         return Ok(0);
     }
-    let limits = Limits::profile();
-    let mut table = TablePieces::open(alloc, at_work, report, 0, file, limits)?;
+    let (growth, limits) = (TextGrowth::none(), Limits::profile());
+    let mut table = TablePieces::open(alloc, at_work, growth, report, 0, file, limits)?;
     let first = table.next_blocks(scope, rt);
     mem::drop(table);
     match first? {
@@ -43,8 +43,8 @@ fn keeps_rooms(rt: &(impl AllocGlobal + Wait), report: &Report, file: &[u8]) -> 
         return false;
     }
     let at_work = AtWork::new(4, PIECE_SIZE);
-    let limits = Limits::profile();
-    let Ok(mut table) = TablePieces::open(alloc, &at_work, report, 0, file, limits) else {
+    let (growth, limits) = (TextGrowth::none(), Limits::profile());
+    let Ok(mut table) = TablePieces::open(alloc, &at_work, growth, report, 0, file, limits) else {
         return false;
     };
     let needs_none = table.wanted_spares() == 0;
@@ -103,7 +103,7 @@ fn put_table<'s, E, T: Threads + Wait + Sync + 's>(
     if report.tables() == 0 {
         return false;
     }
-    match TablePieces::open(alloc, at_work, report, 0, file, Limits::profile()) {
+    match TablePieces::open(alloc, at_work, TextGrowth::none(), report, 0, file, Limits::profile()) {
         Ok(mut table) => {
             table.want(true);
             let is_good = put_pieces(scope, rt, &mut table, document);

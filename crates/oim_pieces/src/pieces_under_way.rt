@@ -11,9 +11,9 @@ ghost use Rattle.oim_pieces.specs.state.PiecesUnderWay.{IsEndOfTable, IsFront, K
 
 use crate::at_work::AtWork;
 use crate::cutter::Cutter;
-use crate::growth_looks::KnownGrowth;
 use crate::piece_under_way::PieceUnderWay;
 use crate::table_threads::TableThreads;
+use crate::text_growth::TextGrowth;
 use oim_decode::{FirstRecords, JoinedPiece, PieceJoin};
 use oim_json::Spare;
 use oim_records::PieceReader;
@@ -158,7 +158,7 @@ impl<'a, R: Read + Drop> PiecesUnderWay<'a, R> {
     }
 
     /// Sets how much longer than its rows the table's facts can be.
-    pub(crate) fn set_growth(&mut self, growth: KnownGrowth)
+    pub(crate) fn set_growth(&mut self, growth: TextGrowth)
         ensures { self.new ≡ self.old }
     {
         self.cutter.set_growth(growth);
