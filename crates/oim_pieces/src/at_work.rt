@@ -43,7 +43,7 @@ const FEW_LOOKS: usize = 2_048;
 
 /// How many columns, groups and dimensions are looked at for all tables with larger templates. They
 /// take about a tenth of a second.
-const MOST_LOOKS: usize = 4_194_304;
+const MOST_LOOKS: usize = 1_048_576;
 
 /// How many processors to assume if the system gives no count.
 const SOME_PROCESSORS: usize = 4;

@@ -17,6 +17,13 @@ const MOST_OF_ROW: usize = 2_097_152;
 /// The most copies of a cell in the facts of a row of a table in pieces.
 const MOST_COPIES: usize = 256;
 
+/// The most bytes of the beginnings of facts that a table in pieces may keep on each thread: one for
+/// each column of facts and property group.
+const MOST_KEPT: usize = 33_554_432;
+
+/// The bytes that are kept with each beginning of a fact.
+const KEPT_WITH: usize = 128;
+
 /// The most bytes that the metadata adds to the facts of a piece. Ordinary metadata adds up to 256
 /// bytes to a fact, and then a piece keeps its usual size.
 const MOST_ADDED: usize = 8_388_608;
@@ -42,6 +49,8 @@ pub struct TextGrowth {
     added: usize,
     // The most copies of a cell in the facts of a row.
     copies: usize,
+    // How many property groups the template has.
+    groups: usize,
 }
 
 /// What levels add to a fact at most: bytes, and references to cells.
@@ -224,6 +233,7 @@ impl TextGrowth {
             facts: 0,
             added: 0,
             copies: 0,
+            groups: 0,
         }
     }
 
@@ -233,19 +243,22 @@ impl TextGrowth {
     {
         let columns = report.template_columns(table);
         let mut own = Added::nothing();
-        let mut groups = Added::nothing();
+        let mut by_groups = Added::nothing();
+        let mut groups = 0usize;
         for column in columns {
             own = own.or(added_by(report, table, &column.level));
-            groups = groups.and(added_by_group(report, table, column));
+            by_groups = by_groups.and(added_by_group(report, table, column));
+            groups = groups.saturating_add(column.groups.len());
         }
         let shared = added_by(report, table, report.report_level());
         let template = added_by(report, table, report.template_level(table));
         let facts = facts_in(columns);
-        let of_groups = facts.saturating_mul(groups.references);
+        let of_groups = facts.saturating_mul(by_groups.references);
         TextGrowth {
             facts,
-            added: shared.and(template).and(own).and(groups).bytes,
+            added: shared.and(template).and(own).and(by_groups).bytes,
             copies: copies_in(alloc, report, table, facts).saturating_add(of_groups),
+            groups,
         }
     }
 
@@ -254,6 +267,13 @@ impl TextGrowth {
         self.added > MOST_OF_FACT
             || self.copies > MOST_COPIES
             || self.facts.saturating_mul(self.added) > MOST_OF_ROW
+            || self.kept() > MOST_KEPT
+    }
+
+    /// Returns how many bytes of the beginnings of facts a thread may keep.
+    fn kept(self) -> usize {
+        let each = self.added.saturating_add(KEPT_WITH);
+        self.facts.saturating_mul(self.groups).saturating_mul(each)
     }
 
     /// Returns the size of pieces, at most the usual one: so small that their facts take little

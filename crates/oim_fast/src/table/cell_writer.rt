@@ -108,6 +108,15 @@ fn put_rare(
     }
 }
 
+/// Returns how many property groups the template of a header's table has.
+fn groups_in(header: &TableHeader<'_>) -> usize {
+    let mut count = 0usize;
+    for column in header.report().template_columns(header.table()) {
+        count = count.saturating_add(column.groups.len());
+    }
+    count
+}
+
 impl<'a> CellWriter<'a> {
     /// Prepares the cells of the rows under a header.
     pub(crate) fn new(alloc: Global, header: &TableHeader<'a>) -> Result<CellWriter<'a>, AllocError>
@@ -116,7 +125,7 @@ impl<'a> CellWriter<'a> {
         let mut cells = GroupCells::new(alloc);
         let columns = fact_columns(alloc, header, &mut cells)?;
         let maker = FrameMaker::new(alloc, cells);
-        let frames = Frames::new(alloc);
+        let frames = Frames::new(alloc, groups_in(header));
         let start = FactStart::new(alloc, header)?;
         Ok(CellWriter {
             columns,
