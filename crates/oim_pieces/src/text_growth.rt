@@ -287,11 +287,17 @@ impl TextGrowth {
     }
 
     /// Returns how many bytes the metadata adds at most to the facts of a piece of `bytes` bytes
-    /// with `rows` rows.
+    /// with `rows` rows, or how many the copies of a cell have in the facts of a single row.
     fn added_to(self, bytes: usize, rows: usize) -> usize {
-        rows.saturating_mul(self.facts)
+        let added = rows
+            .saturating_mul(self.facts)
             .min(bytes)
-            .saturating_mul(self.added)
+            .saturating_mul(self.added);
+        if rows > 1 {
+            added
+        } else {
+            added.max(bytes.saturating_mul(self.copies))
+        }
     }
 
     /// Returns what is added to the longest of the last pieces: to the one of `bytes` bytes with
