@@ -93,7 +93,7 @@ def facts_of(count: int, **more: Any) -> dict[str, Any]:
 
 def copied_cell() -> LongRows:
     """A row whose facts each copy one of its cells."""
-    columns = {"key": {}, **facts_of(COPIES)}
+    columns: dict[str, Any] = {"key": {}, **facts_of(COPIES)}
     row = "x" * CELL + ",1" * COPIES
     return LongRows({"eg:Long": "$key"}, columns, [row], LONG_TYPE)
 
