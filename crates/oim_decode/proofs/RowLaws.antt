@@ -15,7 +15,7 @@ use Rattle.oim_rows.specs.state.Streams.{early_row_answer}
 use Rattle.oim_rows.proofs.StreamLaws.{gives_end, gives_fault, gives_row, outside}
 use Rattle.oim_rows.specs.declared.fault.TableFault.{TableFault}
 use Rattle.oim_decode.specs.state.Blocks.{AddsNone, AddsRow, CountsRow, TakesOne, has_row}
-use Rattle.oim_decode.specs.state.RowParts.{AddsParts, RowRestValue}
+use Rattle.oim_decode.specs.state.RowParts.{AddsParts, RowRestValue, with_rest}
 use Rattle.oim_decode.specs.state.RowTexts.{AddsFacts, facts_of_answer}
 use Rattle.oim_decode.proofs.ApartLaws.{repeats_at, row_fault-apart}
 
@@ -65,6 +65,12 @@ pub adds_row : (n : ℕ) (g : TableHeaderValue) (ids ids2 : List Field) (before 
 adds_row n g ids ids2 before now None new r took added kept = tt
 adds_row n g ids ids2 before now (Some rs) new r took added kept =
     (facts_of_answer (row_result g n ids r), added.1, gives_row n g ids ids2 (Some rs) new r (facts_of_answer (row_result g n ids r)) took (inr (sym added.0)) kept)
+
+-- Nothing is left of the row before.
+pub adds_closed : (table : ℕ) (first : Option Stream) (before now : List Fact) (rest : Option RowRestValue) (result : Result Bool TableFault) (left : Option Stream) → rest ≡ None
+    → IfSome first (λ s. AddsRow table s before now result left) → IfSome first (λ s. AddsRow table s before (with_rest now rest) result left)
+adds_closed table first before now rest result left closed adds =
+    subst (λ (o : Option RowRestValue). IfSome first (λ s. AddsRow table s before (with_rest now o) result left)) (sym closed) adds
 
 -- A row's own fault is its answer.
 pub own_fault : (g : TableHeaderValue) (n : ℕ) (ids : List Field) (r : Record) (e : TableFault) → row_fault g n ids r ≡ Some e → OrNoMemory g.table (Err e) (row_result g n ids r)

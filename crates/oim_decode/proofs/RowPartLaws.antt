@@ -6,12 +6,13 @@ use mathlib.Core.List.{IsPrefix}
 use Rattle.oim_json.specs.Blocks.{behind_commas, ends_from}
 use Rattle.oim_json.proofs.Blocks.{ends_length}
 use Rattle.oim_resolve.specs.FactParts.{FactParts as Fact}
-use Rattle.oim_fast.specs.Facts.{GiveFacts, HasPart, WritesFacts, WritesPart, facts_of_row}
+use Rattle.oim_fast.specs.Facts.{GiveFacts, HasPart, WritesFacts, WritesPart, fact_columns_in, facts_of_row}
 use Rattle.oim_fast.proofs.GiveLaws.{give_append, give_length, give_same, give_split}
 use Rattle.oim_fast.proofs.LoopLaws.{facts_found}
 use Rattle.oim_row.specs.Rows.{RowValue}
 use Rattle.oim_rows.specs.Header.{file_fault}
-use Rattle.oim_rows.specs.RowFacts.{IsTextRecord}
+use Rattle.oim_records.specs.Grids.{Record}
+use Rattle.oim_rows.specs.RowFacts.{IsTextRecord, TableHeaderValue}
 use Rattle.oim_rows.specs.Streams.{OrNoMemory}
 use Rattle.oim_rows.specs.declared.fault.TableFault.{TableFault}
 use Rattle.oim_rows.specs.declared.fault.TableKind.TheVariants as kind
@@ -58,7 +59,7 @@ pub rest_fails : (x : RowValue) (rest : RowRestValue) (e : TableFault) → IsRes
 rest_fails x rest e r (inl memory) = cc memory
 rest_fails x rest e r (inr is) = let both : Err e ≡ Ok (r.front ++ rest.facts) = is ∙ row_facts x rest r in absurd (cc both)
 
--- Of the facts `all`, the first `count` were written. What is left of them is from the next column
+-- The first `count` of the facts `all` were written. What is left of them is from the next column
 -- on, if there is one.
 pub record Parted (x : RowValue) (all : List Fact) (written : ℕ) (next : Option ℕ) (count : ℕ) (old new noted notes : List ℕ) : Type 0 where
   pub text : new ≡ old ++ behind_commas (take count all)
@@ -94,13 +95,16 @@ parted_some x part left all front written next count old new noted notes are tex
       text = text ∙ ap (λ (fs : List Fact). old ++ behind_commas fs) (sym first);
       ends = ends ∙ ap (λ (fs : List Fact). noted ++ ends_from (length old) fs) (sym first);
       room = omega (arith, together, give_length x (take next (row_columns x)) (front ++ part) given, length-take-le next (row_columns x) within);
-      rest = (record {
-        front = front ++ part;
-        before = given;
-        behind = subst (λ (fs : List Fact). GiveFacts x (drop next (row_columns x)) fs) (sym last) later;
-        within = within;
-        count = together;
-      }, long);
+      rest = (
+        record {
+          front = front ++ part;
+          before = given;
+          behind = subst (λ (fs : List Fact). GiveFacts x (drop next (row_columns x)) fs) (sym last) later;
+          within = within;
+          count = together;
+        },
+        long,
+      );
       whole = ap (λ (fs : List Fact). fs ++ drop count all) first ∙ ap (λ (fs : List Fact). part ++ fs) last ∙ sym are;
     }
 
@@ -188,3 +192,32 @@ left_long x after (Some rest) left some = left.1
 pub left_of_row : (x y : RowValue) (after : List Fact) (rest : Option RowRestValue) → x ≡ y → IsLeft x after rest → IfSome rest (IsRestOf y)
 left_of_row x y after None same left = tt
 left_of_row x y after (Some rest) same left = subst (λ (z : RowValue). IsRestOf z rest) same left.0
+
+-- The row whose cells are the fields of the last record.
+pub row_of_fields : (x : RowValue) (g : TableHeaderValue) (n : ℕ) (t r : Record) → x ≡ record { header = g; number = n; fields = t } → t ≡ r → x ≡ record { header = g; number = n; fields = r }
+row_of_fields x g n t r is same = is ∙ ap (λ (s : Record). record { header = g; number = n; fields = s }) same
+
+-- What is left of it.
+pub rest_given : (x y : RowValue) (rest : RowRestValue) (o : Option RowRestValue) → x ≡ y → o ≡ Some rest → IfSome o (IsRestOf y) → IsRestOf x rest
+rest_given x y rest o row is left = subst (λ (z : RowValue). IsRestOf z rest) (sym row) (rw is at left)
+
+-- How many columns of facts its header names.
+pub columns_are : (x : RowValue) (h : TableHeaderValue) (count : ℕ) → h ≡ x.header → count ≡ length (fact_columns_in h h.columns) → count ≡ length (row_columns x)
+columns_are x h count same is = is ∙ ap (λ (f : TableHeaderValue). length (fact_columns_in f f.columns)) same
+
+-- The other columns were tested after the first part was written.
+pub part_tested : (x : RowValue) (next most : ℕ) (old text new noted notes : List ℕ) → new ≡ text → WritesPart x 0 next old text noted notes → HasPart x next → most < length text
+    → 1048576 ≤ most → BeginsTexts x (Some next) old new noted notes
+part_tested x next most old text new noted notes same w last long more =
+    subst (λ (t : List ℕ). WritesPart x 0 next old t noted notes × HasPart x next × (1048576 < length t)) (sym same) (w, last, omega (arith, long, more))
+
+-- A part that is written from another index, the same one.
+pub part_from : (x : RowValue) (i k j : ℕ) (old new noted notes : List ℕ) → i ≡ k → WritesPart x i j old new noted notes → WritesPart x k j old new noted notes
+part_from x i k j old new noted notes same w = subst (λ (n : ℕ). WritesPart x n j old new noted notes) same w
+
+-- What is left is written after the old text.
+pub rest_behind : (answer : Result (List Fact) TableFault) (n count : ℕ) (old cut new noted cuts notes : List ℕ) → cut ≡ old → cuts ≡ noted → n ≡ count → WritesRest answer n cut new cuts notes
+    → WritesRest answer count old new noted notes
+rest_behind answer n count old cut new noted cuts notes same kept is w =
+    subst (λ (k : ℕ). WritesRest answer k old new noted notes) is
+    (subst (λ (t : List ℕ). WritesRest answer n t new noted notes) same (subst (λ (t : List ℕ). WritesRest answer n cut new t notes) kept w))

@@ -115,9 +115,10 @@ impl<'a> RowTexts<'a> {
         out.truncate(length);
         ends.truncate(count);
         match self.plain.put_row(alloc, row, fields, out, ends) {
-            Ok(()) => Ok(None),
-            Err(fault) => Err(fault),
+            Ok(()) => {}
+            Err(fault) => return Err(fault),
         }
+        Ok(None)
     }
 
     /// Begins a row as `begin_row` does, or returns None if the fast way leaves it. Then more may
@@ -142,11 +143,10 @@ impl<'a> RowTexts<'a> {
         if next >= self.fast.columns() {
             return Ok(Some(None));
         }
-        if self.fast.writes_part(alloc, row, next, out)? {
-            Ok(Some(Some(next)))
-        } else {
-            Ok(None)
+        if !self.fast.writes_part(alloc, row, next, out)? {
+            return Ok(None);
         }
+        Ok(Some(Some(next)))
     }
 
     /// Appends more of the texts of a row's facts, those that are left, until the text is long
@@ -186,9 +186,11 @@ impl<'a> RowTexts<'a> {
         }
         out.truncate(length);
         ends.truncate(count);
-        match self.plain.put_rest(alloc, row, fields, rest.written(), out, ends) {
-            Ok(()) => Ok(None),
-            Err(fault) => Err(fault),
+        let written = rest.written();
+        match self.plain.put_rest(alloc, row, fields, written, out, ends) {
+            Ok(()) => {}
+            Err(fault) => return Err(fault),
         }
+        Ok(None)
     }
 }

@@ -178,7 +178,7 @@ fn fill<R: Read + Drop>(
     facts: &mut PendingFacts,
     settled: &mut Option<Option<TableFault>>,
 ) -> Result<usize, TableFault>
-    requires closed { IsSome settled.old → rows.old.rest ≡ None }
+    requires { IsSome settled.old → rows.old.rest ≡ None }
     ensures reads { OnOk result (HasReadOn (blocks_left rows.old facts.old settled.old) (blocks_left rows.new facts.new settled.new)) }
     ensures some { OnOk result (settled.new ≡ None → 1 ≤ length facts.new) }
     ensures closed { IsSome settled.new → rows.new.rest ≡ None }
@@ -209,6 +209,7 @@ fn fill_from_row<R: Read + Drop>(
     ensures fault { IfErr result (λ e. e ≡ file_fault rows.old.header.table kind.Memory) }
     ensures lost { OnErr result (rows.new.rest ≡ None) }
     ensures same { rows.new ≡ record rows.old { rest = rows.new.rest } }
+    ensures within { rows.new.given ≤ rows.new.header.limit }
 {
     if !rows.is_open() || facts.bytes() > LONG {
         return Ok(());

@@ -83,6 +83,7 @@ impl<'a, R: Read + Drop> TextRows<'a, R> {
         requires place { table < length report.now.tables }
         requires rows { limit ≤ 4294967294 }
         ensures start { IfOk result (λ rows. (rows.header.table ≡ table) × (rows.header.limit ≡ limit) × (rows.given ≡ 0)) }
+        ensures closed { IfOk result (λ rows. rows.rest ≡ None) }
         ensures stream { IfSome (R.remaining reader) (λ bytes. IfOk result (λ rows. rows.left ≡ Some (stream_of report.now table limit (grid bytes)))) }
         ensures header { IfSome (R.remaining reader) (λ bytes. IfOk result (λ _. file_header_fault report.now table (grid bytes) ≡ None)) }
         ensures fault { IfSome (R.remaining reader) (λ bytes. IfErr result (IsHeaderFault report.now table bytes)) }
@@ -132,7 +133,7 @@ impl<R: Read + Drop> TextRows<'_, R> {
     /// Fails with the row's first fault, with Read if the reader failed, and with Memory if memory
     /// runs out. Then nothing is added.
     pub(crate) fn next_row(&mut self, facts: &mut PendingFacts) -> Result<bool, TableFault>
-        requires closed { self.old.rest ≡ None }
+        requires { self.old.rest ≡ None }
         ensures next { IfSome self.old.left (λ s. AddsRow self.old.header.table s facts.old (with_rest facts.new self.new.rest) result self.new.left) }
         ensures header { self.new.header ≡ self.old.header }
         ensures counts { CountsRow self.old.header.limit result self.old.given self.new.given }
@@ -175,7 +176,8 @@ impl<R: Read + Drop> TextRows<'_, R> {
 
     /// Returns whether facts of the last row are not written yet.
     pub(crate) fn is_open(&self) -> bool
-        ensures { result ≡ is_some (self.now).rest }
+        ensures value { result ≡ is_some (self.now).rest }
+        ensures within { (self.now).given ≤ (self.now).header.limit }
     {
         self.rest.is_some()
     }

@@ -4,7 +4,7 @@ use Rattle.oim_decode.proofs.table.plain_rows.checked_facts.Goals as goal
 
 pub returns-in-Ok : goal.returns-in-Ok
 returns-in-Ok c =
-    plan_answer c.args.row.now c.args.plan.now c.number-2.result c.args.fields.now c.facts.result (sym c.requires.header) c.number-2.ensures.value c.requires.fields c.facts.ensures
+    plan_answer c.args.row.now c.args.plan.now c.number-in-Ok.result c.args.fields.now c.facts.result (sym c.requires.header) c.number-in-Ok.ensures.value c.requires.fields c.facts.ensures
 
 pub returns-in-Err : goal.returns-in-Err
 returns-in-Err c =

@@ -5,8 +5,8 @@ use Rattle.oim_decode.specs.state.Blocks.{HasRead, blocks_left, end_or_left, tur
 use Rattle.oim_decode.specs.state.RowParts.{with_rest}
 use Rattle.oim_decode.proofs.table.table_blocks.fill_with_rows.Given as goal
 
-abbrev pub invariant-loop-facts : goal.invariant-loop-facts
-invariant-loop-facts g l = record {
+abbrev pub invariant-loop-whole : goal.invariant-loop-whole
+invariant-loop-whole g l = record {
   reads : IfSome (end_or_left l.fn.settled l.fn.rows.left) (λ s. HasRead l.fn.rows.header.table s (with_rest l.fn.facts l.fn.rows.rest) (with_rest l.facts l.rows.rest) (end_or_left l.settled l.rows.left));
   again : IsSome l.fn.settled → blocks_left l.rows l.facts l.settled ≡ blocks_left l.fn.rows l.fn.facts l.fn.settled;
   table : l.rows.header.table ≡ l.fn.rows.header.table;
@@ -20,5 +20,5 @@ invariant-loop-facts g l = record {
   closed : IsSome l.settled → l.rows.rest ≡ None;
 }
 
-abbrev pub decreases-loop-facts : goal.decreases-loop-facts
-decreases-loop-facts g l = turns_left l.settled (l.rows.header.limit - l.rows.given)
+abbrev pub decreases-loop-whole : goal.decreases-loop-whole
+decreases-loop-whole g l = turns_left l.settled (l.rows.header.limit - l.rows.given)

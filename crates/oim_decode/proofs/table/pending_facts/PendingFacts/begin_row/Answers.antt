@@ -1,4 +1,4 @@
-use Rattle.std.proofs.Common.{◌≡◌, ◌++◌, ◌∙◌, ◌-◌, ap, arith, length, sym, take, List}
+use Rattle.std.proofs.Common.{◌≡◌, ◌++◌, ◌∙◌, ◌-◌, ap, arith, length, take, List}
 use Rattle.oim_resolve.specs.FactParts.{FactParts as Fact}
 use Rattle.oim_decode.proofs.Cuts.{held_more}
 use Rattle.oim_decode.specs.state.RowParts.{RowRestValue}
@@ -40,9 +40,10 @@ returns-in-Ok-clause-facts c =
     let part = begun_rest x rest c.in-Ok.next more held.bytes.items c.begin_row.new.out.items held.ends.items c.begin_row.new.ends.items c.whole-whole.ensures many c.in-Ok.ensures.facts in
     let added = c.then_first.ensures ∙ ap (λ (fs : List Fact). held.facts.value ++ take more fs) c.facts.ensures in
     let all = part_added x rest c.in-Ok.next more held.bytes.items c.begin_row.new.out.items held.ends.items c.begin_row.new.ends.items held.facts.value c.then_first.result.value c.after.result part added c.after.ensures in
-    rw (← c.self.view_is)
-    (begun_facts x c.in-Ok.next held.bytes.items c.begin_row.new.out.items held.ends.items c.begin_row.new.ends.items c.in-Ok.ensures.facts,
-      all ∙ ap (λ (r : RowRestValue). held.facts.value ++ r.facts) c.whole-whole.ensures)
+    rw (← c.self.view_is) (
+      begun_facts x c.in-Ok.next held.bytes.items c.begin_row.new.out.items held.ends.items c.begin_row.new.ends.items c.in-Ok.ensures.facts,
+      all ∙ ap (λ (r : RowRestValue). held.facts.value ++ r.facts) c.whole-whole.ensures,
+    )
 
 pub returns-in-Ok-clause-rest : goal.returns-in-Ok-clause-rest
 returns-in-Ok-clause-rest c =

@@ -1,4 +1,4 @@
-use Rattle.std.proofs.Common.{◌≡◌, ◌++◌, ◌∙◌, ◌-◌, ap, arith, length, sym, take, List}
+use Rattle.std.proofs.Common.{◌≡◌, ◌++◌, ◌∙◌, ◌-◌, ap, arith, length, take, List}
 use Rattle.oim_resolve.specs.FactParts.{FactParts as Fact}
 use Rattle.oim_decode.proofs.Cuts.{held_more}
 use Rattle.oim_decode.proofs.RowPartLaws.{continued, grown, part_added, part_kept}
