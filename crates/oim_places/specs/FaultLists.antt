@@ -37,14 +37,17 @@ abbrev pub RecordsByRow : Type 0
 RecordsByRow = (id : List ℕ) (cause : TableFault → FaultCause) (report : ReportValue) (table limit : ℕ) (bytes : List ℕ)
     → fault_records id cause report table limit bytes ≡ flat_map (λ faults. map (λ f. record_of id bytes f (cause f)) faults) (faults_by_row report table limit (grid bytes))
 
--- What is left of a table's faults: `left`, row by row, if the bytes of its file are known. `cells`
--- and `lines` are the bytes from which cells and lines are read, if they are known. `header` and
--- `row` are the records at hand.
+-- What is left of a table's faults: `left`, row by row, if the bytes of its file are known.
+-- `heads`, `cells` and `lines` are the bytes from which the header, the rows and the lines are
+-- read, if they are known. `header` and `row` are the records at hand, and `number` is that of the
+-- row, or 0 for the header.
 pub record LocatedLeft : Type 0 where
   pub table : ℕ
   pub left : Option (List (List TableFault))
+  pub heads : Option (List ℕ)
   pub cells : Option (List ℕ)
   pub lines : Option (List ℕ)
+  pub number : ℕ
   pub header : Record
   pub row : Record
 
@@ -71,4 +74,4 @@ AreAt cells header row located = IfSome cells (λ bytes. All (λ l. HasRow (grid
 
 -- All faults of the table whose file has these bytes are left.
 abbrev pub IsStartOf : ReportValue → ℕ → LocatedLeft → List ℕ → Type 0
-IsStartOf report table rows bytes = (rows.left ≡ Some (faults_by_row report table profile.rows (grid bytes))) × (rows.cells ≡ Some bytes) × (rows.lines ≡ Some bytes)
+IsStartOf report table rows bytes = (rows.left ≡ Some (faults_by_row report table profile.rows (grid bytes))) × (rows.heads ≡ Some bytes) × (rows.cells ≡ Some bytes) × (rows.lines ≡ Some bytes)

@@ -8,7 +8,7 @@ ghost use Rattle.oim_places.specs.FolderFiles.{FoundAt};
 ghost use Rattle.oim_places.specs.state.FaultPlaces.{AreReadersOf, IsFirstIn};
 
 use crate::bad_rows::BadRows;
-use crate::record_walk::RowAgain;
+use crate::records::RowAgain;
 use crate::reread::ReportAgain;
 use oim_files::{Folder, folder_of, path_in};
 use oim_meta::Report;
@@ -121,8 +121,8 @@ pub fn bad_rows_at<'a, R: Read + Drop, F: Folder<R>>(
     ensures table { IfSome result (λ rows. rows.table ≡ table) }
     ensures faults { IfSome result (λ rows. FoundAt (F.files folder.old) path.now (IsStartOf report.now table rows)) }
 {
-    let (faults, cells, lines) = opened(folder, path)?;
-    BadRows::open(alloc, report, table, faults, cells, lines).ok()
+    let (header, rows, lines) = opened(folder, path)?;
+    BadRows::open(alloc, report, table, header, rows, lines).ok()
 }
 
 /// Returns whether a fault that is found again is this one.

@@ -91,6 +91,17 @@ fn begins(spot: Spot, byte: u8) -> bool
     }
 }
 
+/// Returns a byte that is not a quote and after which the next byte is at this spot, if there is
+/// one.
+fn plain_before(spot: Spot) -> Option<u8> {
+    match spot {
+        Spot::Between => Some(b'\n'),
+        Spot::Start => Some(b','),
+        Spot::Field => Some(b'x'),
+        Spot::Quoted | Spot::Quote => None,
+    }
+}
+
 impl LineCounter {
     /// Looks for the record with this number, the header being 0, from the start of a file.
     pub(crate) fn of(number: usize) -> LineCounter
@@ -144,6 +155,33 @@ impl LineCounter {
         }
     }
 
+    /// Returns the counter after all of these bytes, if it is clear that none of them is a quote or a
+    /// CR and that the record does not begin among them.
+    fn passed(self, bytes: &[u8]) -> Option<LineCounter>
+    {
+        let mut last = plain_before(self.spot)?;
+        let mut lines = 0;
+        let mut begun = 0;
+        let mut is_plain = !self.after_cr;
+        for byte in bytes {
+            let byte = *byte;
+            is_plain = is_plain & (byte != b'"') & (byte != b'\r');
+            lines += u32::from(byte == b'\n');
+            begun += u32::from((last == b'\n') & (byte != b'\n'));
+            last = byte;
+        }
+        let before = self.before.checked_sub(begun as usize)?;
+        if !is_plain {
+            return None;
+        }
+        Some(LineCounter {
+            spot: after_plain(last),
+            line: self.line.saturating_add(u64::from(lines)),
+            before,
+            ..self
+        })
+    }
+
     /// Reads bytes of the file until the record begins, at most all. Returns the counter after them
     /// and how many they are.
     pub(crate) fn until_begun(self, bytes: &[u8]) -> (LineCounter, usize)
@@ -153,6 +191,9 @@ impl LineCounter {
         ensures found { result.0.has_begun ≡ true → StopsAt self bytes.now result.1 }
         ensures all { result.0.has_begun ≡ false → result.1 ≡ length bytes.now }
     {
+        if let Some(lines) = self.passed(bytes) {
+            return (lines, bytes.len());
+        }
         let mut lines = self;
         let mut at = 0;
         while at < bytes.len() {
