@@ -72,6 +72,10 @@ ArePlacesIn cells lines located = All (HasPlaceIn cells lines) located
 abbrev pub AreAt : Option (List ℕ) → Record → Record → List LocatedFault → Type 0
 AreAt cells header row located = IfSome cells (λ bytes. All (λ l. HasRow (grid bytes) l.fault.row header row) located)
 
+-- The three readers have these bytes.
+abbrev pub AreReadersOf : Option (List ℕ) → Option (List ℕ) → Option (List ℕ) → List ℕ → Type 0
+AreReadersOf heads cells lines bytes = (heads ≡ Some bytes) × (cells ≡ Some bytes) × (lines ≡ Some bytes)
+
 -- All faults of the table whose file has these bytes are left.
 abbrev pub IsStartOf : ReportValue → ℕ → LocatedLeft → List ℕ → Type 0
-IsStartOf report table rows bytes = (rows.left ≡ Some (faults_by_row report table profile.rows (grid bytes))) × (rows.heads ≡ Some bytes) × (rows.cells ≡ Some bytes) × (rows.lines ≡ Some bytes)
+IsStartOf report table rows bytes = (rows.left ≡ Some (faults_by_row report table profile.rows (grid bytes))) × AreReadersOf rows.heads rows.cells rows.lines bytes

@@ -3,9 +3,9 @@
 ghost use Rattle.std.specs.Prelude.{◌≡◌, ◌⊎◌, ◌<◌, IfOk, IfSome, length, string_bytes, true};
 ghost use Rattle.oim_places.specs.FaultPlaces as spec;
 ghost use Rattle.oim_places.specs.FaultPlaces.{HasRecordOf, IsPlaceAt, IsPlaceOf, IsTablePath, column_place, unknown_place};
-ghost use Rattle.oim_places.specs.FaultLists.{IsStartOf};
+ghost use Rattle.oim_places.specs.FaultLists.{AreReadersOf, IsStartOf};
 ghost use Rattle.oim_places.specs.FolderFiles.{FoundAt};
-ghost use Rattle.oim_places.specs.state.FaultPlaces.{AreReadersOf, IsFirstIn};
+ghost use Rattle.oim_places.specs.state.FaultPlaces.{IsFirstIn};
 
 use crate::bad_rows::BadRows;
 use crate::records::RowAgain;
@@ -138,7 +138,7 @@ fn first_record<R: Read + Drop>(
     rows: &mut BadRows<'_, R>,
     fault: &TableFault,
 ) -> Result<Option<FaultRecord>, AllocError>
-    ensures { IfOk result (λ o. IfSome o (IsFirstIn rows.old fault.now)) }
+    ensures { IfOk result (λ o. IfSome o (λ r. (rows.old).heads ≡ (rows.old).cells → IsFirstIn rows.old fault.now r)) }
 {
     let Ok(Some(located)) = rows.next_row(alloc) else {
         return Ok(None);

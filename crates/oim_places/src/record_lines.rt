@@ -14,14 +14,6 @@ use std::mem;
 /// How many bytes of a file are looked at once, or some thousand more, up to the end of a record.
 const PIECE: usize = 65_536;
 
-/// How many bytes are passed at once where they are plain.
-const BLOCK: usize = 256;
-
-/// Returns the first of these bytes.
-fn first_block(bytes: &[u8]) -> &[u8] {
-    &bytes[..bytes.len().min(BLOCK)]
-}
-
 /// A file whose records are passed in order, with the line at which each begins.
 ///
 /// Contracts see the file's bytes, if they are known, and the number of the next record that can be
@@ -96,7 +88,7 @@ impl<R: Read + Drop> RecordLines<R> {
         if self.has_ended {
             return None;
         }
-        let (lines, count) = self.lines.until_begun(first_block(&self.piece[self.at..]));
+        let (lines, count) = self.lines.until_begun(&self.piece[self.at..]);
         self.at += count;
         let Some(line) = lines.line() else {
             self.lines = lines;

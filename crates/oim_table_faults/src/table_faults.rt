@@ -150,7 +150,7 @@ impl<R: Read + Drop> TableFaults<'_, R> {
         // What holds of any reader.
         ensures some { IfOk result (λ o. IfSome o (λ faults. 1 ≤ length faults)) }
         ensures counts { (self.old.given ≤ self.new.given) × (self.new.given ≤ self.new.limit + 1) }
-        ensures moves { IfOk result (λ o. OnSome o (IsSome self.new.answered ⊎ (self.old.given < self.new.given))) }
+        ensures moves { IfOk result (λ o. OnSome o (self.old.given < self.new.given)) }
         ensures same { KeepsTable self.old self.new }
     {
         while !self.is_settled() {
@@ -202,7 +202,7 @@ impl<R: Read + Drop> TableFaults<'_, R> {
     fn step(&mut self) -> Option<Items<TableFault>>
         requires { self.old.answered ≡ None }
         ensures rows { IfSome self.old.left (λ rows. Steps rows result self.new) }
-        ensures row { OnSome result (IsCurrent self.old.file self.new.given self.new.row) }
+        ensures row { OnSome result ((self.old.given < self.new.given) × IsCurrent self.old.file self.new.given self.new.row) }
         ensures some { IfSome result (λ faults. 1 ≤ length faults) }
         ensures counts { (self.old.given ≤ self.new.given) × (self.new.given ≤ self.new.limit + 1) }
         ensures moves { IsSome self.new.answered ⊎ (self.old.given < self.new.given) }

@@ -7,10 +7,6 @@ use Rattle.oim_places.specs.FaultLists.{LocatedLeft}
 use Rattle.oim_places.specs.FaultPlaces.{HasRow, stands_at}
 use Rattle.oim_places.specs.declared.fault_places.FaultRecord.{FaultRecord}
 
--- The three readers have these bytes.
-abbrev pub AreReadersOf : Option (List ℕ) → Option (List ℕ) → Option (List ℕ) → List ℕ → Type 0
-AreReadersOf one two three bytes = (one ≡ Some bytes) × (two ≡ Some bytes) × (three ≡ Some bytes)
-
 -- The fault is the first of those that are left, and this is its record with its place.
 pub record IsFirstIn (rows : LocatedLeft) (f : TableFault) (r : FaultRecord) : Type 0 where
   pub first : IfSome rows.left (λ left. (others : List TableFault) × (later : List (List TableFault)) × (left ≡ (f ∷ others) ∷ later))
