@@ -95,9 +95,9 @@ current_row : IsCurrent (Some two_rows) 2 (codes "2" ∷ []) × IsCurrent None 2
 unfolding records_left records_from strip_bom next_record
 current_row = (refl, tt)
 
-another_row : IsCurrent (Some two_rows) 1 (codes "2" ∷ []) → ⊥
+another_row : IsCurrent (Some two_rows) 1 [] → ⊥
 unfolding records_left records_from strip_bom next_record
-another_row h = absurd (cc h)
+another_row h = let other : Some (codes "1" ∷ []) ≡ Some [] = h in absurd (cc other)
 
 -- `IsReading`: the rows after it are left.
 rows_after : IsReading (Some two_rows) 1 (Some ((codes "2" ∷ []) ∷ []))

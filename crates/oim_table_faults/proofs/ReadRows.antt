@@ -1,5 +1,5 @@
 -- What is left of a table's bad rows after one more row was read.
-use Rattle.std.proofs.Common.{◌≡◌, ◌∙◌, ◌++◌, ◌+◌, ℕ, zero, suc, arith, drop, slice_get, Bool, true, false, List, [], ◌∷◌, Option, Some, None, Result, refl, sym, ap, subst, option_map, unwrap_or, IfSome, IsSome}
+use Rattle.std.proofs.Common.{◌≡◌, ◌∙◌, ◌++◌, ◌+◌, ℕ, zero, suc, arith, drop, slice_get, Bool, true, false, List, [], ◌∷◌, Option, Some, None, Result, refl, sym, ap, subst, option_map, unwrap_or, IfSome, IsSome, OnSome}
 use Rattle.std.specs.Prelude.{◌||◌, if◌then◌else◌, is_none, nat_lt}
 use Rattle.std.specs.List.{list_any}
 use Rattle.std.specs.Str.{bytes_eq}
@@ -119,6 +119,10 @@ taken_at [] zero r after took = cc took.0
 taken_at [] (suc n) r after took = cc took.0
 taken_at (x ∷ rest) zero r after took = (ap Some (sym took.1), took.2)
 taken_at (x ∷ rest) (suc n) r after took = taken_at rest n r after took
+
+pub on_some : {A : Type 0} (o : Option A) (P : Type 0) → P → OnSome o P
+on_some None P h = tt
+on_some (Some x) P h = h
 
 -- One more row was read, and is the current one.
 pub row_read : (file : Option (List ℕ)) (n : ℕ) (r : Record) (left after : Option (List Record)) → IsReading file n left → TakesRecord left true r after

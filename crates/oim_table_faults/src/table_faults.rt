@@ -50,7 +50,7 @@ impl<R: Read + Drop> Drop for TableFaults<'_, R> {
 }
 
 impl<'a, R: Read + Drop> Model for TableFaults<'a, R> {
-    ghost use Rattle.std.specs.Prelude.{◌≡◌, ◌≤◌, ◌<◌, ◌^◌, ◌-◌, ◌+◌};
+    ghost use Rattle.std.specs.Prelude.{◌≡◌, ◌≤◌, ◌<◌, ◌^◌, ◌-◌, ◌+◌, None};
     ghost use Rattle.oim_table_faults.specs.Reading.{FaultsLeft};
     ghost use Rattle.oim_table_faults.specs.state.Rows.{IsReading, left_of};
 
@@ -178,7 +178,7 @@ impl<R: Read + Drop> TableFaults<'_, R> {
     // Returns whether the end or a failure was found.
     fn is_settled(&self) -> bool
         ensures value { result ≡ is_some (self.now).answered }
-        ensures within { (self.now).answered ≡ None → (self.now).given ≤ (self.now).limit }
+        ensures within { (self.now).given ≤ (self.now).limit + 1 }
     {
         match self.settled {
             Some(_) => true,

@@ -1,4 +1,4 @@
-use Rattle.std.proofs.Common.{◌≡◌, ◌≤◌, ◌-◌, IfSome, IsSome, None}
+use Rattle.std.proofs.Common.{◌≡◌, ◌≤◌, ◌+◌, ◌-◌, IfSome, IsSome, None}
 use Rattle.oim_table_faults.specs.Reading.{KeepsTable}
 use Rattle.oim_table_faults.specs.state.Rows.{StillLeft, turns_left}
 use Rattle.oim_table_faults.proofs.table_faults.TableFaults.next_row.Given as goal
@@ -12,4 +12,4 @@ invariant-loop-self g l = record {
 }
 
 abbrev pub decreases-loop-self : goal.decreases-loop-self
-decreases-loop-self g l = turns_left l.self.answered (l.self.limit - l.self.given)
+decreases-loop-self g l = turns_left l.self.answered ((l.self.limit + 1) - l.self.given)
