@@ -48,11 +48,12 @@ record_found law None path report f rows r found first = tt
 record_found law (Some files) path report f rows r found first =
     let bytes = found.0 in
     let start = found.2 in
-    let same : rows.heads ≡ rows.cells = start.1 ∙ sym start.2 in (
+    let of = start.1 in
+    let same : rows.heads ≡ rows.cells = of.0 ∙ sym of.1 in (
       bytes,
       found.1,
       (
-        subst (λ o. IfSome o (λ bytes. HasRow (grid bytes) f.row (fields_of r.cells.header) (fields_of r.cells.row))) start.2 (first same).cells,
+        subst (λ o. IfSome o (λ bytes. HasRow (grid bytes) f.row (fields_of r.cells.header) (fields_of r.cells.row))) of.1 (first same).cells,
         inr (first_of_file law report f bytes rows.left start.0 (first same).first),
       ),
     )
@@ -63,9 +64,10 @@ place_found law None path report f rows r is found first = tt
 place_found law (Some files) path report f rows r is found first =
     let bytes = found.0 in
     let start = found.2 in
-    let same : rows.heads ≡ rows.cells = start.1 ∙ sym start.2 in
-    let texts = subst (λ o. IfSome o (λ bytes. (r.place.header ≡ (stands_at bytes f.row f.column).header) × (r.place.cell ≡ (stands_at bytes f.row f.column).cell))) start.2 (first same).texts in
-    let line = subst (λ o. IfSome o (λ bytes. r.place.line ≡ (stands_at bytes f.row f.column).line)) start.3 (first same).line in (
+    let of = start.1 in
+    let same : rows.heads ≡ rows.cells = of.0 ∙ sym of.1 in
+    let texts = subst (λ o. IfSome o (λ bytes. (r.place.header ≡ (stands_at bytes f.row f.column).header) × (r.place.cell ≡ (stands_at bytes f.row f.column).cell))) of.1 (first same).texts in
+    let line = subst (λ o. IfSome o (λ bytes. r.place.line ≡ (stands_at bytes f.row f.column).line)) of.2 (first same).line in (
       is,
       (bytes, found.1, (first_of_file law report f bytes rows.left start.0 (first same).first, (texts.0, texts.1, line_is r.place.line (line_of_record f.row bytes) line))),
     )

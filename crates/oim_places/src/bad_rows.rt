@@ -6,7 +6,7 @@ ghost use Rattle.csv.specs.Records.{fields_of};
 ghost use Rattle.oim_files.specs.Metadata.{profile};
 ghost use Rattle.oim_records.specs.Grids.{grid};
 ghost use Rattle.oim_rows.specs.Streams.{IsOutside};
-ghost use Rattle.oim_table_faults.specs.Reading.{GivesBadRow};
+ghost use Rattle.oim_table_faults.specs.Reading.{GivesBadRow, KeepsTable};
 ghost use Rattle.oim_places.specs.FaultLists.{AreAt, ArePlacesIn, GivesRow, RecordsByRow, faults_by_row};
 ghost use Rattle.oim_places.specs.state.FaultLists.{AreOf, HasRowOf, IsPlacedIn, KeepsFiles, left_with};
 
@@ -14,6 +14,7 @@ use crate::cells::field_as_text;
 use crate::fault_places::{FaultPlace, place_in_record};
 use crate::record_lines::RecordLines;
 use crate::records::{RowAgain, copy_fields, header_of};
+use csv::ByteRecord;
 use ghost_value::GhostValue;
 use oim_meta::{Limits, Report};
 use oim_names::Items;
@@ -148,6 +149,26 @@ fn opened<'a, R: Read + Drop>(
     }
 }
 
+/// Returns the faults of the next bad row of this table, and copies that row.
+fn next_copied<R: Read + Drop>(
+    table: usize,
+    rows: &mut TableFaults<'_, R>,
+    row: &mut ByteRecord,
+) -> Result<Option<Items<TableFault>>, TableFault>
+    requires { (rows.old).table ≡ table }
+    ensures next { IfSome (rows.old).left (λ left. GivesBadRow table left result (rows.new).left) }
+    ensures row { IfOk result (λ o. OnSome o (HasRowOf (rows.old).file (rows.new).given (fields_of row.new))) }
+    ensures same { KeepsTable rows.old rows.new }
+{
+    let Some(faults) = rows.next_row()? else {
+        return Ok(None);
+    };
+    match copy_fields(&rows.row(), row) {
+        Ok(()) => Ok(Some(faults)),
+        Err(_) => Err(whole_fault(table, TableKind::Memory)),
+    }
+}
+
 impl<'a, R: Read + Drop> BadRows<'a, R> {
     /// Opens the table at place `table` of the report. The readers are three of its file: for its
     /// header, its rows and its lines.
@@ -193,20 +214,14 @@ impl<'a, R: Read + Drop> BadRows<'a, R> {
         ensures row { IfOk result (λ o. OnSome o (HasRowOf self.old.cells self.new.number self.new.row)) }
         ensures same { KeepsFiles self.old self.new }
     {
-        let Some(rows) = &mut self.rows else {
-            let Some(fault) = self.header.take() else {
-                return Ok(None);
-            };
-            return match alone(alloc, fault) {
-                Ok(faults) => Ok(Some(faults)),
-                Err(_) => Err(whole_fault(self.table, TableKind::Memory)),
-            };
-        };
-        let Some(faults) = rows.next_row()? else {
+        if let Some(rows) = &mut self.rows {
+            return next_copied(self.table, rows, &mut self.cells.row);
+        }
+        let Some(fault) = self.header.take() else {
             return Ok(None);
         };
-        match copy_fields(&rows.row(), &mut self.cells.row) {
-            Ok(()) => Ok(Some(faults)),
+        match alone(alloc, fault) {
+            Ok(faults) => Ok(Some(faults)),
             Err(_) => Err(whole_fault(self.table, TableKind::Memory)),
         }
     }
