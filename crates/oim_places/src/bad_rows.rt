@@ -49,6 +49,7 @@ fn alone(alloc: Global, fault: TableFault) -> Result<Items<TableFault>, AllocErr
 /// header, the rows and the lines are read, if these are known.
 #[derive(Drop)]
 pub struct BadRows<'a, R: Read + Drop> {
+    // What the readers of the header and of the rows had at first.
     heads: GhostValue<R>,
     file: GhostValue<R>,
     table: usize,
@@ -261,6 +262,9 @@ impl<'a, R: Read + Drop> BadRows<'a, R> {
     /// at the end of the table. A fault of the header is given as the first row would be.
     ///
     /// Fails with Read if a reader failed or the file changed, and with Memory if memory runs out.
+    ///
+    /// The cells are those of the file if the readers of the header and the rows have the same
+    /// bytes.
     pub fn next_row(&mut self, alloc: Global) -> Result<Option<Items<LocatedFault>>, TableFault>
         ensures next { IfSome self.old.left (λ rows. GivesRow self.old.table rows result self.new.left) }
         ensures places { self.old.heads ≡ self.old.cells → IfOk result (λ o. IfSome o (λ located. ArePlacesIn self.old.cells self.old.lines located)) }

@@ -58,7 +58,7 @@ pub(crate) fn header_of<R: Read + Drop>(alloc: Global, reader: R) -> Option<RowA
     }
 }
 
-/// Copies the fields of a record.
+/// Copies the fields of a record into `row`. If memory runs out, it has the first of them.
 pub(crate) fn copy_fields(fields: &Fields<'_>, row: &mut ByteRecord) -> Result<(), AllocError>
     ensures { OnOk result (fields_of row.new ≡ fields.now) }
 {

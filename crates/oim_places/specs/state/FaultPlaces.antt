@@ -1,7 +1,7 @@
 -- How the record of a table's fault is found in the files.
-use Rattle.std.specs.Prelude.{◌≡◌, ℕ, List, ◌∷◌, Option, Some, IfSome}
+use Rattle.std.specs.Prelude.{◌≡◌, List, ◌∷◌, IfSome}
 use Rattle.csv.specs.Records.{fields_of}
-use Rattle.oim_records.specs.Grids.{Record, grid}
+use Rattle.oim_records.specs.Grids.{grid}
 use Rattle.oim_rows.specs.declared.fault.TableFault.{TableFault}
 use Rattle.oim_places.specs.FaultLists.{LocatedLeft}
 use Rattle.oim_places.specs.FaultPlaces.{HasRow, stands_at}
