@@ -20,6 +20,9 @@ use std::marker::Model;
 /// The length, in bytes, after which a text gets no further fact of a row at once.
 const LONG: usize = 1_048_576;
 
+/// The most facts of a row that is always written at once.
+const FEW: usize = 16;
+
 /// How the rows of a table become the texts of their facts.
 ///
 /// Contracts see the table's header.
@@ -122,9 +125,51 @@ impl<'a> RowTexts<'a> {
     }
 
     /// Begins a row as `begin_row` does, or returns None if the fast way leaves it. Then more may
-    /// follow the old items of both lists.
+    /// follow the old items of both lists. A row of few facts is not tested: it is written at once.
     #[inline(always)]
     fn begin_fast(
+        &mut self,
+        alloc: Global,
+        row: &TableRow<'a, '_>,
+        out: &mut TextBuffer,
+        ends: &mut Vec<usize>,
+    ) -> Result<Option<Option<usize>>, AllocError>
+        requires header { row.now.header ≡ self.old }
+        ensures facts { IfOk result (λ o. IfSome o (λ next. BeginsTexts row.now next out.old.items out.new.items ends.old.items ends.new.items)) }
+        ensures front { IsPrefix out.old.items out.new.items × IsPrefix ends.old.items ends.new.items }
+        ensures same { self.new ≡ self.old }
+    {
+        if self.fast.columns() <= FEW {
+            self.put_few(alloc, row, out, ends)
+        } else {
+            self.begin_long(alloc, row, out, ends)
+        }
+    }
+
+    /// Writes a row as a whole, as `begin_fast` may.
+    #[inline(always)]
+    fn put_few(
+        &mut self,
+        alloc: Global,
+        row: &TableRow<'a, '_>,
+        out: &mut TextBuffer,
+        ends: &mut Vec<usize>,
+    ) -> Result<Option<Option<usize>>, AllocError>
+        requires header { row.now.header ≡ self.old }
+        ensures facts { IfOk result (λ o. IfSome o (λ next. BeginsTexts row.now next out.old.items out.new.items ends.old.items ends.new.items)) }
+        ensures front { IsPrefix out.old.items out.new.items × IsPrefix ends.old.items ends.new.items }
+        ensures same { self.new ≡ self.old }
+    {
+        if self.fast.put_row(alloc, row, out, ends)? {
+            Ok(Some(None))
+        } else {
+            Ok(None)
+        }
+    }
+
+    /// Begins a row whose facts may be many, as `begin_fast` does.
+    #[inline(always)]
+    fn begin_long(
         &mut self,
         alloc: Global,
         row: &TableRow<'a, '_>,

@@ -3,7 +3,6 @@ use Rattle.std.proofs.lemmas.Option.{IfSome_then}
 use Rattle.oim_convert.specs.Histories.{facts_in}
 use Rattle.oim_convert.proofs.SentFacts.{opened_given, unopened_given}
 use Rattle.oim_convert.proofs.alone.send_alone.Goals as goal
-use Rattle.oim_convert.proofs.alone.send_alone.Goals.{in-Some-1, in-None-1}
 
 pub returns-in-Err-clause-given : goal.returns-in-Err-clause-given
 returns-in-Err-clause-given g c =
@@ -12,11 +11,6 @@ returns-in-Err-clause-given g c =
 
 pub returns-in-Ok-clause-given : goal.returns-in-Ok-clause-given
 returns-in-Ok-clause-given g c =
-    elim c.match-blocks.branch [
-      | in-Some-1 w ↦ opened_given c.args.file.report.now c.args.file.table c.in-Ok.blocks.table c.args.file.limits.rows (g.R.Read.remaining c.args.file.reader)
-          c.in-Ok.blocks.left (facts_in c.send_blocks.new.feed.sent) c.send_blocks.result c.in-Ok.ensures.start.0 c.in-Ok.ensures.stream
-          c.send_blocks.ensures.given
-      | in-None-1 w ↦ opened_given c.args.file.report.now c.args.file.table c.in-Ok.blocks.table c.args.file.limits.rows (g.R.Read.remaining c.args.file.reader)
-          c.in-Ok.blocks.left (facts_in c.send_blocks.new.feed.sent) c.send_blocks.result c.in-Ok.ensures.start.0 c.in-Ok.ensures.stream
-          c.send_blocks.ensures.given
-    ]
+    opened_given c.args.file.report.now c.args.file.table c.in-Ok.blocks.table c.args.file.limits.rows (g.R.Read.remaining c.args.file.reader)
+    c.in-Ok.blocks.left (facts_in c.send_blocks.new.feed.sent) c.send_blocks.result c.in-Ok.ensures.start.0 c.in-Ok.ensures.stream
+    c.send_blocks.ensures.given

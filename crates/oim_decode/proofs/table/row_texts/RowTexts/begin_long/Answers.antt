@@ -1,6 +1,6 @@
 use Rattle.std.proofs.Common.{◌≡◌, ◌∙◌, arith, sym}
 use Rattle.oim_decode.proofs.RowPartLaws.{all_begun, columns_are, part_tested}
-use Rattle.oim_decode.proofs.table.row_texts.RowTexts.begin_fast.Goals as goal
+use Rattle.oim_decode.proofs.table.row_texts.RowTexts.begin_long.Goals as goal
 
 pub returns-then-next-columns-clause-facts : goal.returns-then-next-columns-clause-facts
 returns-then-next-columns-clause-facts c =
