@@ -341,6 +341,6 @@ table_listed law (Some files) from out meta path report id f most rows (Ok liste
     let bytes = found.0 in
     let start = found.2 in
     let given : ListsRows from out rows.table id f most (record_of id bytes) (faults_by_row report f.table profile.rows (grid bytes)) listed =
-    subst (λ o. IfSome o (λ left. ListsRows from out rows.table id f most (record_of id bytes) left listed)) start.0 (lists bytes (start.1, start.2, start.3)) in
+    subst (λ o. IfSome o (λ left. ListsRows from out rows.table id f most (record_of id bytes) left listed)) start.0 (lists bytes start.1) in
     of_table law files from out meta path report id f most bytes listed is at found.1
     (subst (λ t. ListsRows from out t id f most (record_of id bytes) (faults_by_row report f.table profile.rows (grid bytes)) listed) same given)
