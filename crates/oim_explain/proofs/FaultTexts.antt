@@ -15,13 +15,12 @@ use Rattle.oim_rows.specs.declared.fault.TableFault.{TableFault}
 use Rattle.oim_rows.specs.Header.{file_header_fault}
 use Rattle.oim_table_faults.specs.Laws.{FirstIsOfStream, first_in}
 use Rattle.oim_table_faults.specs.TableFaults.{alone_or, bad_rows_of, faults_of_rows}
-use Rattle.oim_places.specs.FaultLists.{ArePlacesIn, AreReadersOf, GivesRow, HasPlaceIn, IsStartOf, LocatedLeft, faults_by_row, header_or, record_of}
+use Rattle.oim_places.specs.FaultLists.{ArePlacesIn, AreReadersOf, GivesRow, HasPlaceIn, IsStartOf, KeepsFiles, LocatedLeft, faults_by_row, header_or, record_of}
 use Rattle.oim_places.specs.FaultPlaces.{IsTablePath, fault_of_file, is_of_file, unknown_place}
 use Rattle.oim_places.specs.FolderFiles.{FoundAt}
 use Rattle.oim_places.specs.FaultRows.{no_cause}
 use Rattle.oim_places.specs.declared.bad_rows.LocatedFault.{LocatedFault}
 use Rattle.oim_places.specs.declared.fault_cause.FaultCause.{FaultCause}
-use Rattle.oim_places.specs.state.FaultLists.{KeepsFiles}
 use Rattle.oim_explain.specs.ListedFaults.{IsRecordOf, ListsAlone, ListsTable, Writes, WritesEach, WritesRows, fault_text, listed_of, room_after, texts_of, up_to}
 use Rattle.oim_explain.specs.state.ListedRows.{ListsRows, StartsRows, StartsWith, located_record, more_text}
 use Rattle.oim_explain.specs.declared.fault_list.ListedFaults.{ListedFaults}

@@ -51,6 +51,10 @@ pub record LocatedLeft : Type 0 where
   pub header : Record
   pub row : Record
 
+-- The table is the same, and so are the files from which header, rows and lines are read.
+abbrev pub KeepsFiles : LocatedLeft → LocatedLeft → Type 0
+KeepsFiles old new = (new.table ≡ old.table) × (new.heads ≡ old.heads) × (new.cells ≡ old.cells) × (new.lines ≡ old.lines)
+
 -- An answer if these faults are left: those of the first row, and the others remain; or the end, if
 -- none is left. Or a reader failed or memory ran out.
 abbrev pub GivesRow : ℕ → List (List TableFault) → Result (Option (List LocatedFault)) TableFault → Option (List (List TableFault)) → Type 0

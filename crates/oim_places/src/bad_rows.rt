@@ -7,8 +7,8 @@ ghost use Rattle.oim_files.specs.Metadata.{profile};
 ghost use Rattle.oim_records.specs.Grids.{grid};
 ghost use Rattle.oim_rows.specs.Streams.{IsOutside};
 ghost use Rattle.oim_table_faults.specs.Reading.{GivesBadRow, KeepsTable};
-ghost use Rattle.oim_places.specs.FaultLists.{AreAt, ArePlacesIn, GivesRow, RecordsByRow, faults_by_row};
-ghost use Rattle.oim_places.specs.state.FaultLists.{AreOf, HasRowOf, IsPlacedIn, KeepsFiles, left_with};
+ghost use Rattle.oim_places.specs.FaultLists.{AreAt, ArePlacesIn, GivesRow, KeepsFiles, RecordsByRow, faults_by_row};
+ghost use Rattle.oim_places.specs.state.FaultLists.{AreOf, HasRowOf, IsPlacedIn, left_with};
 
 use crate::cells::field_as_text;
 use crate::fault_places::{FaultPlace, place_in_record};

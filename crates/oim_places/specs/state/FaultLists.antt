@@ -3,7 +3,7 @@ use Rattle.std.specs.Prelude.{◌≡◌, ℕ, List, [], Option, Some, None, IfSo
 use Rattle.oim_records.specs.Grids.{Record, grid}
 use Rattle.oim_rows.specs.declared.fault.TableFault.{TableFault}
 use Rattle.oim_table_faults.specs.Reading.{FaultsLeft}
-use Rattle.oim_places.specs.FaultLists.{LocatedLeft, header_or}
+use Rattle.oim_places.specs.FaultLists.{header_or}
 use Rattle.oim_places.specs.FaultPlaces.{IsRowAt, column_text}
 use Rattle.oim_places.specs.declared.fault_places.FaultPlace.{FaultPlace}
 
@@ -30,10 +30,6 @@ HasHeader file header = IfSome file (λ bytes. slice_get (grid bytes) 0 ≡ Some
 -- The file with these bytes has this row of that number.
 abbrev pub HasRowOf : Option (List ℕ) → ℕ → Record → Type 0
 HasRowOf file number row = IfSome file (λ bytes. IsRowAt (grid bytes) number row)
-
--- Header, rows and lines are those of the same files.
-abbrev pub KeepsFiles : LocatedLeft → LocatedLeft → Type 0
-KeepsFiles old new = (new.table ≡ old.table) × (new.heads ≡ old.heads) × (new.cells ≡ old.cells) × (new.lines ≡ old.lines)
 
 -- What is at a column of a record that begins at this line, under this header.
 abbrev pub IsPlacedIn : Record → Record → (line column : ℕ) → FaultPlace → Type 0

@@ -1,6 +1,5 @@
 use Rattle.std.proofs.Common.{ℕ, List, IfSome}
-use Rattle.oim_places.specs.FaultLists.{AreReadersOf, record_of}
-use Rattle.oim_places.specs.state.FaultLists.{KeepsFiles}
+use Rattle.oim_places.specs.FaultLists.{AreReadersOf, KeepsFiles, record_of}
 use Rattle.oim_explain.proofs.FaultTexts.{Completes}
 use Rattle.oim_explain.proofs.fault_list.put_rest.Given as goal
 
