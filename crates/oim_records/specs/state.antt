@@ -9,3 +9,4 @@ pub mod PlainReaders
 pub mod ReadFaults
 pub mod PieceTaking
 pub mod Reads
+pub mod KeptTexts
