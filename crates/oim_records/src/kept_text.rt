@@ -1,75 +1,119 @@
 //! A text as its file has it, kept before quotes are taken out of it in place.
 
-ghost use Rattle.std.specs.Prelude.{◌≡◌, IfOk, None, OnOk, Some};
-ghost use Rattle.oim_records.specs.state.KeptTexts.{file_text};
+ghost use Rattle.std.specs.Prelude.{◌≡◌, ◌<◌, ◌≤◌, List, ℕ, None, OnOk, Some, option_map};
+ghost use Rattle.oim_records.specs.state.KeptTexts.{KeepsFile, file_text};
 
 use std::alloc::{AllocError, Global};
 use std::marker::Model;
 
-/// The copy of a text, once one is kept. The vector is used again for later texts.
+/// Bytes that are copied at once. From 4,096 bytes on, glibc copies with one instruction that
+/// repeats for each byte.
+const PART: usize = 2048;
+
+/// What is known of a text as its file has it.
+#[derive(Clone, Copy, Drop)]
+enum Kept {
+    /// The text has not changed.
+    Unchanged,
+    /// The text was copied before it changed.
+    Copied,
+    /// Memory ran out before the text changed.
+    Lost,
+}
+
+/// A text as its file has it, if quotes are taken out of the text in place. The vector is used
+/// again for later texts.
 ///
-/// Contracts see the text, if it is kept.
+/// Contracts see nothing if the text has not changed, and else the file's text, unless it is lost.
 #[derive(Drop)]
 pub(crate) struct KeptText {
     bytes: Vec<u8>,
-    is_kept: bool,
+    kept: Kept,
 }
 
 impl Model for KeptText {
-    ghost use Rattle.std.specs.Prelude.{List, ℕ, None, Option, Some, if◌then◌else◌};
+    ghost use Rattle.std.specs.Prelude.{List, ℕ, Option};
+    ghost use Rattle.oim_records.specs.state.KeptStates.{kept_in};
 
-    ghost Value = { Option (List ℕ) };
+    ghost Value = { Option (Option (List ℕ)) };
 
-    ghost view = { λ a. if a.is_kept then Some a.bytes.items else None };
+    ghost view = { λ a. kept_in a.kept a.bytes.items };
+}
+
+/// Returns the end of the part of a text that begins at `at`.
+fn part_end(length: usize, at: usize) -> usize
+    requires { at < length }
+    ensures some { at < result }
+    ensures within { result ≤ length }
+{
+    if length - at < PART { length } else { at + PART }
+}
+
+/// Copies a text into a vector, over what it has.
+fn copy_text(text: &[u8], bytes: &mut Vec<u8>) -> Result<(), AllocError>
+    ensures { OnOk result (bytes.new.items ≡ text.now) }
+{
+    bytes.clear();
+    bytes.reserve(text.len())?;
+    let mut at = 0;
+    while at < text.len() {
+        let end = part_end(text.len(), at);
+        bytes.extend_from_slice(&text[at..end])?;
+        at = end;
+    }
+    Ok(())
 }
 
 impl KeptText {
-    /// Keeps no text yet and takes no memory.
+    /// Begins with a text that has not changed. Takes no memory.
     pub(crate) fn new(alloc: Global) -> KeptText
         ensures { result ≡ None }
     {
         KeptText {
             bytes: Vec::new(alloc),
-            is_kept: false,
+            kept: Kept::Unchanged,
         }
     }
 
-    /// Keeps no text any more.
+    /// Begins with another text, which has not changed.
     pub(crate) fn forget(&mut self)
         ensures { self.new ≡ None }
     {
-        self.is_kept = false;
+        self.kept = Kept::Unchanged;
     }
 
-    /// Copies a text. If memory runs out, no text is kept.
+    /// Copies the text, which has not changed. If memory runs out, the file's text is lost.
     #[cold]
     #[inline(never)]
-    fn copy(&mut self, text: &[u8]) -> Result<(), AllocError>
-        ensures { OnOk result (self.new ≡ Some text.now) }
+    fn copy(&mut self, text: &[u8])
+        ensures { (now : List ℕ) → KeepsFile (Some text.now) (file_text self.new now) }
     {
-        self.is_kept = false;
-        self.bytes.clear();
-        self.bytes.extend_from_slice(text)?;
-        self.is_kept = true;
-        Ok(())
+        self.kept = match copy_text(text, &mut self.bytes) {
+            Ok(()) => Kept::Copied,
+            Err(_) => Kept::Lost,
+        };
     }
 
-    /// Keeps a text, unless one is kept already.
+    /// Keeps the text before it changes. If memory runs out, the file's text is lost.
     #[inline(always)]
-    pub(crate) fn keep(&mut self, text: &[u8]) -> Result<(), AllocError>
-        ensures { OnOk result (self.new ≡ Some (file_text self.old text.now)) }
+    pub(crate) fn keep(&mut self, text: &[u8])
+        ensures { (now : List ℕ) → KeepsFile (file_text self.old text.now) (file_text self.new now) }
     {
-        if self.is_kept {
-            return Ok(());
+        match self.kept {
+            Kept::Unchanged => self.copy(text),
+            Kept::Copied => {}
+            Kept::Lost => {}
         }
-        self.copy(text)
     }
 
-    /// Returns the text that is kept, or `text` if none is.
-    #[inline(always)]
-    pub(crate) fn or<'a>(&'a self, text: &'a [u8]) -> &'a [u8]
-        ensures { result.now ≡ file_text self.now text.now }
+    /// Returns the file's text, if it is not lost. `text` is the text as it is now.
+    pub(crate) fn file<'a>(&'a self, text: &'a [u8]) -> Option<&'a [u8]>
+        ensures { option_map (λ file. file.now) result ≡ file_text self.now text.now }
     {
-        if self.is_kept { &self.bytes } else { text }
+        match self.kept {
+            Kept::Unchanged => Some(text),
+            Kept::Copied => Some(&self.bytes),
+            Kept::Lost => None,
+        }
     }
 }

@@ -1,7 +1,7 @@
 use Rattle.std.proofs.Common.{◌≡◌, ◌++◌, ◌∙◌, sym, subst, arith, drop, take, length, length-take-le}
 use Rattle.std.proofs.lemmas.List.{take_at}
 use Rattle.oim_records.specs.state.Fields.{IsFirstRecord, fields_in}
-use Rattle.oim_records.specs.state.KeptTexts.{file_text}
+use Rattle.oim_records.specs.state.KeptTexts.{KeepsFile, file_text}
 use Rattle.oim_records.proofs.FieldLaws.{line-starts}
 use Rattle.oim_records.proofs.PieceReads.{lines-passed, none-left, record-taken}
 use Rattle.oim_records.proofs.piece_records.read_first.Goals as goal
@@ -54,4 +54,4 @@ returns-clause-kept c =
     let rest = drop c.args.end c.args.bytes.now in
     let size : length text ≡ c.args.end = length-take-le c.args.end c.args.bytes.now c.requires.end in
     let long : length now ≡ length text = c.read_record.auto.text in
-    subst (λ xs. file_text c.read_record.new.kept xs ≡ file_text c.args.kept.now text) (sym (take_at now rest c.args.end (long ∙ size))) c.in_ok-next.ensures.kept
+    subst (λ xs. KeepsFile (file_text c.args.kept.now text) (file_text c.read_record.new.kept xs)) (sym (take_at now rest c.args.end (long ∙ size))) c.in_ok-next.ensures.kept
