@@ -23,34 +23,40 @@ begins-none text current none some = let empty : length current ≡ 0 = ap lengt
 
 -- No record is current, and the text has not changed.
 pub file-unread : (bytes : List ℕ) (end at start : ℕ) (current : Record) → start ≤ end → current ≡ [] → HoldsFile None bytes end at start current
-file-unread bytes end at start current low none =
-    (low, λ file e.
+file-unread bytes end at start current low none = (
+  low,
+  λ file e.
       let same : take end bytes ≡ file = cc in
-      subst (λ xs. IsFileOf (take end bytes) at start current xs) same (record { long = refl; left = refl; begins = begins-none (drop start (take end bytes)) current none }))
+      subst (λ xs. IsFileOf (take end bytes) at start current xs) same (record { long = refl; left = refl; begins = begins-none (drop start (take end bytes)) current none }),
+)
 
 -- No record is left.
 pub file-ended : (kept new : Option (Option (List ℕ))) (bytes : List ℕ) (end at start : ℕ) (current : Record) → HoldsFile kept bytes end at start current → end ≤ length bytes
     → KeepsFile (file_text kept (take end bytes)) (file_text new (take end bytes)) → HoldsFile new bytes end end start current
-file-ended kept new bytes end at start current h high keeps =
-    (h.0, λ file e.
+file-ended kept new bytes end at start current h high keeps = (
+  h.0,
+  λ file e.
       let f = h.1 file (keeps file e) in
       let long = f.long in
       let size : length (take end bytes) ≡ end = length-take-le end bytes high in
-      record { long = f.long; left = drop_all end file (omega arith) ∙ sym (drop_all end (take end bytes) (omega arith)); begins = f.begins })
+      record { long = f.long; left = drop_all end file (omega arith) ∙ sym (drop_all end (take end bytes) (omega arith)); begins = f.begins },
+)
 
 -- The next record is current.
 pub file-next : (kept new : Option (Option (List ℕ))) (old now : List ℕ) (end at start next : ℕ) (before current : Record) → HoldsFile kept old end at start before → end ≤ length old → end ≤ length now
     → at ≤ end → at ≤ next → KeepsFile (file_text kept (take end old)) (file_text new (take end now)) → drop next (take end now) ≡ drop next (take end old)
     → IsFirstRecord (drop at (take end old)) current (drop next (take end now)) → HoldsFile new now end next at current
 file-next kept new old now end at start next before current h high_old high within low keeps behind first =
-    let found : IsFirstOf (records_left state.StartRecord (drop at (take end old))) current = subst (λ rs. IsFirstOf rs current) (sym first) refl in
-    (within, λ file e.
-      let f = h.1 file (keeps file e) in
-      record {
-        long = f.long ∙ length-take-le end old high_old ∙ sym (length-take-le end now high);
-        left = same-behind file (take end old) at next f.left low ∙ sym behind;
-        begins = λ some. subst (λ xs. IsFirstOf (records_left state.StartRecord xs) current) (sym f.left) found;
-      })
+    let found : IsFirstOf (records_left state.StartRecord (drop at (take end old))) current = subst (λ rs. IsFirstOf rs current) (sym first) refl in (
+      within,
+      λ file e.
+          let f = h.1 file (keeps file e) in
+          record {
+            long = f.long ∙ length-take-le end old high_old ∙ sym (length-take-le end now high);
+            left = same-behind file (take end old) at next f.left low ∙ sym behind;
+            begins = λ some. subst (λ xs. IsFirstOf (records_left state.StartRecord xs) current) (sym f.left) found;
+          },
+    )
 
 -- An empty line before a text keeps a byte-order mark at the text's start.
 mark-stays : (xs : List ℕ) → strip_bom (10 ∷ xs) ≡ 10 ∷ xs

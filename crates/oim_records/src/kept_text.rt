@@ -46,7 +46,11 @@ fn part_end(length: usize, at: usize) -> usize
     ensures some { at < result }
     ensures within { result ≤ length }
 {
-    if length - at < PART { length } else { at + PART }
+    if length - at < PART {
+        length
+    } else {
+        at + PART
+    }
 }
 
 /// Copies a text into a vector, over what it has.
