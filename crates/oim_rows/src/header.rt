@@ -143,7 +143,8 @@ fn take_header<C: Cells>(
     checked_columns(alloc, report, table, columns)
 }
 
-/// Reads the first record and returns the columns of a table's header.
+/// Reads the first record and returns the columns of a table's header. The `csv` crate reads the
+/// header again from the file's bytes.
 pub(crate) fn read_header<R: Read + Drop>(
     alloc: Global,
     report: &Report,
@@ -155,9 +156,9 @@ pub(crate) fn read_header<R: Read + Drop>(
     ensures fault { IfErr result (λ e. IsOutside table e ⊎ IfSome records.old.left (λ rs. file_header_fault report.now table rs ≡ Some e)) }
 {
     let found = records.read();
-    if found != Ok(true) {
+    let Ok(true) = found else {
         return take_header(alloc, report, table, found, &records.fields());
-    }
+    };
     match records.fields().read_by_csv(alloc) {
         Ok(row) => take_header(alloc, report, table, found, &row),
         Err(_) => Err(whole_fault(table, TableKind::Memory)),

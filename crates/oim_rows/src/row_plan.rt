@@ -214,7 +214,8 @@ impl RowPlan<'_> {
         Ok(())
     }
 
-    /// Tests the cells of row `number` as `facts` does, and keeps no fact.
+    /// Tests the cells of row `number` as `facts` does, and keeps no fact. The `csv` crate reads the
+    /// row again from the file's bytes.
     ///
     /// Returns the fault of the first cell that has one, or Memory if memory runs out.
     pub fn check(
@@ -239,7 +240,8 @@ impl RowPlan<'_> {
     }
 
     /// Returns the facts of the cells of row `number`, in header order. It does not look for faults
-    /// of the row itself, so not for those of its identifier either.
+    /// of the row itself, so not for those of its identifier either. The `csv` crate reads the row
+    /// again from the file's bytes.
     ///
     /// Returns the fault of the first cell that has one, or Memory if memory runs out.
     pub fn facts(
