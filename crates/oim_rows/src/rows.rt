@@ -13,8 +13,8 @@ use crate::decoder::Decoder;
 use crate::fault::{TableFault, TableKind, fault_of_read, whole_fault};
 use crate::ids::RowIds;
 use crate::table_header::TableHeader;
-use oim_names::Items;
 use csv::ByteRecord;
+use oim_names::Items;
 use oim_records::{ReadFault, Records};
 use oim_report::{Limits, Report};
 use oim_resolve::Fact;
@@ -139,11 +139,17 @@ impl<'a, R: Read + Drop> Rows<'a, R> {
         let mut records = Records::new(alloc, reader);
         let mut row = ByteRecord::new(alloc);
         let limit = limits.rows;
-        let header =
-            match TableHeader::read_csv(alloc, report, table, limit, &mut records, &mut row) {
-                Ok(header) => header,
-                Err(fault) => return Err(fault),
-            };
+        let header = match TableHeader::read_csv(
+            alloc,
+            report,
+            table,
+            limit,
+            &mut records,
+            &mut row,
+        ) {
+            Ok(header) => header,
+            Err(fault) => return Err(fault),
+        };
         let Ok(decoder) = Decoder::new(alloc, header) else {
             return Err(whole_fault(table, TableKind::Memory));
         };
