@@ -1,13 +1,14 @@
-"""Tests facts that are far longer than their rows: what they cost several workers.
+"""Tests facts that are far longer than their rows: what they cost one worker and several.
 
-The metadata adds a long text to each fact, or many tables have one large template. Then a table is
-decoded in small pieces, and neither memory nor time may grow faster than the report.
+The metadata adds a long text to each fact, or a row copies a long cell to each, or many tables have
+one large template. Neither memory nor time may grow faster than the report.
 """
 from __future__ import annotations
 
 import os
 import subprocess
 from pathlib import Path
+from typing import Any, NamedTuple
 
 from tests.harness import COLUMNS, NAMESPACE, PROGRAM, TYPES, CaseTest, TestCase, for_each, metadata
 from tests.test_stress import peak
@@ -20,15 +21,21 @@ LONG_TYPE = f"{NAMESPACE},Long,typed\n"
 LONG, FACTS = 160_000, 3_000
 # In KiB: 64 MB and 20 times the metadata
 MEMORY = 65_000
+# Facts of a row that copy a cell of this many bytes: 520 MB of texts
+COPIES, CELL = 2_000, 260_000
+# Facts of a row, and dimensions of the report that each of them has: 112 MB of texts
+WIDE, DEEP = 2_000, 3_000
+# Columns of facts, and property groups of one column, of which each row names another
+UNDER_GROUPS = 700
 # Groups and tables for which several workers took 12 times the time of one
 GROUPS, TABLES = 32_768, 2_048
 
 
-def memory(folder: Path) -> int:
+def memory(folder: Path, workers: str) -> int:
     """Returns the most memory of a run, in KiB. Fails if it does not end with status 0."""
     most = 0
     with subprocess.Popen(
-        [*WORDS, WORKERS], cwd=folder, stdin=subprocess.DEVNULL, stdout=subprocess.PIPE
+        [*WORDS, workers], cwd=folder, stdin=subprocess.DEVNULL, stdout=subprocess.PIPE
     ) as run:
         assert run.stdout is not None
         while run.stdout.read(1 << 20):
@@ -65,7 +72,73 @@ class TestLongFacts(CaseTest):
                 "t1.csv": "cash\n" + row * FACTS,
             }
         )
-        most = memory(self.folder)
+        most = memory(self.folder, WORKERS)
+        self.assertGreater(most, 0)
+        self.assertLess(most, MEMORY)
+
+
+class LongRows(NamedTuple):
+    """A report: the dimensions of all facts, the table's columns, its rows, and further types."""
+
+    dimensions: dict[str, Any]
+    columns: dict[str, Any]
+    rows: list[str]
+    types: str
+
+
+def facts_of(count: int, **more: Any) -> dict[str, Any]:
+    """Returns this many columns of facts, with further members."""
+    return {f"c{i}": {**COLUMNS["cash"], **more} for i in range(count)}
+
+
+def copied_cell() -> LongRows:
+    """A row whose facts each copy one of its cells."""
+    columns: dict[str, Any] = {"key": {}, **facts_of(COPIES)}
+    row = "x" * CELL + ",1" * COPIES
+    return LongRows({"eg:Long": "$key"}, columns, [row], LONG_TYPE)
+
+
+def many_dimensions() -> LongRows:
+    """A row whose facts each have all dimensions of the report."""
+    names = [f"D{i:05}" for i in range(DEEP)]
+    types = "".join(f"{NAMESPACE},{name},typed\n" for name in names)
+    row = ",".join("1" * WIDE)
+    return LongRows({f"eg:{name}": "x" for name in names}, facts_of(WIDE), [row], types)
+
+
+def columns_under_groups() -> LongRows:
+    """Rows that each name another group, which adds a dimension to all of their facts."""
+    groups = {f"g{i}": {"dimensions": {"eg:Long": str(i)}} for i in range(UNDER_GROUPS)}
+    facts = facts_of(UNDER_GROUPS, propertiesFrom=["group"])
+    rows = [f"{group}" + ",1" * UNDER_GROUPS for group in groups]
+    return LongRows({}, {"group": {"propertyGroups": groups}, **facts}, rows, LONG_TYPE)
+
+
+LONG_ROWS = {
+    "a cell that 2,000 facts copy": copied_cell,
+    "2,000 facts of 3,000 dimensions": many_dimensions,
+    "700 columns under 700 groups": columns_under_groups,
+}
+
+
+@for_each(
+    (f"{name}, {workers} workers", (name, workers))
+    for name in LONG_ROWS
+    for workers in ("1", WORKERS)
+)
+class TestLongRows(CaseTest):
+    """Converts rows whose own facts are far longer, in little memory."""
+
+    def check(self, name: str, workers: str) -> None:
+        """Converts a report with this many workers."""
+        made = LONG_ROWS[name]()
+        dimensions = {**metadata({})["dimensions"], **made.dimensions}
+        template = {"columns": made.columns}
+        report = metadata({"t1": {}}, dimensions=dimensions, tableTemplates={"p": template})
+        lines = [",".join(made.columns), *made.rows]
+        table = "".join(f"{line}\n" for line in lines)
+        self.write({"t.csv": TYPES + made.types, "m.json": report, "t1.csv": table})
+        most = memory(self.folder, workers)
         self.assertGreater(most, 0)
         self.assertLess(most, MEMORY)
 

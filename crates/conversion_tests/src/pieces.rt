@@ -3,9 +3,9 @@
 use crate::readers::{AtEnd, Slow, ending};
 use crate::reports::{HEAD, file_of};
 use crate::trials::{Case, Trial, holds};
-use oim_json::Block;
+use oim_json::{Block, Spare};
 use oim_meta::{Limits, Report};
-use oim_pieces::{AtWork, PIECE_SIZE, TablePieces};
+use oim_pieces::{AtWork, PIECE_SIZE, TablePieces, TextGrowth};
 use oim_rows::TableFault;
 use std::alloc::{AllocError, Global};
 use std::sync::Wait;
@@ -25,8 +25,8 @@ fn first_piece<'s, E, T: Threads + Wait + Sync + 's>(
     if report.tables() == 0 {
         return Ok(0);
     }
-    let limits = Limits::profile();
-    let mut table = TablePieces::open(alloc, at_work, report, 0, file, limits)?;
+    let (growth, limits) = (TextGrowth::none(), Limits::profile());
+    let mut table = TablePieces::open(alloc, at_work, growth, report, 0, file, limits)?;
     let first = table.next_blocks(scope, rt);
     mem::drop(table);
     match first? {
@@ -35,7 +35,7 @@ fn first_piece<'s, E, T: Threads + Wait + Sync + 's>(
     }
 }
 
-/// Returns whether a table that was just opened needs no spare vectors, and gives back what it was
+/// Returns whether a table that was just opened needs no spares, and gives back what it was
 /// given.
 fn keeps_rooms(rt: &(impl AllocGlobal + Wait), report: &Report, file: &[u8]) -> bool {
     let alloc = rt.alloc();
@@ -43,14 +43,14 @@ fn keeps_rooms(rt: &(impl AllocGlobal + Wait), report: &Report, file: &[u8]) -> 
         return false;
     }
     let at_work = AtWork::new(4, PIECE_SIZE);
-    let limits = Limits::profile();
-    let Ok(mut table) = TablePieces::open(alloc, &at_work, report, 0, file, limits) else {
+    let (growth, limits) = (TextGrowth::none(), Limits::profile());
+    let Ok(mut table) = TablePieces::open(alloc, &at_work, growth, report, 0, file, limits) else {
         return false;
     };
     let needs_none = table.wanted_spares() == 0;
     table.want(true);
     table.note_left(0);
-    table.keep_spare(rt, Vec::new(alloc));
+    table.keep_spare(rt, Spare::new(alloc));
     let has_one = table.free_spares(rt).len() == 1;
     let has_none = table.free_spares(rt).is_empty();
     mem::drop(table);
@@ -103,7 +103,15 @@ fn put_table<'s, E, T: Threads + Wait + Sync + 's>(
     if report.tables() == 0 {
         return false;
     }
-    match TablePieces::open(alloc, at_work, report, 0, file, Limits::profile()) {
+    match TablePieces::open(
+        alloc,
+        at_work,
+        TextGrowth::none(),
+        report,
+        0,
+        file,
+        Limits::profile(),
+    ) {
         Ok(mut table) => {
             table.want(true);
             let is_good = put_pieces(scope, rt, &mut table, document);

@@ -74,6 +74,7 @@
 //! ```
 #![tactic(auto)]
 
+mod alone;
 mod closed_feeds;
 mod decode;
 mod fault;

@@ -5,12 +5,13 @@ ghost use Rattle.oim_convert.specs.Histories.{IsGiven, facts_in};
 ghost use Rattle.oim_convert.specs.state.TableFiles.{IsSentOfFile, IsTableFile};
 ghost use Rattle.oim_rows.specs.Streams.{facts_of_rows};
 
+use crate::alone::send_alone;
 use crate::leave::Leave;
 use crate::lent::take_back;
 use crate::sending::put_waiting;
 use crate::table_file::TableFile;
 use oim_json::Block;
-use oim_pieces::{AtWork, TablePieces};
+use oim_pieces::{AtWork, TablePieces, TextGrowth};
 use oim_ring::{Ending, Feed};
 use std::alloc::Global;
 use std::io::Read;
@@ -18,7 +19,8 @@ use std::sync::Wait;
 use std::thread::{self, Scope, Threads};
 
 /// Sends the facts of a table's file, and returns the table's ending. If there are other workers,
-/// helper threads decode pieces of the file while those workers rest.
+/// helper threads decode pieces of the file while those workers rest, unless the facts can be far
+/// longer than the rows.
 pub(crate) fn send_table<R: Read + Drop, T: Threads + Wait>(
     rt: &T,
     alloc: Global,
@@ -31,7 +33,10 @@ pub(crate) fn send_table<R: Read + Drop, T: Threads + Wait>(
     ensures ring { feed.new.ring ≡ feed.old.ring }
     ensures given { IsSentOfFile R.remaining file.entry (facts_in feed.new.sent) result }
 {
-    send_in_scope(&Leave::of(rt), alloc, file, at_work, feed)
+    match at_work.growth_of(alloc, file.report, file.table) {
+        Some(growth) => send_in_scope(&Leave::of(rt), alloc, file, growth, at_work, feed),
+        None => send_alone(rt, alloc, file, at_work, feed),
+    }
 }
 
 /// The ending of a table, and its feed.
@@ -45,6 +50,7 @@ fn send_in_scope<R: Read + Drop, T: Threads + Wait + Sync>(
     rt: &T,
     alloc: Global,
     file: TableFile<'_, R>,
+    growth: TextGrowth,
     at_work: &AtWork,
     feed: &mut Feed,
 ) -> Ending
@@ -64,7 +70,7 @@ fn send_in_scope<R: Read + Drop, T: Threads + Wait + Sync>(
             ensures ring { result.feed.now.ring ≡ lent.entry.now.ring }
             ensures given { IsSentOfFile R.remaining file.entry (facts_in result.feed.now.sent) result.ending }
         {
-            let ending = send_pieces(scope, rt, alloc, file, at_work, lent);
+            let ending = send_pieces(scope, rt, alloc, file, growth, at_work, lent);
             Sent { ending, feed: lent }
         },
     );
@@ -79,6 +85,7 @@ fn send_pieces<'s, E, R: Read + Drop, T: Threads + Wait + Sync + 's>(
     rt: &'s T,
     alloc: Global,
     file: TableFile<'s, R>,
+    growth: TextGrowth,
     at_work: &'s AtWork,
     feed: &mut Feed,
 ) -> Ending
@@ -93,13 +100,13 @@ fn send_pieces<'s, E, R: Read + Drop, T: Threads + Wait + Sync + 's>(
         reader,
         limits,
     } = file;
-    match TablePieces::open(alloc, at_work, report, table, reader, limits) {
+    match TablePieces::open(alloc, at_work, growth, report, table, reader, limits) {
         Ok(pieces) => send_opened(scope, rt, pieces, at_work, feed),
         Err(fault) => Ending::Refused(fault),
     }
 }
 
-/// Sends the pieces of an opened table with spare vectors, leaves the table's memory to others, and
+/// Sends the pieces of an opened table with spares, leaves the table's memory to others, and
 /// returns its ending.
 fn send_opened<'s, E, R: Read + Drop, T: Threads + Wait + Sync + 's>(
     scope: &Scope<'s, E>,
@@ -119,8 +126,8 @@ fn send_opened<'s, E, R: Read + Drop, T: Threads + Wait + Sync + 's>(
     ending
 }
 
-/// Passes to the pieces whether the writer has reached the table, and spare vectors for the texts
-/// of the next ones, if written blocks gave some back.
+/// Passes to the pieces whether the writer has reached the table, and spares for the texts of the
+/// next ones, if written blocks gave some back.
 fn make_ready<R: Read + Drop, T: Wait>(rt: &T, pieces: &mut TablePieces<'_, R>, feed: &mut Feed)
     ensures pieces { pieces.new ≡ pieces.old }
     ensures feed { feed.new ≡ feed.old }
@@ -137,7 +144,7 @@ fn make_ready<R: Read + Drop, T: Wait>(rt: &T, pieces: &mut TablePieces<'_, R>, 
     }
 }
 
-/// Gives back the vectors that a table kept for texts, if the rings keep them for others.
+/// Gives back the spares that a table kept for texts, if the rings keep them for others.
 fn give_back_spares<R: Read + Drop, T: Wait>(rt: &T, pieces: &mut TablePieces<'_, R>, feed: &Feed) {
     for spare in pieces.free_spares(rt) {
         feed.give_back(rt, spare);

@@ -15,7 +15,7 @@ ghost use Rattle.oim_convert.specs.declared.fault.ConvertFault.TheVariants as fa
 use crate::decode::{numbered, refused, without_file};
 use crate::fault::ConvertFault;
 use oim_decode::TableBlocks;
-use oim_json::{Layout, Sink, WriteFault, head};
+use oim_json::{Layout, Sink, Spare, WriteFault, head};
 use oim_merge::{DocumentWriter, MergeEnd};
 use oim_report::{Limits, Report};
 use oim_ring::Ending;
@@ -39,7 +39,7 @@ fn write_blocks<R: Read + Drop, W: Sink>(
     ensures took { TookBlocks writer.old writer.new (λ facts. IfSome blocks.old.left (λ s. Gave table s facts result)) }
     ensures broken { IfErr result (λ fault. IsBroken writer.new fault) }
 {
-    let mut spare = Vec::new(alloc);
+    let mut spare = Spare::new(alloc);
     // The bound is never reached: a table has fewer blocks.
     for _ in 0..u64::MAX {
         match blocks.next_block(spare) {

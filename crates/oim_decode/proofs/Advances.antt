@@ -1,15 +1,18 @@
 -- Rows that are read from a table's stream, one after another.
-use Rattle.std.proofs.Common.{◌≡◌, ◌⊎◌, ◌≤◌, ◌<◌, ◌+◌, ◌-◌, ℕ, arith, drop, List, [], ◌∷◌, ◌++◌, true, false, Option, Some, None, Ok, Err, IfSome, IsSome, refl, ap, sym, subst, ◌∙◌, inl, inr, append-nil, append_assoc}
+use Rattle.std.proofs.Common.{◌≡◌, ◌⊎◌, ◌≤◌, ◌<◌, ◌+◌, ◌-◌, ℕ, arith, drop, List, [], ◌∷◌, ◌++◌, true, false, Option, Some, None, Ok, Err, IfSome, IsSome, refl, ap, sym, subst, ◌∙◌, inl, inr, append-nil, append_assoc, length, length-append, take}
 use Rattle.std.proofs.lemmas.Grind.{flat_map-append}
-use Rattle.std.proofs.lemmas.List.{drop-drop}
+use Rattle.std.proofs.lemmas.List.{drop-drop, drop_at, length-take-le, take-append-drop}
+use Rattle.oim_json.specs.Blocks.{behind_commas}
+use Rattle.oim_json.proofs.Blocks.{nothing_written}
 use Rattle.oim_records.specs.Grids.{Record}
 use Rattle.oim_resolve.specs.FactParts.{FactParts as Fact}
 use Rattle.oim_rows.specs.Header.{file_fault}
 use Rattle.oim_rows.specs.Streams.{GivesNext, IsOutside, Stream, ending, facts_of_rows}
 use Rattle.oim_rows.specs.declared.fault.TableFault.{TableFault}
 use Rattle.oim_rows.specs.declared.fault.TableKind.TheVariants as kind
-use Rattle.oim_decode.specs.Blocks.{GivesBlock, IsBehind, ReadsRows}
-use Rattle.oim_decode.specs.state.Blocks.{AddsRow, HasRead, TakesOne}
+use Rattle.oim_decode.specs.Blocks.{BlocksLeft, GivesBlock, IsBehind, ReadsRows}
+use Rattle.oim_decode.specs.state.Blocks.{AddsRow, HasRead, RowsUnread, TakesOne, blocks_left, end_or_left}
+use Rattle.oim_decode.specs.state.RowParts.{RowRestValue, with_rest}
 
 pub none_read : (table : ℕ) (left : Option Stream) (before : List Fact) → IfSome left (λ s. HasRead table s before before left)
 none_read table None before = tt
@@ -115,10 +118,65 @@ memory_given table first before pending after left left' e reads none short over
     weaker first (λ s. HasRead table s before pending left) (λ s. GivesBlock table before s (Err e) after left')
     (λ s h. record { rows = h.0; reads = subst (ReadsRows table s h.0) (sym over) (broken_off table s h.0 left e h.1 (inr short)); answers = (none, over, inr short) }) reads
 
+-- Memory ran out before a row was read.
+pub lost_given : (table : ℕ) (first : Option Stream) (before after : List Fact) (left : Option Stream) (e : TableFault) → e ≡ file_fault table kind.Memory → after ≡ []
+    → left ≡ Some (ending (Some e)) → IfSome first (λ s. GivesBlock table before s (Err e) after left)
+lost_given table first before after left e short none over = memory_given table first before before after first left e (none_read table first before) none short over
+
 -- An answer that exists is `Some`.
 pub no_answer : {A : Type 0} (o : Option A) → None ≡ o → IsSome o → ⊥
 no_answer None none some = cc some
 no_answer (Some x) none some = cc none
+
+pub unanswered : {A : Type 0} (o : Option A) → (IsSome o → ⊥) → o ≡ None
+unanswered None none = refl
+unanswered (Some x) none = absurd (none refl)
+
+-- More rows are read only if nothing is left of the last one.
+pub no_rest : (rest : Option RowRestValue) (facts : List Fact) (count bytes : ℕ) → (IsSome rest → 131072 < length (behind_commas facts)) → count ≡ length facts
+    → bytes ≡ length (behind_commas facts) → (1 ≤ count → bytes ≤ 131072) → rest ≡ None
+no_rest None facts count bytes long are is short = refl
+no_rest (Some rest) [] count bytes long are is short = absurd (omega (arith, long refl, ap length nothing_written.0))
+no_rest (Some rest) (f ∷ fs) count bytes long are is short = let some : 1 ≤ count = omega (arith, are) in absurd (omega (arith, long refl, is, short some))
+
+pub none_more : (before after : List Fact) (rest left : Option RowRestValue) → rest ≡ None → left ≡ None → after ≡ before → with_rest after left ≡ with_rest before rest
+none_more before after rest left closed none same = ap (with_rest after) none ∙ same ∙ ap (with_rest before) (sym closed)
+
+-- More facts of the last row were added: what is left of the table is as before.
+pub same_left : (before after : RowsUnread) (facts more : List Fact) (settled : Option (Option TableFault)) → after ≡ record before { rest = after.rest }
+    → with_rest more after.rest ≡ with_rest facts before.rest → blocks_left after more settled ≡ blocks_left before facts settled
+same_left before after facts more settled is same =
+    let left : RowsUnread → List Fact → BlocksLeft =
+    λ rows pending. record {
+      table = rows.header.table;
+      limit = rows.header.limit;
+      given = rows.given;
+      pending = pending;
+      answered = settled;
+      left = end_or_left settled rows.left;
+      unread = rows.unread;
+    } in
+    ap (λ (rows : RowsUnread). left rows (with_rest more after.rest)) is ∙ ap (left before) same
+
+pub same_rows : (before after : RowsUnread) → after ≡ record before { rest = after.rest } → (after.header ≡ before.header) × (after.given ≡ before.given) × (after.unread ≡ before.unread)
+same_rows before after is = (ap (λ (r : RowsUnread). r.header) is, ap (λ (r : RowsUnread). r.given) is, ap (λ (r : RowsUnread). r.unread) is)
+
+-- A block takes facts before those that are left of a row.
+pub rest_cut : (n : ℕ) (facts : List Fact) (rest : Option RowRestValue) → with_rest facts rest ≡ take n facts ++ with_rest (drop n facts) rest
+rest_cut n facts None = sym (take-append-drop n facts)
+rest_cut n facts (Some r) = ap (λ (fs : List Fact). fs ++ r.facts) (sym (take-append-drop n facts)) ∙ append_assoc (take n facts) (drop n facts) r.facts
+
+pub rest_dropped : (n : ℕ) (facts : List Fact) (rest : Option RowRestValue) → n ≤ length facts → with_rest (drop n facts) rest ≡ drop n (with_rest facts rest)
+rest_dropped n facts rest there = sym (ap (drop n) (rest_cut n facts rest) ∙ drop_at (take n facts) (with_rest (drop n facts) rest) n (length-take-le n facts there))
+
+pub rest_longer : (facts : List Fact) (rest : Option RowRestValue) → length facts ≤ length (with_rest facts rest)
+rest_longer facts None = omega arith
+rest_longer facts (Some r) = omega (arith, length-append facts r.facts)
+
+-- Then rows were read.
+pub moves_on : (k given next : ℕ) (before now after : List Fact) → given ≡ k → now ≡ before → (given < next) ⊎ (after ≡ now) → (k < next) ⊎ (after ≡ before)
+moves_on k given next before now after is same (inl more) = inl (omega (arith, more, is))
+moves_on k given next before now after is same (inr so) = inr (so ∙ same)
 
 -- WHAT IS LEFT UNREAD
 
@@ -163,3 +221,11 @@ behind_short table n (Some rs) None unread e short so = inr (inr short, inl so)
 behind_short table n (Some rs) (Some None) unread e short so = inr (inr short, inr so.1)
 behind_short table n (Some rs) (Some (Some f)) unread e short (inl one) = inl one
 behind_short table n (Some rs) (Some (Some f)) unread e short (inr (outside, left)) = inr (inr short, left)
+
+-- Memory ran out before a row was read.
+pub behind_lost : (table given next : ℕ) (old unread : Option (List Record)) (e : TableFault) → e ≡ file_fault table kind.Memory → next ≡ given → unread ≡ old
+    → IfSome old (λ rs. IsBehind table rs (next - given) (Some (Some e)) unread)
+behind_lost table given next None unread e short is same = tt
+behind_lost table given next (Some rs) unread e short is same =
+    let none : next - given ≡ 0 = omega (arith, is) in
+    inr (inr short, inl (same ∙ ap (λ (n : ℕ). Some (drop n rs)) (sym none)))

@@ -1,6 +1,6 @@
 -- Examples of the rules for reading a table in blocks (`specs/Blocks.antt`, `specs/state`).
 use lib.Utf8.{encode}
-use Rattle.std.proofs.Common.{◌≡◌, ◌++◌, ℕ, List, Option, [], ◌∷◌, Some, None, Ok, Err, true, false, refl, ap, arith, codes, map, inl, inr}
+use Rattle.std.proofs.Common.{◌≡◌, ◌++◌, ℕ, List, Option, [], ◌∷◌, Some, None, Ok, Err, true, false, refl, ap, arith, codes, length, map, inl, inr}
 use Rattle.csv.specs.Reading.{strip_bom}
 use Rattle.oim_records.specs.Grids.{Record}
 use Rattle.oim_report.specs.Readers.{no_level}
@@ -13,6 +13,10 @@ use Rattle.oim_rows.specs.Header.{fault_at, file_fault}
 use Rattle.oim_rows.specs.Streams.{ending}
 use Rattle.oim_rows.specs.declared.fault.TableFault.{TableFault}
 use Rattle.oim_rows.specs.declared.fault.TableKind.TheVariants as kind
+use Rattle.oim_json.specs.Blocks.{behind_commas, ends_from}
+use Rattle.oim_json.proofs.Blocks.{nothing_written}
+use Rattle.oim_row.specs.Rows.{RowValue}
+use Rattle.oim_decode.specs.state.RowParts.{AddsParts, BeginsTexts, ContinuesTexts, IsLeft, IsRestOf, RowRestValue, WritesRest, row_columns, with_rest}
 use Rattle.oim_decode.specs.state.RowTexts.{AddsFacts, facts_of_answer}
 use Rattle.oim_decode.specs.Blocks.{AnswersFacts, GivesFound, IsBehind, KeepsAnswer, LeavesNone, ReadsRows}
 use Rattle.oim_decode.specs.state.Blocks.{AddsNone, CountsRow, TakesOne, end_or_left, has_row, turns_left}
@@ -97,6 +101,49 @@ no_facts_of_a_bad_row = (refl, inr refl)
 a_bad_row_taken : AddsFacts 0 (Err failed) [] [] (Ok tt) → ⊥
 a_bad_row_taken h = absurd (cc h.0)
 
+-- PARTS (`with_rest`, `AddsParts`). The first of two facts is added, and the second is left.
+abbrev second_left : RowRestValue
+second_left = record { next = 1; written = 1; facts = b ∷ [] }
+
+with_what_is_left : (with_rest (a ∷ []) (Some second_left) ≡ a ∷ b ∷ []) × (with_rest (a ∷ []) None ≡ a ∷ [])
+with_what_is_left = (refl, refl)
+
+first_added : AddsParts 0 (Ok (a ∷ b ∷ [])) [] (a ∷ []) (Ok (Some second_left))
+first_added = (refl, refl)
+
+second_lost : AddsParts 0 (Ok (a ∷ b ∷ [])) [] (a ∷ []) (Ok None) → ⊥
+second_lost h = absurd (cc h.1)
+
+no_part_of_a_bad_row : AddsParts 0 (Err failed) (b ∷ []) (b ∷ []) (Err failed)
+no_part_of_a_bad_row = (refl, inr refl)
+
+-- `WritesRest`: the texts after the first fact.
+second_written : WritesRest (Ok (a ∷ b ∷ [])) 1 (codes "{") (codes "{" ++ behind_commas (b ∷ [])) [] (ends_from 1 (b ∷ []))
+second_written = (a ∷ b ∷ [], refl, refl, refl)
+
+-- A row without columns of facts (`row_columns`, `IsRestOf`, `BeginsTexts`, `ContinuesTexts`,
+-- `IsLeft`): nothing is left of it, nor written.
+abbrev bare : RowValue → RowValue
+bare x = record { header = record { report = x.header.report; table = x.header.table; limit = x.header.limit; columns = None ∷ [] }; number = x.number; fields = x.fields }
+
+no_columns : (x : RowValue) → row_columns (bare x) ≡ []
+no_columns x = refl
+
+abbrev nothing_left : RowRestValue
+nothing_left = record { next = 0; written = 0; facts = [] }
+
+none_left : (x : RowValue) → IsRestOf (bare x) nothing_left
+none_left x = record { front = []; before = refl; behind = refl; within = omega arith; count = refl }
+
+none_begun : (x : RowValue) → BeginsTexts (bare x) None [] [] [] []
+none_begun x = record { facts = []; are = refl; text = nothing_written.0; ends = nothing_written.1 }
+
+none_continued : (x : RowValue) → ContinuesTexts (bare x) nothing_left None [] [] [] []
+none_continued x = nothing_written
+
+short_of_long : (x : RowValue) → IsLeft (bare x) [] (Some nothing_left) → ⊥
+short_of_long x h = absurd (omega (arith, h.1, ap length nothing_written.0))
+
 abbrev number_found : Option TableFault → ℕ
 number_found None = 0
 number_found (Some f) = number_of f.kind
@@ -133,8 +180,8 @@ one_more_record = refl
 rows_counted : CountsRow 2 (Ok true) 1 2 × (CountsRow 2 (Ok false) 2 2 × (CountsRow 2 (Err twice) 1 2 → ⊥))
 rows_counted = ((refl, omega arith), (refl, λ h. absurd (omega (arith, h))))
 
-facts_only_with_a_row : AddsNone (Err twice) (a ∷ []) (a ∷ [])
-facts_only_with_a_row = refl
+facts_only_with_a_row : AddsNone (Err twice) (a ∷ []) (a ∷ []) None
+facts_only_with_a_row = (refl, refl)
 
 -- `GivesFound`: what was found is given once no fact waits.
 found_and_given : GivesFound 0 [] (Some twice) (Err twice) (Some (Some twice))

@@ -2,6 +2,7 @@ pub mod Cuts
 pub mod Advances
 pub mod RowLaws
 pub mod PlainLaws
+pub mod RowPartLaws
 pub mod Settled
 pub mod TwiceLaw
 pub mod ApartLaws

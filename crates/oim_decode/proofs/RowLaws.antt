@@ -15,14 +15,15 @@ use Rattle.oim_rows.specs.state.Streams.{early_row_answer}
 use Rattle.oim_rows.proofs.StreamLaws.{gives_end, gives_fault, gives_row, outside}
 use Rattle.oim_rows.specs.declared.fault.TableFault.{TableFault}
 use Rattle.oim_decode.specs.state.Blocks.{AddsNone, AddsRow, CountsRow, TakesOne, has_row}
+use Rattle.oim_decode.specs.state.RowParts.{AddsParts, RowRestValue, with_rest}
 use Rattle.oim_decode.specs.state.RowTexts.{AddsFacts, facts_of_answer}
 use Rattle.oim_decode.proofs.ApartLaws.{repeats_at, row_fault-apart}
 
 -- Apart from its cells the row has no fault.
-pub adds_answer : (x : RowValue) (ids : List Field) (before after : List Fact) (result : Result (Unit {0}) TableFault) → row_fault x.header x.number ids x.fields ≡ None
-    → AddsFacts x.header.table (facts_of_row x) before after result → AddsFacts x.header.table (row_result x.header x.number ids x.fields) before after result
+pub adds_answer : (x : RowValue) (ids : List Field) (before after : List Fact) (result : Result (Option RowRestValue) TableFault) → row_fault x.header x.number ids x.fields ≡ None
+    → AddsParts x.header.table (facts_of_row x) before after result → AddsParts x.header.table (row_result x.header x.number ids x.fields) before after result
 adds_answer x ids before after result none adds =
-    subst (λ (a : Result (List Fact) TableFault). AddsFacts x.header.table a before after result) (sym (ap (λ o. checked o (facts_of_row x)) none)) adds
+    subst (λ (a : Result (List Fact) TableFault). AddsParts x.header.table a before after result) (sym (ap (λ o. checked o (facts_of_row x)) none)) adds
 
 -- A row without a fault of its own is text.
 second_none : (a b c : Option TableFault) → or_else a (or_else b c) ≡ None → b ≡ None
@@ -64,6 +65,12 @@ pub adds_row : (n : ℕ) (g : TableHeaderValue) (ids ids2 : List Field) (before 
 adds_row n g ids ids2 before now None new r took added kept = tt
 adds_row n g ids ids2 before now (Some rs) new r took added kept =
     (facts_of_answer (row_result g n ids r), added.1, gives_row n g ids ids2 (Some rs) new r (facts_of_answer (row_result g n ids r)) took (inr (sym added.0)) kept)
+
+-- Nothing is left of the row before.
+pub adds_closed : (table : ℕ) (first : Option Stream) (before now : List Fact) (rest : Option RowRestValue) (result : Result Bool TableFault) (left : Option Stream) → rest ≡ None
+    → IfSome first (λ s. AddsRow table s before now result left) → IfSome first (λ s. AddsRow table s before (with_rest now rest) result left)
+adds_closed table first before now rest result left closed adds =
+    subst (λ (o : Option RowRestValue). IfSome first (λ s. AddsRow table s before (with_rest now o) result left)) (sym closed) adds
 
 -- A row's own fault is its answer.
 pub own_fault : (g : TableHeaderValue) (n : ℕ) (ids : List Field) (r : Record) (e : TableFault) → row_fault g n ids r ≡ Some e → OrNoMemory g.table (Err e) (row_result g n ids r)
@@ -117,14 +124,15 @@ module _ (n : ℕ) (g : TableHeaderValue) (ids : List Field) (r : Record) (answe
       by None is = absurd (cc is)
       by (Some e) is = let same : answer ≡ Err e = cc is in rw same refl
 
-  pub none_added : (found : Result Bool ReadFault) (facts : List Fact) → Some answer ≡ option_map has_row (early_row_answer g n ids found r) → AddsNone answer facts facts
-  none_added (Err f) facts is = let same : answer ≡ Err (fault_of_read g.table f) = cc is in rw same refl
-  none_added (Ok false) facts is = let same : answer ≡ Ok false = cc is in rw same refl
-  none_added (Ok true) facts is = by (row_fault g n ids r) is
+  pub none_added : (found : Result Bool ReadFault) (facts : List Fact) (rest : Option RowRestValue) → rest ≡ None → Some answer ≡ option_map has_row (early_row_answer g n ids found r)
+      → AddsNone answer facts facts rest
+  none_added (Err f) facts rest closed is = let same : answer ≡ Err (fault_of_read g.table f) = cc is in rw same (refl, closed)
+  none_added (Ok false) facts rest closed is = let same : answer ≡ Ok false = cc is in rw same (refl, closed)
+  none_added (Ok true) facts rest closed is = by (row_fault g n ids r) is
     where
-      by : (o : Option TableFault) → Some answer ≡ option_map has_row (option_map Err o) → AddsNone answer facts facts
+      by : (o : Option TableFault) → Some answer ≡ option_map has_row (option_map Err o) → AddsNone answer facts facts rest
       by None is = absurd (cc is)
-      by (Some e) is = let same : answer ≡ Err e = cc is in rw same refl
+      by (Some e) is = let same : answer ≡ Err e = cc is in rw same (refl, closed)
 
   -- Then nothing was read after the current record.
   pub early_unread : (found : Result Bool ReadFault) (old new : Option (List Record)) → MatchResult found (λ b. TakesRecord old b r new) (λ _. new ≡ Some [])

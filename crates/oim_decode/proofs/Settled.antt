@@ -3,6 +3,7 @@ use Rattle.std.proofs.Common.{◌≡◌, ◌⊎◌, ◌<◌, ◌≤◌, ◌-◌,
 use Rattle.std.specs.Option.{is_some}
 use Rattle.oim_resolve.specs.FactParts.{FactParts as Fact}
 use Rattle.oim_rows.specs.Header.{file_fault}
+use Rattle.oim_rows.specs.Streams.{ending}
 use Rattle.oim_rows.specs.declared.fault.TableFault.{TableFault}
 use Rattle.oim_rows.specs.declared.fault.TableKind.TheVariants as kind
 use Rattle.oim_decode.specs.Blocks.{BlocksLeft, GivesFound, IsBehind, KeepsFound, ReadsBehind}
@@ -76,3 +77,43 @@ pub moved : (before given count : ℕ) (old filled new : List Fact) → (before 
     → (before < given) ⊎ (length new < length old)
 moved before given count old filled new (inl more) some there left = inl more
 moved before given count old filled new (inr same) some there left = inr (omega (arith, some, there, ap length left, length-drop count filled, ap length same))
+
+-- THE TABLE IS LOST: memory ran out, and it is settled with that
+
+pub record IsLost (filled new : BlocksLeft) (e : TableFault) : Type 0 where
+  pub table : new.table ≡ filled.table
+  pub limit : new.limit ≡ filled.limit
+  pub given : new.given ≡ filled.given
+  pub unread : new.unread ≡ filled.unread
+  pub none : new.pending ≡ []
+  pub answered : new.answered ≡ Some (Some e)
+  pub over : new.left ≡ Some (ending (Some e))
+
+pub is_lost : (filled new : BlocksLeft) (e : TableFault) → new ≡ record filled { pending = []; answered = Some (Some e); left = Some (ending (Some e)) } → IsLost filled new e
+is_lost filled new e is = record {
+  table = ap (λ (b : BlocksLeft). b.table) is;
+  limit = ap (λ (b : BlocksLeft). b.limit) is;
+  given = ap (λ (b : BlocksLeft). b.given) is;
+  unread = ap (λ (b : BlocksLeft). b.unread) is;
+  none = ap (λ (b : BlocksLeft). b.pending) is;
+  answered = ap (λ (b : BlocksLeft). b.answered) is;
+  over = ap (λ (b : BlocksLeft). b.left) is;
+}
+
+-- FACTS WAIT, so that a settled table does not repeat its answer yet
+
+pub some_wait : (old filled : BlocksLeft) (P : Option TableFault → Type 0) → (IsSome old.answered → filled ≡ old) → 1 ≤ length filled.pending
+    → IfSome old.answered (λ kept. old.pending ≡ [] → P kept)
+some_wait old filled P again some = by old.answered refl
+  where
+    by : (o : Option (Option TableFault)) → old.answered ≡ o → IfSome o (λ kept. old.pending ≡ [] → P kept)
+    by None none = tt
+    by (Some kept) e =
+        let same : filled ≡ old = again (ap is_some e) in
+        λ none. absurd (omega (arith, some, ap (λ (b : BlocksLeft). length b.pending) same, ap length none))
+
+-- A TABLE THAT IS NOT SETTLED
+
+pub not_answered : {A : Type 0} (o : Option A) (P : A → Type 0) → (IsSome o → ⊥) → IfSome o P
+not_answered None P none = tt
+not_answered (Some x) P none = absurd (none refl)

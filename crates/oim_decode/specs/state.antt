@@ -3,3 +3,4 @@ pub mod Blocks
 pub mod Heads
 pub mod PieceAnswers
 pub mod RowTexts
+pub mod RowParts

@@ -28,7 +28,7 @@
 //!         return Ok(0);
 //!     }
 //!     let mut table = TableBlocks::open(alloc, report, 0, file, Limits::profile())?;
-//!     match table.next_block(Vec::new(alloc))? {
+//!     match table.next_block(Spare::new(alloc))? {
 //!         Some(block) => Ok(block.count()),
 //!         None => Ok(0),
 //!     }

@@ -3,6 +3,7 @@
 pub(crate) mod fact_list;
 pub(crate) mod pending_facts;
 mod plain_rows;
+mod row_rest;
 pub(crate) mod row_texts;
 pub(crate) mod table_blocks;
 mod text_rows;

@@ -1,10 +1,13 @@
--- Examples of the limit of the file of faults: three faults of a table, and limits below, at and
--- above three.
-use Rattle.std.proofs.Common.{◌≡◌, ℕ, List, [], ◌∷◌, Option, Some, None, false, refl, true}
+-- Examples of the file of faults: three faults of a table, and limits below, at and above three;
+-- and faults with a cause and without.
+use Rattle.std.proofs.Common.{◌≡◌, ℕ, List, [], ◌∷◌, Some, false, refl, true}
 use Rattle.std.specs.Prelude.{codes}
+use Rattle.std.specs.Fmt.{digits}
+use Rattle.std.specs.List.{AllZip}
 use Rattle.oim_records.specs.Grids.{Record}
-use Rattle.oim_places.specs.FaultRows.{more_fields}
-use Rattle.oim_explain.specs.ListedFaults.{alone_of, listed_of, room_after, up_to}
+use Rattle.oim_places.specs.FaultRows.{cause_fields, more_fields, no_cause}
+use Rattle.oim_places.specs.declared.fault_cause.FaultCause.{FaultCause}
+use Rattle.oim_explain.specs.ListedFaults.{IsRecordOf, alone_of, listed_of, room_after, up_to}
 
 abbrev one : Record
 one = codes "t1" ∷ codes "1" ∷ []
@@ -49,3 +52,12 @@ listed_above = refl
 
 listed_alone : alone_of ≡ record { count = 1; is_cut = false; rows = 0 }
 listed_alone = refl
+
+-- Two faults, of which a parameter causes the first.
+abbrev with_cause : List ℕ → FaultCause → Record
+with_cause id c = id ∷ cause_fields c
+
+two_causes : AllZip (IsRecordOf with_cause) (codes "t1" ∷ codes "t2" ∷ [])
+    ((codes "t1" ∷ codes "p.csv" ∷ codes "3" ∷ codes "2" ∷ codes "x" ∷ []) ∷ (codes "t2" ∷ [] ∷ [] ∷ [] ∷ [] ∷ []) ∷ [])
+unfolding digits
+two_causes = ((record { file = codes "p.csv"; line = Some 3; cell = codes "2"; text = codes "x" }, refl), ((no_cause, refl), tt))

@@ -1,5 +1,5 @@
 -- The records of the file of faults that are written for a table, up to a limit.
-use Rattle.std.proofs.Common.{◌≡◌, ◌∙◌, ◌++◌, ◌+◌, ◌≤◌, ◌<◌, ℕ, zero, suc, List, [], ◌∷◌, Option, Some, None, Result, Ok, Err, IfOk, IfSome, false, ap, append-nil, append_assoc, drop, get_or, inl, inr, length, map, refl, subst, sym}
+use Rattle.std.proofs.Common.{◌≡◌, ◌∙◌, ◌++◌, ◌+◌, ◌<◌, ℕ, zero, suc, List, [], ◌∷◌, Option, Some, None, Result, Ok, Err, IfOk, IfSome, false, ap, append-nil, append_assoc, drop, get_or, inl, inr, length, map, refl, subst, sym}
 use Rattle.std.specs.Io.KnownBytes.{Appends}
 use Rattle.std.specs.List.{AllZip}
 use Rattle.std.proofs.lemmas.List.{drop_more}
@@ -15,7 +15,7 @@ use Rattle.oim_rows.specs.declared.fault.TableFault.{TableFault}
 use Rattle.oim_rows.specs.Header.{file_header_fault}
 use Rattle.oim_table_faults.specs.Laws.{FirstIsOfStream, first_in}
 use Rattle.oim_table_faults.specs.TableFaults.{alone_or, bad_rows_of, faults_of_rows}
-use Rattle.oim_places.specs.FaultLists.{ArePlacesIn, GivesRow, HasPlaceIn, IsStartOf, LocatedLeft, faults_by_row, header_or, record_of}
+use Rattle.oim_places.specs.FaultLists.{ArePlacesIn, AreReadersOf, GivesRow, HasPlaceIn, IsStartOf, KeepsFiles, LocatedLeft, faults_by_row, header_or, record_of}
 use Rattle.oim_places.specs.FaultPlaces.{IsTablePath, fault_of_file, is_of_file, unknown_place}
 use Rattle.oim_places.specs.FolderFiles.{FoundAt}
 use Rattle.oim_places.specs.FaultRows.{no_cause}
@@ -238,9 +238,17 @@ completes_failed from a b table id rec room less (Some start) None next e comple
 completes_failed from a b table id rec room less (Some start) (Some rows) next e completes gives ends = completes b (Some less) (rows_failed a b table id rec less rows e gives ends)
 
 -- The cells and lines of a file whose bytes are known.
-pub places_known : (cells lines : Option (List ℕ)) (bytes : List ℕ) (located : List LocatedFault) → cells ≡ Some bytes → lines ≡ Some bytes → ArePlacesIn cells lines located
-    → ArePlacesIn (Some bytes) (Some bytes) located
-places_known cells lines bytes located is are places = subst (λ o. ArePlacesIn (Some bytes) o located) are (subst (λ o. ArePlacesIn o lines located) is places)
+pub places_known : (rows : LocatedLeft) (bytes : List ℕ) (located : List LocatedFault) → AreReadersOf rows.heads rows.cells rows.lines bytes
+    → (rows.heads ≡ rows.cells → ArePlacesIn rows.cells rows.lines located) → ArePlacesIn (Some bytes) (Some bytes) located
+places_known rows bytes located of places =
+    subst (λ o. ArePlacesIn (Some bytes) o located) of.2 (subst (λ o. ArePlacesIn o rows.lines located) of.1 (places (of.0 ∙ sym of.1)))
+
+-- The readers of rows that were read on.
+pub readers_kept : (old new : LocatedLeft) (bytes : List ℕ) → KeepsFiles old new → AreReadersOf old.heads old.cells old.lines bytes → AreReadersOf new.heads new.cells new.lines bytes
+readers_kept old new bytes same of = (same.1 ∙ of.0, same.2 ∙ of.1, same.3 ∙ of.2)
+
+pub kept_on : (old now new : LocatedLeft) → KeepsFiles old now → KeepsFiles now new → KeepsFiles old new
+kept_on old now new same more = (more.0 ∙ same.0, more.1 ∙ same.1, more.2 ∙ same.2, more.3 ∙ same.3)
 
 -- ---- the first row
 
@@ -324,7 +332,7 @@ of_table law files from out meta path report id f most bytes listed is at found 
 
 pub table_listed : {E : Type 0} (law : FirstIsOfStream) (known : Option Files) (from out : Option (List ℕ)) (meta path : List ℕ) (report : ReportValue) (id : List ℕ) (f : TableFault) (most : ℕ) (rows : LocatedLeft) (r : Result ListedFaults E)
     → is_of_file f.kind ≡ false → IsTablePath meta report f.table path → rows.table ≡ f.table → FoundAt known path (IsStartOf report f.table rows)
-    → ((bytes : List ℕ) → rows.cells ≡ Some bytes → rows.lines ≡ Some bytes → IfSome rows.left (λ left. IfOk r (λ listed. ListsRows from out rows.table id f most (record_of id bytes) left listed)))
+    → ((bytes : List ℕ) → AreReadersOf rows.heads rows.cells rows.lines bytes → IfSome rows.left (λ left. IfOk r (λ listed. ListsRows from out rows.table id f most (record_of id bytes) left listed)))
     → IfSome known (λ files. IfOk r (ListsTable from out files meta report id f most))
 table_listed law None from out meta path report id f most rows r is at same found lists = tt
 table_listed law (Some files) from out meta path report id f most rows (Err e) is at same found lists = tt
@@ -332,6 +340,6 @@ table_listed law (Some files) from out meta path report id f most rows (Ok liste
     let bytes = found.0 in
     let start = found.2 in
     let given : ListsRows from out rows.table id f most (record_of id bytes) (faults_by_row report f.table profile.rows (grid bytes)) listed =
-    subst (λ o. IfSome o (λ left. ListsRows from out rows.table id f most (record_of id bytes) left listed)) start.0 (lists bytes start.1 start.2) in
+    subst (λ o. IfSome o (λ left. ListsRows from out rows.table id f most (record_of id bytes) left listed)) start.0 (lists bytes start.1) in
     of_table law files from out meta path report id f most bytes listed is at found.1
     (subst (λ t. ListsRows from out t id f most (record_of id bytes) (faults_by_row report f.table profile.rows (grid bytes)) listed) same given)

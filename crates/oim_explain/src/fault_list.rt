@@ -1,8 +1,8 @@
 //! The records of the file of faults of one refused table, written as they are found.
 
-ghost use Rattle.std.specs.Prelude.{◌≡◌, ◌<◌, ℕ, List, IfOk, IfSome, OnOk, Some, length, true};
+ghost use Rattle.std.specs.Prelude.{◌≡◌, ◌<◌, ℕ, List, IfOk, IfSome, OnOk, length, true};
 ghost use Rattle.std.specs.Io.KnownBytes.{Appends};
-ghost use Rattle.oim_places.specs.FaultLists.{record_of};
+ghost use Rattle.oim_places.specs.FaultLists.{AreReadersOf, record_of};
 ghost use Rattle.oim_places.specs.FaultPlaces.{unknown_place};
 ghost use Rattle.oim_explain.specs.ListedFaults.{ListsAlone, ListsTable, WritesEach, WritesRows, fault_text, listed_of};
 ghost use Rattle.oim_explain.specs.state.ListedRows.{ListsRows, StartsWith, located_record, more_text};
@@ -130,7 +130,7 @@ fn put_rest<R: Read + Drop, W: Write>(
     rows: &mut BadRows<'_, R>,
     to: &mut W,
 ) -> io::Result<Option<usize>>
-    ensures { (bytes : List ℕ) → rows.old.cells ≡ Some bytes → rows.old.lines ≡ Some bytes
+    ensures { (bytes : List ℕ) → AreReadersOf rows.old.heads rows.old.cells rows.old.lines bytes
         → IfSome rows.old.left (λ left. IfOk result (λ after. WritesRows (W.contents to.old) (W.contents to.new) rows.old.table id.now (record_of id.now bytes) room left after)) }
 {
     let mut left = room;
@@ -172,7 +172,7 @@ fn put_rows<R: Read + Drop, W: Write>(
     rows: &mut BadRows<'_, R>,
     to: &mut W,
 ) -> io::Result<ListedFaults>
-    ensures { (bytes : List ℕ) → rows.old.cells ≡ Some bytes → rows.old.lines ≡ Some bytes
+    ensures { (bytes : List ℕ) → AreReadersOf rows.old.heads rows.old.cells rows.old.lines bytes
         → IfSome rows.old.left (λ left. IfOk result (λ listed. ListsRows (W.contents to.old) (W.contents to.new) rows.old.table table.entry.id.now table.entry.fault.now table.entry.most (record_of table.entry.id.now bytes) left listed)) }
 {
     let located = match rows.next_row(alloc) {

@@ -11,16 +11,17 @@
 //!   line of the fault's record, if that is known, and its column (`specs/TablePlaces.antt`);
 //! - `explanation_text` gives all lines of an explanation;
 //! - over a folder whose files are known, `list_faults` writes the records of all faults of a
-//!   refused table, in their order and up to its limit, with what is at their places
-//!   (`specs/ListedFaults.antt`). If the file cannot be read to its end, it writes those of the
-//!   first rows and then the failure. If the file's first fault is another one or it cannot be read
-//!   again, it writes only the record of the run's fault.
+//!   refused table, in their order and up to its limit. Each record has what is at its place and
+//!   some cause (`specs/ListedFaults.antt`). If the file cannot be read to its end, it writes those
+//!   of the first rows and then the failure. If the file's first fault is another one or it cannot
+//!   be read again, it writes only the record of the run's fault.
 //!
 //! It exports what `oim_places` has for the place of a fault and for the file of faults.
 //!
 //! Not proved, but tested: the sentences, what an explanation shows at a place, the sources of a
-//! fault and what could be meant, explanations of a types table and a parameters file, all of
-//! `explain_report` and `report_explanation`, and how a cause of several tables is told.
+//! fault, which of them a record has as its cause, what could be meant, explanations of a types
+//! table and a parameters file, all of `explain_report` and `report_explanation`, and how a cause
+//! of several tables is told.
 //!
 //! A call, which returns whether the fault of a metadata without a document type is explained at
 //! the missing key:

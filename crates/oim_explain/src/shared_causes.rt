@@ -112,8 +112,9 @@ pub fn explained_faults<R: Read + Drop, F: Folder<R>>(
 
 /// Returns the lines below that of the refused table at this index: its explanation, and which
 /// later tables have the same cause. If an earlier table has it, they are a line that names it.
-/// `told` is what `explained_faults` gives, and `listed` what `list_faults` gives of each table, or
-/// nothing: then rows are not counted. There are no lines for a table past those of `told`.
+///
+/// `told` is what `explained_faults` gives. `listed` is what `list_faults` gives of each table; if
+/// it is empty, no line counts rows. A table past those of `told` has no lines.
 pub fn lines_below(
     alloc: Global,
     tables: &[(Text, TableFault)],

@@ -1,8 +1,9 @@
 -- What is prepared for the cells of a table's rows, and what is written of a cell.
-use Rattle.std.proofs.Common.{◌≡◌, ◌⊎◌, inl, inr, ◌<◌, ◌^◌, ℕ, suc, Bool, true, false, List, [], ◌∷◌, ◌++◌, length, map, set, get_or, Option, Some, None, IfSome, Result, Ok, Err, sym, ap, subst, ◌∙◌, arith, append-nil, append_assoc}
+use Rattle.std.proofs.Common.{◌≡◌, ◌⊎◌, inl, inr, ◌<◌, ◌^◌, ℕ, Bool, true, false, List, ◌++◌, length, map, set, take, get_or, Option, Some, None, IfSome, Result, Ok, Err, sym, ap, subst, ◌∙◌, arith, append-nil, append_assoc}
 use Rattle.std.specs.List.{All, list_all, slice_get}
 use Rattle.std.proofs.lemmas.List.{get_or-map, length-map}
 use Rattle.std.proofs.lemmas.Option.{slice_get_within}
+use Rattle.std.proofs.Math.Seq.{take-append_seam}
 use Rattle.oim_cells.specs.Cells.{Meaning, meaning_of}
 use Rattle.oim_json.specs.state.Writing.{is_unescaped}
 use Rattle.oim_report.specs.ReportValue.{ReportValue}
@@ -121,7 +122,7 @@ pub column_there : (f : TableHeaderValue) (cells : List GroupCell) (cs : List Fa
 column_there f cells cs i c h lt is =
     ap (λ (k : FactColumn). k.column) is ∙ sym (get_or-map (λ (k : FactColumn). k.column) cs i c 0 lt) ∙ ap (λ ys. get_or ys i 0) h.columns
 
-pub columns_length : (f : TableHeaderValue) (cells : List GroupCell) (cs : List FactColumn) → AreFactColumns f cells cs → length cs ≡ length (Rattle.oim_fast.specs.state.Columns.fact_columns_in f f.columns)
+pub columns_length : (f : TableHeaderValue) (cells : List GroupCell) (cs : List FactColumn) → AreFactColumns f cells cs → length cs ≡ length (Rattle.oim_fast.specs.Facts.fact_columns_in f f.columns)
 columns_length f cells cs h = sym (length-map cs (λ (k : FactColumn). k.column)) ∙ ap length h.columns
 
 -- A column was searched.
@@ -156,3 +157,7 @@ behind xs ys zs p q = (p.0 ++ q.0, sym (append_assoc xs p.0 q.0) ∙ ap (λ t. t
 
 pub wrote_behind : {E : Type 0} {answer : Result (Option Fact) E} {old new : List ℕ} → WritesFact answer old new → IsPrefix old new
 wrote_behind g = (fact_text g.fact, sym g.text)
+
+-- What was written of a cell is taken back.
+pub taken_back : {E : Type 0} {answer : Result (Option Fact) E} (old new : List ℕ) (n : ℕ) → n ≡ length old → WritesFact answer old new → take n new ≡ old
+taken_back old new n is g = ap (λ (m : ℕ). take m new) is ∙ ap (take (length old)) g.text ∙ take-append_seam old (fact_text g.fact)

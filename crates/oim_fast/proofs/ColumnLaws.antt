@@ -10,7 +10,8 @@ use Rattle.oim_rows.specs.Header.{is_column}
 use Rattle.oim_report.specs.Readers.{holds_facts, no_column}
 use Rattle.oim_report.specs.declared.data.Column.{Column}
 use Rattle.oim_rows.specs.RowFacts.{TableHeaderValue, is_fact_column}
-use Rattle.oim_fast.specs.state.Columns.{AreFactColumns, IsColumnAt, IsFactColumn, fact_column_at, fact_columns_in}
+use Rattle.oim_fast.specs.Facts.{fact_columns_in}
+use Rattle.oim_fast.specs.state.Columns.{AreFactColumns, IsColumnAt, IsFactColumn, fact_column_at}
 use Rattle.oim_row.specs.References.{Grows}
 use Rattle.oim_row.specs.Rows.{columns_in}
 use Rattle.oim_fast.specs.declared.frame.fact_column.FactColumn.{FactColumn}

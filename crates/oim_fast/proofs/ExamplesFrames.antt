@@ -7,7 +7,7 @@ use Rattle.oim_report.specs.declared.kind.Kind.TheVariants as kind
 use Rattle.oim_report.specs.declared.kind.PeriodType.TheVariants.{Instant}
 use Rattle.oim_report.specs.declared.kind.ValueType.TheVariants as item
 use Rattle.oim_rows.specs.RowFacts.{TableHeaderValue}
-use Rattle.oim_fast.specs.state.Columns.{fact_columns_in}
+use Rattle.oim_fast.specs.Facts.{fact_columns_in}
 use Rattle.oim_fast.specs.state.Frames.{groups_chosen, no_dimensions, period_wanted, unit_wanted, with_test}
 use Rattle.oim_fast.specs.state.FrameTexts.{FrameValue, frame_dimensions}
 use Rattle.oim_fast.specs.state.ValueForms.{form_of, is_number_form}

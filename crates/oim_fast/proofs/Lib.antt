@@ -24,5 +24,6 @@ pub mod MemberLaws
 pub mod SoundLaws
 pub mod FoundLaws
 pub mod LoopLaws
+pub mod GiveLaws
 pub mod CellWriterLaws
 pub mod Examples

@@ -1,5 +1,5 @@
 -- How the text of a frame is made from the parts of its entries.
-use Rattle.std.proofs.Common.{◌≡◌, ◌<◌, ◌+◌, ℕ, zero, suc, true, List, [], ◌∷◌, ◌++◌, codes, length, map, take, get_or, Option, Some, None, Ok, IfSome, refl, sym, ap, subst, ◌∙◌, append-nil, arith}
+use Rattle.std.proofs.Common.{◌≡◌, ◌<◌, ◌+◌, ℕ, zero, suc, true, List, [], ◌∷◌, ◌++◌, codes, length, map, take, get_or, Option, Some, None, IfSome, refl, sym, ap, subst, ◌∙◌, append-nil, arith}
 use Rattle.std.specs.Prelude.{◌⊎◌, MatchOption, if◌then◌else◌, Bool, false}
 use Rattle.std.proofs.Common.{inr}
 use Rattle.std.specs.Borrow.{Bor}

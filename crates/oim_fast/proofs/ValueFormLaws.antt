@@ -1,5 +1,5 @@
 -- How the cells of a concept's facts are read.
-use Rattle.std.proofs.Common.{◌≡◌, ℕ, Bool, true, List, Option, Ok, refl, sym, ap, subst, ◌∙◌}
+use Rattle.std.proofs.Common.{◌≡◌, ℕ, List, Option, Ok, refl, ap, ◌∙◌}
 use Rattle.oim_cells.specs.Cells.{numeral_of}
 use Rattle.oim_cells.specs.declared.cells.NumberKind.{NumberKind}
 use Rattle.oim_cells.specs.declared.cells.NumberKind.TheVariants.{Decimal}

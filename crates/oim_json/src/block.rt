@@ -8,6 +8,7 @@ ghost use Rattle.oim_json.specs.Lines.{IsOneLine};
 ghost use Rattle.oim_json.specs.declared.layout.Layout.TheVariants.{Compact};
 
 use crate::member::push_member;
+use crate::spare::Spare;
 use ghost_value::{Denotes, GhostValue};
 use oim_names::Items;
 use oim_resolve::Fact;
@@ -138,17 +139,18 @@ impl Block {
         self.ends[i - 1] + 1
     }
 
-    /// Returns the vector of the texts as a spare vector for another block. It still holds each
-    /// text after a comma.
-    pub fn into_spare(self) -> Vec<u8>
-        ensures { result.items ≡ behind_commas self }
+    /// Returns the memory of the block for another one. It still holds each text after a comma, and
+    /// where each text ends.
+    pub fn into_spare(self) -> Spare
+        ensures bytes { result.bytes.items ≡ behind_commas self }
+        ensures ends { result.ends.items ≡ ends_from 0 self }
     {
         let Self {
             bytes,
-            ends: _,
+            ends,
             facts: _,
         } = self;
-        bytes
+        Spare { bytes, ends }
     }
 }
 

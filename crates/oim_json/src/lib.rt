@@ -35,6 +35,7 @@ mod layout;
 mod mark;
 mod member;
 mod sink;
+mod spare;
 mod write;
 mod writing;
 
@@ -45,4 +46,5 @@ pub use layout::Layout;
 pub use mark::{Mark, WriteFault};
 pub use member::{Member, member_of};
 pub use sink::{Marked, Sink, write_all_of};
+pub use spare::Spare;
 pub use writing::write_members;

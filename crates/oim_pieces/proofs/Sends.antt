@@ -3,6 +3,8 @@ use denote.Param.Send.{IsSend, IsSync, sendable, view_send}
 use denote.Param.SendFields.{declared_send, variants_send}
 use denote.Ref.{NamedLft}
 use Rattle.std.proofs.Crossing.{crosses}
+use Rattle.oim_json.proofs.spare.Spare.TheSendSync as spare
+use Rattle.oim_json.specs.contracts.spare.Spare as Spare
 use Rattle.oim_fast.proofs.table.row_writer.RowWriter.TheSendSync as writer
 use Rattle.oim_fast.specs.contracts.table.row_writer.RowWriter as Writer
 use Rattle.oim_records.proofs.piece_records.PieceRecords.TheSendSync as records
@@ -54,6 +56,9 @@ writer_send a = writer.the_send a
 records_send : IsSend Records.the_row
 records_send = records.the_send
 
+spare_send : IsSend Spare.the_row
+spare_send = spare.the_send
+
 pub helpers_sync : IsSync AtWork.the_row
 helpers_sync = at_work.the_sync
 
@@ -61,7 +66,7 @@ ids_send : IsSend Ids.the_row
 ids_send = ids.the_send
 
 pub decoder_send : (a : NamedLft) → IsSend (Decoder.the_row a)
-decoder_send a = search (sendable, crosses, row_plan_send, header_send, writer_send, records_send, ids_send) depth 20
+decoder_send a = search (sendable, crosses, row_plan_send, header_send, writer_send, records_send, ids_send, spare_send) depth 20
 
 bin_send : IsSend SpareVectors.the_row
 bin_send = kept.the_send

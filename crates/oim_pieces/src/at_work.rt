@@ -3,7 +3,12 @@
 //! Not proved: the counts, and what memory is kept. They decide which thread decodes a piece and
 //! where identifiers lie, and no result depends on them.
 
+ghost use Rattle.std.specs.Prelude.{◌<◌, length};
+
+use crate::text_growth::{TextGrowth, looks_in};
+use oim_report::Report;
 use oim_rows::SpareIds;
+use std::alloc::Global;
 use std::sync::Mutex;
 use std::sync::atomic::{AtomicUsize, Ordering};
 use std::thread::{Threads, available_parallelism};
@@ -32,6 +37,14 @@ const WAITING_BYTES: usize = 8_388_608;
 /// worker more than that, and all others wait for the worker.
 const LOOKS: usize = 50;
 
+/// How many columns, groups and dimensions of a template are looked at for each table. To open the
+/// table takes longer.
+const FEW_LOOKS: usize = 2_048;
+
+/// How many columns, groups and dimensions are looked at for all tables with larger templates. They
+/// take about a tenth of a second.
+const MOST_LOOKS: usize = 1_048_576;
+
 /// How many processors to assume if the system gives no count.
 const SOME_PROCESSORS: usize = 4;
 
@@ -46,6 +59,8 @@ pub struct AtWork {
     size: usize,
     // The count of processors, once it was read; 0 before.
     processors: AtomicUsize,
+    // How many columns, groups and dimensions of large templates may still be looked at.
+    looks_left: AtomicUsize,
     // The memory of a table's row identifiers, for the next table that is written.
     spare_ids: Mutex<Option<SpareIds>>,
 }
@@ -59,6 +74,7 @@ impl AtWork {
             workers,
             size,
             processors: AtomicUsize::new(0),
+            looks_left: AtomicUsize::new(MOST_LOOKS),
             spare_ids: Mutex::new(None),
         }
     }
@@ -66,6 +82,28 @@ impl AtWork {
     /// Returns about how many bytes a piece has.
     pub(crate) fn size(&self) -> usize {
         self.size
+    }
+
+    /// Returns how much longer than its rows the facts of a table can be, if it is decoded in
+    /// pieces.
+    ///
+    /// Returns `None` if its facts can be far longer, or if its template is large and was not
+    /// looked at, as those of other tables were. Then only one worker decodes the table, since a
+    /// piece of it could take much memory.
+    pub fn growth_of(&self, alloc: Global, report: &Report, table: usize) -> Option<TextGrowth>
+        requires { table < length report.now.tables }
+    {
+        let left = self.looks_left.load(Ordering::SeqCst);
+        let looks = looks_in(report, table, left.max(FEW_LOOKS));
+        if looks > FEW_LOOKS {
+            self.looks_left
+                .store(left.saturating_sub(looks), Ordering::SeqCst);
+            if looks > left {
+                return None;
+            }
+        }
+        let growth = TextGrowth::of(alloc, report, table);
+        if growth.is_long() { None } else { Some(growth) }
     }
 
     /// Returns whether no other thread can help a worker: there is one worker, or one processor.

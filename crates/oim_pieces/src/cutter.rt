@@ -7,7 +7,6 @@ ghost use Rattle.oim_records.specs.PieceTaking.{bytes_left};
 ghost use Rattle.oim_records.specs.Reads.{KeepsLeft, left_behind};
 ghost use Rattle.oim_pieces.specs.state.Cutting.{HasAtLeast, IsOver, TakesRows};
 
-use crate::growth_looks::KnownGrowth;
 use crate::text_growth::{TextGrowth, has_memory};
 use oim_records::{FilePiece, PieceReader, ReadFault};
 use oim_rows::{TableFault, TableKind, fault_of_read, whole_fault};
@@ -16,7 +15,7 @@ use std::marker::Model;
 
 /// A piece of a table: whole records, and the row number of the first. `stays` means that the
 /// worker that cut it also decodes it, as it does if the piece has less than half of the asked-for
-/// bytes, or if the table's facts are long.
+/// bytes.
 #[derive(Drop)]
 pub(crate) struct CutPiece {
     pub(crate) bytes: Vec<u8>,
@@ -53,10 +52,10 @@ pub(crate) struct Cutter<R: Read + Drop> {
     limit: u32,
     next: u64,
     over: Option<Option<TableFault>>,
-    // How many bytes a piece should have if the table's facts are not long.
+    // How many bytes a piece should have.
     size: usize,
     // How much longer than its rows the table's facts can be.
-    growth: Option<KnownGrowth>,
+    growth: TextGrowth,
     // How many bytes the metadata adds to the longest of the last pieces.
     longest: usize,
     // Whether the last piece or the last read was short, as at the end of a file, or with a reader
@@ -148,25 +147,18 @@ impl<R: Read + Drop> Cutter<R> {
             next,
             over: None,
             size,
-            growth: None,
+            growth: TextGrowth::none(),
             longest: 0,
             is_slow: false,
         }
     }
 
-    /// Sets how much longer than its rows the table's facts can be.
-    pub(crate) fn set_growth(&mut self, growth: KnownGrowth)
+    /// Sets how much longer than its rows the table's facts can be, and so the size of its pieces.
+    pub(crate) fn set_growth(&mut self, growth: TextGrowth)
         ensures { self.new ≡ self.old }
     {
-        self.growth = Some(growth);
-    }
-
-    /// Returns how much longer than its rows the table's facts can be, as far as it is known.
-    fn growth(&self) -> TextGrowth {
-        match &self.growth {
-            Some(known) => known.get(),
-            None => TextGrowth::none(),
-        }
+        self.size = growth.piece_size(self.size);
+        self.growth = growth;
     }
 
     /// Returns whether the facts of one more piece may take memory in addition to those of `count`
@@ -230,20 +222,18 @@ impl<R: Read + Drop> Cutter<R> {
             self.over = Some(Some(whole_fault(self.table, TableKind::Memory)));
             return None;
         }
-        let growth = self.growth();
-        let size = growth.piece_size(self.size);
-        match next_with_rows(&mut self.pieces, size) {
+        match next_with_rows(&mut self.pieces, self.size) {
             Ok(Some(FilePiece { bytes, records })) => {
                 let first = self.next as u32;
                 let rows = records as usize;
-                self.longest = growth.longest(self.longest, bytes.len(), rows);
-                let is_short = bytes.len() < size / 2;
+                self.longest = self.growth.longest(self.longest, bytes.len(), rows);
+                let is_short = bytes.len() < self.size / 2;
                 self.is_slow = is_short || self.pieces.is_short();
                 self.next += records;
                 Some(CutPiece {
                     bytes,
                     first,
-                    stays: is_short || growth.is_long(),
+                    stays: is_short,
                 })
             }
             Ok(None) => {

@@ -15,7 +15,7 @@ use std::marker::Model;
 use std::sync::Wait;
 use std::thread;
 
-/// Where a helper thread works: its end of the queue, its spare vectors, and its number.
+/// Where a helper thread works: its end of the queue, its spares, and its number.
 #[derive(Drop)]
 pub(crate) struct HelperSetup<'a> {
     pub(crate) share: PieceQueueEnd<'a>,
@@ -102,7 +102,7 @@ impl<'a> HelperThread<'a> {
         }
     }
 
-    /// Decodes a piece, and writes its texts to this thread's spare vectors.
+    /// Decodes a piece, and writes its texts to this thread's spares.
     fn reply_to<T: Wait>(&mut self, rt: &T, to_decode: PieceToDecode<'a>) -> DecodedPiece
         requires { to_decode.asked.first ≤ self.old.limit + 1 }
         ensures answer { IsPieceAnswer self.old to_decode.entry.asked.first (records_left state.StartRecord to_decode.entry.bytes.items) result.answer }

@@ -7,7 +7,7 @@ use crate::decoded::Asked;
 use keyed::{Fit, Giver, Taker};
 use oim_decode::PieceAnswer;
 
-/// A piece to decode: which rows it has, its bytes, and how many spare vectors its texts may take.
+/// A piece to decode: which rows it has, its bytes, and how many spares its texts may take.
 #[derive(Drop)]
 pub(crate) struct PieceToDecode<'a> {
     pub(crate) asked: Asked<'a>,

@@ -19,13 +19,13 @@
 //! - `TableThreads`: a table's threads, which are its worker and its helper threads.
 //! - `PieceQueue`, `PieceQueueEnd`: the ends of a table's queue: the worker's, a helper thread's.
 //! - `HelperThread`, `HelperSetup`: what a helper thread is started with.
-//! - `SpareVectors`, `SparesByThread`: spare vectors, kept for the thread that last wrote to them.
-//! - `Memory`: all spare vectors of a table.
+//! - `SpareVectors`, `SparesByThread`: the memory of blocks, kept for the thread that last wrote to
+//!   it.
+//! - `Memory`: all spare memory of a table.
 //! - `TextGrowth`: how much longer than its rows a table's facts can be. It makes pieces small.
-//! - `GrowthLooks`, `KnownGrowth`: how it becomes known while the file is read.
 //! - `AtWork`: the count of the threads at work in the run.
 //!
-//! Not proved: what `AtWork`, `Memory` and `KnownGrowth` hold, and how many pieces the worker cuts
+//! Not proved: what `AtWork`, `Memory` and `TextGrowth` hold, and how many pieces the worker cuts
 //! ahead. No result depends on them.
 //!
 //! A call, which returns how many blocks the first piece of a report's first table has:
@@ -42,8 +42,8 @@
 //!     if report.tables() == 0 {
 //!         return Ok(0);
 //!     }
-//!     let limits = Limits::profile();
-//!     let mut table = TablePieces::open(alloc, at_work, report, 0, file, limits)?;
+//!     let (growth, limits) = (TextGrowth::none(), Limits::profile());
+//!     let mut table = TablePieces::open(alloc, at_work, growth, report, 0, file, limits)?;
 //!     let first = table.next_blocks(scope, rt);
 //!     mem::drop(table);
 //!     match first? {
@@ -58,7 +58,6 @@ mod at_work;
 mod cutter;
 mod decoded;
 mod decoders;
-mod growth_looks;
 mod helper_thread;
 mod in_channel;
 mod memory;
@@ -72,3 +71,4 @@ mod text_growth;
 
 pub use at_work::AtWork;
 pub use table_pieces::{PIECE_SIZE, TablePieces};
+pub use text_growth::TextGrowth;

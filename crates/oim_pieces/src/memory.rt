@@ -1,31 +1,33 @@
-//! Spare vectors for the pieces of a table.
+//! Memory for the pieces of a table.
 
 ghost use Rattle.std.specs.Prelude.{◌≡◌};
 
 use crate::spare_vectors::{SpareVectors, SparesByThread};
 use oim_decode::PieceDecoder;
+use oim_json::Spare;
 use std::alloc::Global;
 use std::mem;
 use std::sync::Wait;
 
-/// A piece whose texts take fewer vectors than this needs no returned ones.
+/// A piece whose texts take fewer spares than this needs no returned ones.
 const FEW: usize = 4;
 
-/// The most bytes of spare vectors for texts that the worker keeps. Those of the blocks of a few
-/// ordinary pieces have fewer.
+/// The most bytes of spares for texts that the worker keeps, without the vectors of ends, which are
+/// far smaller. Those of the blocks of a few ordinary pieces have fewer.
 const MOST_BYTES: usize = 4_194_304;
 
-/// Spare vectors for the texts and the bytes of pieces, for the worker and its helper threads.
+/// Spares for the texts of pieces and vectors for their bytes, for the worker and its helper
+/// threads.
 #[derive(Drop)]
 pub(crate) struct Memory {
     alloc: Global,
     // For texts that the worker decodes.
-    spares: Vec<Vec<u8>>,
+    spares: Vec<Spare>,
     // For texts, thread by thread.
     by_thread: SparesByThread,
     // For the bytes of pieces.
     bytes: Vec<Vec<u8>>,
-    // How many vectors the texts of a piece take, by the last piece.
+    // How many spares the texts of a piece take, by the last piece.
     usual: usize,
     // The thread whose answer was joined last, until its blocks are counted. `usize::MAX` is the
     // worker.
@@ -33,7 +35,7 @@ pub(crate) struct Memory {
 }
 
 impl Memory {
-    /// Makes a memory without a spare vector.
+    /// Makes a memory without a spare.
     pub(crate) fn new(alloc: Global) -> Memory {
         Memory {
             alloc,
@@ -45,35 +47,35 @@ impl Memory {
         }
     }
 
-    /// Keeps a vector for texts that are decoded later, or drops it if enough are kept or memory
+    /// Keeps a spare for texts that are decoded later, or drops it if enough are kept or memory
     /// runs out.
-    pub(crate) fn keep_spare(&mut self, spare: Vec<u8>) {
-        if self.spares.len() < MOST_BYTES / spare.capacity().max(1) {
+    pub(crate) fn keep_spare(&mut self, spare: Spare) {
+        if self.spares.len() < MOST_BYTES / spare.bytes.capacity().max(1) {
             let _ = self.spares.push(spare);
         }
     }
 
-    /// Keeps the vector of a written block of this table, for the thread that wrote it if that is
+    /// Keeps the memory of a written block of this table, for the thread that wrote it if that is
     /// known.
-    pub(crate) fn keep_own<T: Wait>(&mut self, rt: &T, spare: Vec<u8>) {
+    pub(crate) fn keep_own<T: Wait>(&mut self, rt: &T, spare: Spare) {
         if let Some(spare) = self.by_thread.keep(rt, spare) {
             self.keep_spare(spare);
         }
     }
 
-    /// Records that the vectors of all given blocks have returned, except those of the last `left`.
+    /// Records that the memory of all given blocks has returned, except that of the last `left`.
     pub(crate) fn note_left(&mut self, left: usize) {
         self.by_thread.forget(left);
     }
 
-    /// Records that the piece joined last gave `count` blocks, each with one vector.
+    /// Records that the piece joined last gave `count` blocks, each with one spare.
     pub(crate) fn expect(&mut self, count: usize) {
         self.by_thread.note(self.by, count);
         self.by = usize::MAX;
         self.usual = count;
     }
 
-    /// Returns how many more spare vectors the texts of two pieces would take on the worker.
+    /// Returns how many more spares the texts of two pieces would take on the worker.
     pub(crate) fn wanted(&self) -> usize {
         if self.usual < FEW {
             return 0;
@@ -83,13 +85,13 @@ impl Memory {
             .saturating_sub(self.spares.len())
     }
 
-    /// Returns how many vectors the texts of a piece may take.
+    /// Returns how many spares the texts of a piece may take.
     pub(crate) fn usual(&self) -> usize {
         self.usual.saturating_add(1).max(FEW)
     }
 
-    /// Returns all spare vectors for texts, and keeps none.
-    pub(crate) fn free_spares<T: Wait>(&mut self, rt: &T) -> Vec<Vec<u8>> {
+    /// Returns all spares for texts, and keeps none.
+    pub(crate) fn free_spares<T: Wait>(&mut self, rt: &T) -> Vec<Spare> {
         let mut spares = mem::replace(&mut self.spares, Vec::new(self.alloc));
         self.by_thread.empty(rt, &mut spares);
         spares
@@ -117,7 +119,7 @@ impl Memory {
         self.by = by;
     }
 
-    /// Lends the worker's decoder spare vectors for the texts of a piece.
+    /// Lends the worker's decoder spares for the texts of a piece.
     pub(crate) fn lend(&mut self, decoder: &mut PieceDecoder<'_>)
         ensures { decoder.new ≡ decoder.old }
     {
@@ -129,8 +131,8 @@ impl Memory {
         }
     }
 
-    /// Takes back a decoder's vectors: that of the decoded bytes, and those for texts that it did
-    /// not use.
+    /// Takes back a decoder's memory: the vector of the decoded bytes, and the spares for texts
+    /// that it did not use.
     pub(crate) fn take_back(&mut self, decoder: &mut PieceDecoder<'_>)
         ensures { decoder.new.header ≡ decoder.old.header }
     {
@@ -138,7 +140,7 @@ impl Memory {
         self.keep_bytes(decoder.take_spare());
     }
 
-    /// Takes back the vectors for texts that a decoder did not use.
+    /// Takes back the spares for texts that a decoder did not use.
     fn take_spares(&mut self, decoder: &mut PieceDecoder<'_>)
         ensures { decoder.new ≡ decoder.old }
     {
@@ -161,7 +163,7 @@ impl Memory {
         self.by_thread.open(self.alloc)
     }
 
-    /// Gives the last thread its share of the spare vectors for texts, one of `count` shares.
+    /// Gives the last thread its share of the spares for texts, one of `count` shares.
     pub(crate) fn supply<T: Wait>(&mut self, rt: &T, count: usize) {
         let most = self.spares.len() / count.max(1);
         self.by_thread.supply(rt, &mut self.spares, most);

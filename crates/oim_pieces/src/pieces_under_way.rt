@@ -11,10 +11,11 @@ ghost use Rattle.oim_pieces.specs.state.PiecesUnderWay.{IsEndOfTable, IsFront, K
 
 use crate::at_work::AtWork;
 use crate::cutter::Cutter;
-use crate::growth_looks::KnownGrowth;
 use crate::piece_under_way::PieceUnderWay;
 use crate::table_threads::TableThreads;
+use crate::text_growth::TextGrowth;
 use oim_decode::{FirstRecords, JoinedPiece, PieceJoin};
+use oim_json::Spare;
 use oim_records::PieceReader;
 use oim_report::Report;
 use oim_rows::{TableFault, TableKind, whole_fault};
@@ -28,7 +29,7 @@ use std::thread::{Scope, Threads};
 /// A bound of the loop that cuts ahead. It exceeds the pieces that are under way at once.
 const MOST_CUT: usize = 256;
 
-/// More vectors than return at once. All are taken once the writer has reached the table, since
+/// More spares than return at once. All are taken once the writer has reached the table, since
 /// most belong to helper threads, which use them again.
 const MOST_TAKEN: usize = 256;
 
@@ -46,7 +47,7 @@ pub(crate) struct PiecesUnderWay<'a, R: Read + Drop> {
     has_given: bool,
     // Whether the writer has reached the table.
     is_wanted: bool,
-    // Whether the vectors that return now are from this table's blocks.
+    // Whether the spares that return now are from this table's blocks.
     are_own: bool,
     // Whether memory for the identifiers was asked for.
     has_asked: bool,
@@ -157,15 +158,15 @@ impl<'a, R: Read + Drop> PiecesUnderWay<'a, R> {
     }
 
     /// Sets how much longer than its rows the table's facts can be.
-    pub(crate) fn set_growth(&mut self, growth: KnownGrowth)
+    pub(crate) fn set_growth(&mut self, growth: TextGrowth)
         ensures { self.new ≡ self.old }
     {
         self.cutter.set_growth(growth);
     }
 
-    /// Keeps the vector of a written block as a spare, for the thread that wrote the block if that
+    /// Keeps the memory of a written block as a spare, for the thread that wrote the block if that
     /// is known.
-    pub(crate) fn keep_spare<T: Wait>(&mut self, rt: &T, spare: Vec<u8>)
+    pub(crate) fn keep_spare<T: Wait>(&mut self, rt: &T, spare: Spare)
         ensures { self.new ≡ self.old }
     {
         if self.are_own {
@@ -175,21 +176,21 @@ impl<'a, R: Read + Drop> PiecesUnderWay<'a, R> {
         }
     }
 
-    /// Records that the vectors of all given blocks have returned, except those of the last `left`.
+    /// Records that the memory of all given blocks has returned, except that of the last `left`.
     pub(crate) fn note_left(&mut self, left: usize)
         ensures { self.new ≡ self.old }
     {
         self.threads.memory.note_left(left);
     }
 
-    /// Records that the piece joined last gave `count` blocks, each with one vector.
+    /// Records that the piece joined last gave `count` blocks, each with one spare.
     pub(crate) fn expect(&mut self, count: usize)
         ensures { self.new ≡ self.old }
     {
         self.threads.memory.expect(count);
     }
 
-    /// Returns how many more spare vectors to take for the next pieces: every one that has
+    /// Returns how many more spares to take for the next pieces: every one that has
     /// returned, once the writer has reached the table.
     pub(crate) fn wanted_spares(&self) -> usize {
         if self.is_wanted {
@@ -199,8 +200,8 @@ impl<'a, R: Read + Drop> PiecesUnderWay<'a, R> {
         }
     }
 
-    /// Returns all spare vectors for texts.
-    pub(crate) fn free_spares<T: Wait>(&mut self, rt: &T) -> Vec<Vec<u8>>
+    /// Returns all spares for texts.
+    pub(crate) fn free_spares<T: Wait>(&mut self, rt: &T) -> Vec<Spare>
         ensures { self.new ≡ self.old }
     {
         self.threads.memory.free_spares(rt)
@@ -228,7 +229,7 @@ impl<'a, R: Read + Drop> PiecesUnderWay<'a, R> {
 
     /// Records whether the writer has reached the table.
     ///
-    /// The vectors that are kept between the first call with true and the second are from other
+    /// The spares that are kept between the first call with true and the second are from other
     /// tables' blocks, because they returned earlier. At the first one, the table before has left
     /// the memory of its identifiers.
     pub(crate) fn want(&mut self, is_wanted: bool)

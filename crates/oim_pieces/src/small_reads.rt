@@ -2,23 +2,22 @@
 
 ghost use Rattle.std.specs.Prelude.{◌≡◌, ◌≤◌, ◌<◌};
 
-use crate::growth_looks::GrowthLooks;
 use std::io::{self, Read};
 
 /// A reader that gives at most as many bytes at a time as a piece of its table has, and at least
 /// one if it has one.
 #[derive(Drop)]
-pub(crate) struct SmallReads<'a, R: Read + Drop> {
+pub(crate) struct SmallReads<R: Read + Drop> {
     reader: R,
-    looks: GrowthLooks<'a>,
+    most: usize,
 }
 
-impl<'a, R: Read + Drop> SmallReads<'a, R> {
-    /// Reads as many bytes at a time as `looks` finds.
-    pub(crate) fn new(reader: R, looks: GrowthLooks<'a>) -> SmallReads<'a, R>
+impl<R: Read + Drop> SmallReads<R> {
+    /// Reads at most `most` bytes at a time, or one if that is 0.
+    pub(crate) fn new(reader: R, most: usize) -> SmallReads<R>
         ensures { result.reader ≡ reader }
     {
-        SmallReads { reader, looks }
+        SmallReads { reader, most }
     }
 }
 
@@ -30,7 +29,7 @@ fn read_size(room: usize, most: usize) -> usize
     room.min(most.max(1))
 }
 
-impl<R: Read + Drop> Read for SmallReads<'_, R> {
+impl<R: Read + Drop> Read for SmallReads<R> {
     ghost use Rattle.std.specs.Prelude.{◌≡◌};
     ghost use Rattle.std.specs.Io.{ReadsAtMost};
     ghost use Rattle.std.specs.Io.KnownBytes.{ReadConsumes};
@@ -41,11 +40,7 @@ impl<R: Read + Drop> Read for SmallReads<'_, R> {
         ensures bound { ReadsAtMost result buf.new }
         ensures bytes { ReadConsumes (R.remaining self.old.reader) (R.remaining self.new.reader) result buf.new }
     {
-        let size = read_size(buf.len(), self.looks.most());
-        let result = self.reader.read(&mut buf[..size]);
-        if let Ok(count) = &result {
-            self.looks.gave(*count);
-        }
-        result
+        let size = read_size(buf.len(), self.most);
+        self.reader.read(&mut buf[..size])
     }
 }

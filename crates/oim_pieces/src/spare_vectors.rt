@@ -1,28 +1,29 @@
-//! Vectors that go back to the thread that last wrote to them, whose cache still holds them.
+//! Memory that goes back to the thread that last wrote to it, whose cache still holds it.
 
 ghost use Rattle.std.specs.Prelude.{◌≡◌};
 
 use crossbeam_queue::ArrayQueue;
 use oim_decode::PieceDecoder;
+use oim_json::Spare;
 use std::alloc::Global;
 use std::collections::VecDeque;
 use std::sync::{Arc, Wait};
 
-/// The most spare vectors that are kept for a thread.
+/// The most spares that are kept for a thread.
 const MOST_KEPT: usize = 64;
 
-/// The most bytes of spare vectors that are kept for a thread. `MOST_KEPT` ordinary ones have
-/// fewer.
+/// The most bytes of spares that are kept for a thread, without the vectors of ends, which are far
+/// smaller. `MOST_KEPT` ordinary ones have fewer.
 const MOST_BYTES: usize = 4_194_304;
 
-/// Spare vectors of one thread. Their memory is still in its processor's cache.
+/// Spares of one thread. They are still in its processor's cache.
 #[derive(Drop)]
 pub(crate) struct SpareVectors {
-    spares: Arc<ArrayQueue<Vec<u8>>>,
+    spares: Arc<ArrayQueue<Spare>>,
 }
 
 impl SpareVectors {
-    /// Lends a decoder at most `most` vectors.
+    /// Lends a decoder at most `most` spares.
     pub(crate) fn lend<T: Wait>(&self, rt: &T, decoder: &mut PieceDecoder<'_>, most: usize)
         ensures { decoder.new ≡ decoder.old }
     {
@@ -34,7 +35,7 @@ impl SpareVectors {
         }
     }
 
-    /// Takes back the vectors that a decoder did not use.
+    /// Takes back the spares that a decoder did not use.
     pub(crate) fn take_back<T: Wait>(&self, rt: &T, decoder: &mut PieceDecoder<'_>)
         ensures { decoder.new ≡ decoder.old }
     {
@@ -85,8 +86,8 @@ impl SparesByThread {
         Some((SpareVectors { spares: theirs }, number))
     }
 
-    /// Moves at most `most` vectors to the last thread's bin.
-    pub(crate) fn supply<T: Wait>(&self, rt: &T, spares: &mut Vec<Vec<u8>>, most: usize) {
+    /// Moves at most `most` spares to the last thread's bin.
+    pub(crate) fn supply<T: Wait>(&self, rt: &T, spares: &mut Vec<Spare>, most: usize) {
         let Some(kept) = self.by_thread.last() else {
             return;
         };
@@ -125,9 +126,9 @@ impl SparesByThread {
         }
     }
 
-    /// Keeps the vector of the next block that returns, for the thread that wrote it, or drops it
+    /// Keeps the memory of the next block that returns, for the thread that wrote it, or drops it
     /// if that thread's bin is full. Returns it if no helper thread wrote the block.
-    pub(crate) fn keep<T: Wait>(&mut self, rt: &T, spare: Vec<u8>) -> Option<Vec<u8>> {
+    pub(crate) fn keep<T: Wait>(&mut self, rt: &T, spare: Spare) -> Option<Spare> {
         let Some((number, count)) = self.written.pop_front() else {
             return Some(spare);
         };
@@ -137,7 +138,7 @@ impl SparesByThread {
         }
         match self.by_thread.get(number) {
             Some(kept) => {
-                if kept.spares.len(rt) < MOST_BYTES / spare.capacity().max(1) {
+                if kept.spares.len(rt) < MOST_BYTES / spare.bytes.capacity().max(1) {
                     let _ = kept.spares.push(rt, spare);
                 }
                 None
@@ -146,8 +147,8 @@ impl SparesByThread {
         }
     }
 
-    /// Moves the vectors of all bins to `spares`.
-    pub(crate) fn empty<T: Wait>(&self, rt: &T, spares: &mut Vec<Vec<u8>>) {
+    /// Moves the spares of all bins to `spares`.
+    pub(crate) fn empty<T: Wait>(&self, rt: &T, spares: &mut Vec<Spare>) {
         for kept in self.by_thread.iter() {
             for _ in 0..MOST_KEPT {
                 match kept.spares.pop(rt) {

@@ -10,11 +10,11 @@ ghost use Rattle.oim_pieces.specs.PiecesLeft.{FewerSteps, GivesBlocks, steps_lef
 ghost use Rattle.oim_pieces.specs.state.PiecesUnderWay.{GivesJoined};
 
 use crate::at_work::AtWork;
-use crate::growth_looks::GrowthLooks;
 use crate::pieces_under_way::PiecesUnderWay;
 use crate::small_reads::SmallReads;
+use crate::text_growth::TextGrowth;
 use oim_decode::{JoinedPiece, open_pieces};
-use oim_json::Block;
+use oim_json::{Block, Spare};
 use oim_report::{Limits, Report};
 use oim_rows::{TableFault, TableKind, fault_of_read, whole_fault};
 use std::alloc::Global;
@@ -35,7 +35,7 @@ pub const PIECE_SIZE: usize = 32_768;
 #[derive(Drop)]
 pub struct TablePieces<'a, R: Read + Drop> {
     alloc: Global,
-    pieces_under_way: PiecesUnderWay<'a, SmallReads<'a, R>>,
+    pieces_under_way: PiecesUnderWay<'a, SmallReads<R>>,
     // The end or the fault of the table, once it was found.
     settled: Option<Option<TableFault>>,
 }
@@ -64,8 +64,8 @@ impl<'a, R: Read + Drop> TablePieces<'a, R> {
     /// byte-order mark.
     ///
     /// The table may have at most `limits.rows` rows. A piece has about as many bytes as `at_work`
-    /// sets, and fewer if the reader gives fewer at a time or the table's facts can be far longer
-    /// than its rows. The facts are the same for each size.
+    /// sets, and fewer if the reader gives fewer at a time or the table's facts can be longer than
+    /// its rows, as `growth` says. The facts are the same for each size.
     ///
     /// Fails with the header's first fault, in this order: NoHeader, UnknownHeader, RepeatedHeader,
     /// NoRowIdColumn. Fails with Read if the reader failed, and with Memory if memory runs out.
@@ -73,6 +73,7 @@ impl<'a, R: Read + Drop> TablePieces<'a, R> {
     pub fn open(
         alloc: Global,
         at_work: &'a AtWork,
+        growth: TextGrowth,
         report: &'a Report,
         table: usize,
         reader: R,
@@ -92,10 +93,8 @@ impl<'a, R: Read + Drop> TablePieces<'a, R> {
         ensures fault { IfSome (R.remaining reader) (λ bytes.
             IfErr result (λ e. IsOutside table e ⊎ (file_header_fault report.now table (grid bytes) ≡ Some e))) }
     {
-        let Ok((looks, growth)) = GrowthLooks::start(alloc, report, table, at_work.size()) else {
-            return Err(whole_fault(table, TableKind::Memory));
-        };
-        let (head, pieces) = match open_pieces(alloc, SmallReads::new(reader, looks)) {
+        let most = growth.piece_size(at_work.size());
+        let (head, pieces) = match open_pieces(alloc, SmallReads::new(reader, most)) {
             Ok(Some(opened)) => opened,
             Ok(None) => return Err(whole_fault(table, TableKind::NoHeader)),
             Err(fault) => return Err(fault_of_read(table, fault)),
@@ -173,32 +172,32 @@ impl<'a, R: Read + Drop> TablePieces<'a, R> {
         self.pieces_under_way.want(is_wanted);
     }
 
-    /// Keeps the vector of a written block as a spare, or drops it if enough are kept.
+    /// Keeps the memory of a written block as a spare, or drops it if enough are kept.
     ///
     /// Once the writer has reached the table, its own blocks must return in the order they were
     /// given.
-    pub fn keep_spare<T: Wait>(&mut self, rt: &T, spare: Vec<u8>)
+    pub fn keep_spare<T: Wait>(&mut self, rt: &T, spare: Spare)
         ensures { self.new ≡ self.old }
     {
         self.pieces_under_way.keep_spare(rt, spare);
     }
 
-    /// Records that the vectors of all given blocks have returned, except those of the last `left`.
-    /// The next vectors to return are then matched with the threads that wrote them.
+    /// Records that the memory of all given blocks has returned, except that of the last `left`.
+    /// The next spares to return are then matched with the threads that wrote them.
     pub fn note_left(&mut self, left: usize)
         ensures { self.new ≡ self.old }
     {
         self.pieces_under_way.note_left(left);
     }
 
-    /// Returns how many more spare vectors to take for the next pieces: every one that has
+    /// Returns how many more spares to take for the next pieces: every one that has
     /// returned, once the writer has reached the table.
     pub fn wanted_spares(&self) -> usize {
         self.pieces_under_way.wanted_spares()
     }
 
-    /// Returns all spare vectors for texts.
-    pub fn free_spares<T: Wait>(&mut self, rt: &T) -> Vec<Vec<u8>>
+    /// Returns all spares for texts.
+    pub fn free_spares<T: Wait>(&mut self, rt: &T) -> Vec<Spare>
         ensures { self.new ≡ self.old }
     {
         self.pieces_under_way.free_spares(rt)

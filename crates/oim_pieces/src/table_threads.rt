@@ -34,6 +34,9 @@ use std::thread::{Scope, Threads};
 /// exceeds the pieces that are under way at once.
 const MOST_JOBS: usize = 64;
 
+/// The most cells of a header that is copied for helper threads.
+const MOST_CELLS: usize = 65_536;
+
 /// How many pieces of a table are under way while the writer has not reached it. Its worker decodes
 /// that one.
 const FEW_UNDER_WAY: usize = 1;
@@ -177,10 +180,10 @@ impl<'a> TableThreads<'a> {
         self.mine.header()
     }
 
-    /// Returns whether no other thread can help: the run has one worker only, or the machine one
-    /// processor.
+    /// Returns whether no other thread helps: the run has one worker only, or the machine one
+    /// processor, or the header is so wide that its copies would take much memory.
     pub(crate) fn is_alone<T: Threads>(&self, rt: &T) -> bool {
-        self.at_work.is_alone(rt)
+        self.at_work.is_alone(rt) || self.header().columns().len() > MOST_CELLS
     }
 
     /// Takes the memory that the identifiers of another table left, if this table's rows have

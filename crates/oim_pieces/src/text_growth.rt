@@ -1,22 +1,32 @@
 //! How much longer than its rows the facts of a table can be.
 //!
 //! Not proved: that no fact is longer. The figures only decide how much of a table is decoded at
-//! once, and no result depends on them.
+//! once and by whom, and no result depends on them.
 
 ghost use Rattle.std.specs.Prelude.{◌<◌, length};
 
 use oim_report::{Column, ColumnKind, Level, Report, Written};
 use std::alloc::Global;
 
+/// The most bytes that the metadata adds to a fact of a table in pieces.
+const MOST_OF_FACT: usize = 2_048;
+
+/// The most bytes that the metadata adds to the facts of a row of a table in pieces.
+const MOST_OF_ROW: usize = 2_097_152;
+
+/// The most copies of a cell in the facts of a row of a table in pieces.
+const MOST_COPIES: usize = 256;
+
+/// The most bytes of the beginnings of facts that a table in pieces may keep on each thread, one
+/// for each column of facts and property group.
+const MOST_KEPT: usize = 33_554_432;
+
+/// The bytes that are kept with each beginning of a fact.
+const KEPT_WITH: usize = 128;
+
 /// The most bytes that the metadata adds to the facts of a piece. Ordinary metadata adds up to 256
 /// bytes to a fact, and then a piece keeps its usual size.
 const MOST_ADDED: usize = 8_388_608;
-
-/// The bytes that the metadata adds to a long fact.
-const LONG: usize = 2_048;
-
-/// The most bytes that the metadata adds to the long facts of a piece.
-const MOST_LONG: usize = 2_097_152;
 
 /// The most bytes that the metadata adds to the facts of all pieces under way, except one.
 const MOST_UNDER_WAY: usize = 8_388_608;
@@ -24,28 +34,23 @@ const MOST_UNDER_WAY: usize = 8_388_608;
 /// The most bytes of cells that are copied to the facts of a piece.
 const MOST_COPIED: usize = 2_097_152;
 
-/// The least size of a piece, so that rows without facts take little time.
-const LEAST: usize = 16;
-
 /// The least size of a piece if each fact copies a cell once. A row with many facts has more bytes.
 const LEAST_COPIED: usize = 4_096;
 
 /// The bytes of a dimension in a fact's text, besides its name and value.
 const AROUND: usize = 6;
 
-/// The bytes that the metadata adds to a fact of a table whose metadata was not looked at. They
-/// make pieces of the least size.
-const UNKNOWN: usize = MOST_LONG / LEAST;
-
 /// How much longer than its rows the facts of a table can be.
 #[derive(Clone, Copy)]
-pub(crate) struct TextGrowth {
+pub struct TextGrowth {
     // The most facts of a row.
     facts: usize,
     // The most bytes that the metadata adds to a fact.
     added: usize,
     // The most copies of a cell in the facts of a row.
     copies: usize,
+    // How many property groups the template has.
+    groups: usize,
 }
 
 /// What levels add to a fact at most: bytes, and references to cells.
@@ -145,21 +150,22 @@ fn looks_at(column: &Column, most: usize) -> usize {
     count
 }
 
-/// Returns whether a table's template has at most `most` columns, groups and dimensions.
-fn is_within(report: &Report, table: usize, most: usize) -> bool
+/// Returns how many columns, groups and dimensions a table's template has, or more than `most` if
+/// it has more.
+pub(crate) fn looks_in(report: &Report, table: usize, most: usize) -> usize
     requires { table < length report.now.tables }
 {
     let shared = report.report_level().dimensions.len();
     let mut count = shared.saturating_add(report.template_level(table).dimensions.len());
     for column in report.template_columns(table) {
         if count > most {
-            return false;
+            return count;
         }
         count = count
             .saturating_add(1)
             .saturating_add(looks_at(column, most));
     }
-    count <= most
+    count
 }
 
 /// Counts that `times` facts copy the cells to which a level refers.
@@ -221,90 +227,77 @@ fn copies_in(alloc: Global, report: &Report, table: usize, facts: usize) -> usiz
 }
 
 impl TextGrowth {
-    /// Returns a growth of nothing.
-    pub(crate) fn none() -> TextGrowth {
+    /// Returns a growth of nothing, with which pieces have their usual size.
+    pub fn none() -> TextGrowth {
         TextGrowth {
             facts: 0,
             added: 0,
             copies: 0,
-        }
-    }
-
-    /// Returns the growth of a table whose metadata was not looked at: its facts count as long.
-    pub(crate) fn unknown() -> TextGrowth {
-        TextGrowth {
-            facts: usize::MAX,
-            added: UNKNOWN,
-            copies: 0,
-        }
-    }
-
-    /// Returns how much longer than its rows the facts of a table can be. Returns `None` if its
-    /// template has more than `looks` columns, groups and dimensions.
-    pub(crate) fn within(
-        alloc: Global,
-        report: &Report,
-        table: usize,
-        looks: usize,
-    ) -> Option<TextGrowth>
-        requires { table < length report.now.tables }
-    {
-        if is_within(report, table, looks) {
-            Some(TextGrowth::of(alloc, report, table))
-        } else {
-            None
+            groups: 0,
         }
     }
 
     /// Returns how much longer than its rows the facts of a table can be.
-    fn of(alloc: Global, report: &Report, table: usize) -> TextGrowth
+    pub(crate) fn of(alloc: Global, report: &Report, table: usize) -> TextGrowth
         requires { table < length report.now.tables }
     {
         let columns = report.template_columns(table);
         let mut own = Added::nothing();
-        let mut groups = Added::nothing();
+        let mut by_groups = Added::nothing();
+        let mut groups = 0usize;
         for column in columns {
             own = own.or(added_by(report, table, &column.level));
-            groups = groups.and(added_by_group(report, table, column));
+            by_groups = by_groups.and(added_by_group(report, table, column));
+            groups = groups.saturating_add(column.groups.len());
         }
         let shared = added_by(report, table, report.report_level());
         let template = added_by(report, table, report.template_level(table));
         let facts = facts_in(columns);
-        let of_groups = facts.saturating_mul(groups.references);
+        let of_groups = facts.saturating_mul(by_groups.references);
         TextGrowth {
             facts,
-            added: shared.and(template).and(own).and(groups).bytes,
+            added: shared.and(template).and(own).and(by_groups).bytes,
             copies: copies_in(alloc, report, table, facts).saturating_add(of_groups),
+            groups,
         }
     }
 
-    /// Returns whether the facts are so long that one piece at a time is enough. Its worker decodes
-    /// it, so that other threads keep no memory for it.
+    /// Returns whether the facts can be so long that they are not decoded in pieces.
     pub(crate) fn is_long(self) -> bool {
-        self.added > LONG
+        self.added > MOST_OF_FACT
+            || self.copies > MOST_COPIES
+            || self.facts.saturating_mul(self.added) > MOST_OF_ROW
+            || self.kept() > MOST_KEPT
+    }
+
+    /// Returns how many bytes of the beginnings of facts a thread may keep.
+    fn kept(self) -> usize {
+        let each = self.added.saturating_add(KEPT_WITH);
+        self.facts.saturating_mul(self.groups).saturating_mul(each)
     }
 
     /// Returns the size of pieces, at most the usual one: so small that their facts take little
-    /// memory unless a row's own facts are long.
+    /// memory unless a cell is long.
     pub(crate) fn piece_size(self, usual: usize) -> usize {
-        let most = if self.is_long() {
-            MOST_LONG
-        } else {
-            MOST_ADDED
-        };
-        let added = most / self.added.max(1);
+        let added = MOST_ADDED / self.added.max(1);
         let copies = self.copies.max(1);
         let once = LEAST_COPIED.saturating_mul(self.facts) / copies;
         let copied = (MOST_COPIED / copies).max(once.min(LEAST_COPIED));
-        usual.min(added.min(copied).max(LEAST))
+        usual.min(added.min(copied).max(1))
     }
 
     /// Returns how many bytes the metadata adds at most to the facts of a piece of `bytes` bytes
-    /// with `rows` rows.
+    /// with `rows` rows, or how many the copies of a cell have in the facts of a single row.
     fn added_to(self, bytes: usize, rows: usize) -> usize {
-        rows.saturating_mul(self.facts)
+        let added = rows
+            .saturating_mul(self.facts)
             .min(bytes)
-            .saturating_mul(self.added)
+            .saturating_mul(self.added);
+        if rows > 1 {
+            added
+        } else {
+            added.max(bytes.saturating_mul(self.copies))
+        }
     }
 
     /// Returns what is added to the longest of the last pieces: to the one of `bytes` bytes with

@@ -1,5 +1,5 @@
 -- Faults of one row with what is at their places.
-use Rattle.std.proofs.Common.{◌≡◌, ◌∙◌, ◌++◌, ℕ, List, [], ◌∷◌, Option, Some, None, Result, Ok, IfOk, IfSome, ap, map, refl, slice_get, subst, sym, unwrap_or}
+use Rattle.std.proofs.Common.{◌≡◌, ◌<◌, ◌∙◌, ◌++◌, ℕ, zero, suc, arith, List, [], ◌∷◌, Option, Some, None, Result, Ok, IfOk, IfSome, ap, map, refl, slice_get, subst, sym, unwrap_or}
 use Rattle.std.specs.List.{All, flat_map}
 use Rattle.std.proofs.lemmas.List.{map-append}
 use Rattle.std.proofs.lemmas.List.Elements.{All-head, All-weaker}
@@ -7,16 +7,28 @@ use Rattle.csv.specs.Records.{fields_of}
 use Rattle.oim_records.specs.Grids.{Record, grid}
 use Rattle.oim_rows.specs.declared.fault.TableFault.{TableFault}
 use Rattle.oim_rows.specs.Header.{file_header_fault}
-use Rattle.oim_table_faults.specs.Reading.{GivesBadRow}
+use Rattle.oim_table_faults.specs.Reading.{GivesBadRow, IsCurrent}
 use Rattle.oim_table_faults.specs.TableFaults.{alone_or, bad_rows_of, faults_of_rows}
 use Rattle.oim_places.specs.FaultLists.{AreAt, ArePlacesIn, GivesRow, HasPlaceIn, LocatedLeft, RecordsByRow, header_or, record_of}
 use Rattle.oim_places.specs.FaultPlaces.{HasRow, column_text, stands_at}
 use Rattle.oim_places.specs.LineNumbers.{line_of_record}
 use Rattle.oim_places.specs.declared.bad_rows.LocatedFault.{LocatedFault}
 use Rattle.oim_places.specs.declared.fault_places.FaultRecord.{FaultRecord}
-use Rattle.oim_places.specs.state.FaultLists.{IsPlacedIn}
+use Rattle.oim_places.specs.state.FaultLists.{HasHeader, HasRowOf, IsPlacedIn}
 use Rattle.oim_places.specs.state.FaultPlaces.{IsFirstIn}
 use Rattle.oim_places.proofs.FaultPlaces.{row_is}
+
+-- The header and a row of one file.
+pub has_row : (heads cells : Option (List ℕ)) (number : ℕ) (header row : Record) → heads ≡ cells → HasHeader heads header → HasRowOf cells number row
+    → IfSome cells (λ bytes. HasRow (grid bytes) number header row)
+has_row heads None number header row same head is = tt
+has_row heads (Some bytes) number header row same head is = (subst (λ o. HasHeader o header) same head, is)
+
+-- The current row of a table is the row at hand.
+pub row_of : (file : Option (List ℕ)) (before number : ℕ) (current row : Record) → before < number → IsCurrent file number current → row ≡ current → HasRowOf file number row
+row_of None before number current row more is same = tt
+row_of (Some bytes) before zero current row more is same = absurd (omega arith)
+row_of (Some bytes) before (suc number) current row more is same = is ∙ ap Some (sym same)
 
 -- The record of this number begins at this line of the bytes.
 abbrev pub IsLineAt : ℕ → ℕ → List ℕ → Type 0

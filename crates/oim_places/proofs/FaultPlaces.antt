@@ -43,40 +43,44 @@ line_is None o is = tt
 line_is (Some n) o is = sym is
 
 record_found : (law : FirstIsOfStream) (known : Option Files) (path : List ℕ) (report : ReportValue) (f : TableFault) (rows : LocatedLeft) (r : FaultRecord)
-    → FoundAt known path (IsStartOf report f.table rows) → IsFirstIn rows f r → FoundAt known path (HasRecordOf report f r.cells)
+    → FoundAt known path (IsStartOf report f.table rows) → (rows.heads ≡ rows.cells → IsFirstIn rows f r) → FoundAt known path (HasRecordOf report f r.cells)
 record_found law None path report f rows r found first = tt
 record_found law (Some files) path report f rows r found first =
     let bytes = found.0 in
-    let start = found.2 in (
+    let start = found.2 in
+    let of = start.1 in
+    let same : rows.heads ≡ rows.cells = of.0 ∙ sym of.1 in (
       bytes,
       found.1,
       (
-        subst (λ o. IfSome o (λ bytes. HasRow (grid bytes) f.row (fields_of r.cells.header) (fields_of r.cells.row))) start.1 first.cells,
-        inr (first_of_file law report f bytes rows.left start.0 first.first),
+        subst (λ o. IfSome o (λ bytes. HasRow (grid bytes) f.row (fields_of r.cells.header) (fields_of r.cells.row))) of.1 (first same).cells,
+        inr (first_of_file law report f bytes rows.left start.0 (first same).first),
       ),
     )
 
 place_found : (law : FirstIsOfStream) (known : Option Files) (path : List ℕ) (report : ReportValue) (f : TableFault) (rows : LocatedLeft) (r : FaultRecord) → is_of_file f.kind ≡ false
-    → FoundAt known path (IsStartOf report f.table rows) → IsFirstIn rows f r → IfSome known (λ files. IsPlaceAt files path report f r.place)
+    → FoundAt known path (IsStartOf report f.table rows) → (rows.heads ≡ rows.cells → IsFirstIn rows f r) → IfSome known (λ files. IsPlaceAt files path report f r.place)
 place_found law None path report f rows r is found first = tt
 place_found law (Some files) path report f rows r is found first =
     let bytes = found.0 in
     let start = found.2 in
-    let texts = subst (λ o. IfSome o (λ bytes. (r.place.header ≡ (stands_at bytes f.row f.column).header) × (r.place.cell ≡ (stands_at bytes f.row f.column).cell))) start.1 first.texts in
-    let line = subst (λ o. IfSome o (λ bytes. r.place.line ≡ (stands_at bytes f.row f.column).line)) start.2 first.line in (
+    let of = start.1 in
+    let same : rows.heads ≡ rows.cells = of.0 ∙ sym of.1 in
+    let texts = subst (λ o. IfSome o (λ bytes. (r.place.header ≡ (stands_at bytes f.row f.column).header) × (r.place.cell ≡ (stands_at bytes f.row f.column).cell))) of.1 (first same).texts in
+    let line = subst (λ o. IfSome o (λ bytes. r.place.line ≡ (stands_at bytes f.row f.column).line)) of.2 (first same).line in (
       is,
-      (bytes, found.1, (first_of_file law report f bytes rows.left start.0 first.first, (texts.0, texts.1, line_is r.place.line (line_of_record f.row bytes) line))),
+      (bytes, found.1, (first_of_file law report f bytes rows.left start.0 (first same).first, (texts.0, texts.1, line_is r.place.line (line_of_record f.row bytes) line))),
     )
 
 -- The same of an answer.
 pub records_found : {E : Type 0} (law : FirstIsOfStream) (known : Option Files) (path : List ℕ) (report : ReportValue) (f : TableFault) (rows : LocatedLeft) (r : Result (Option FaultRecord) E)
-    → FoundAt known path (IsStartOf report f.table rows) → IfOk r (λ o. IfSome o (IsFirstIn rows f)) → IfOk r (λ o. IfSome o (λ x. FoundAt known path (HasRecordOf report f x.cells)))
+    → FoundAt known path (IsStartOf report f.table rows) → IfOk r (λ o. IfSome o (λ x. rows.heads ≡ rows.cells → IsFirstIn rows f x)) → IfOk r (λ o. IfSome o (λ x. FoundAt known path (HasRecordOf report f x.cells)))
 records_found law known path report f rows (Err e) found first = tt
 records_found law known path report f rows (Ok None) found first = tt
 records_found law known path report f rows (Ok (Some x)) found first = record_found law known path report f rows x found first
 
 pub places_found : {E : Type 0} (law : FirstIsOfStream) (known : Option Files) (path : List ℕ) (report : ReportValue) (f : TableFault) (rows : LocatedLeft) (r : Result (Option FaultRecord) E)
-    → is_of_file f.kind ≡ false → FoundAt known path (IsStartOf report f.table rows) → IfOk r (λ o. IfSome o (IsFirstIn rows f))
+    → is_of_file f.kind ≡ false → FoundAt known path (IsStartOf report f.table rows) → IfOk r (λ o. IfSome o (λ x. rows.heads ≡ rows.cells → IsFirstIn rows f x))
     → IfOk r (λ o. IfSome o (λ x. IfSome known (λ files. IsPlaceAt files path report f x.place)))
 places_found law known path report f rows (Err e) is found first = tt
 places_found law known path report f rows (Ok None) is found first = tt

@@ -37,16 +37,23 @@ abbrev pub RecordsByRow : Type 0
 RecordsByRow = (id : List ℕ) (cause : TableFault → FaultCause) (report : ReportValue) (table limit : ℕ) (bytes : List ℕ)
     → fault_records id cause report table limit bytes ≡ flat_map (λ faults. map (λ f. record_of id bytes f (cause f)) faults) (faults_by_row report table limit (grid bytes))
 
--- What is left of a table's faults: `left`, row by row, if the bytes of its file are known. `cells`
--- and `lines` are the bytes from which cells and lines are read, if they are known. `header` and
--- `row` are the records at hand.
+-- What is left of a table's faults: `left`, row by row, if the bytes of its file are known.
+-- `heads`, `cells` and `lines` are the bytes from which the header, the rows and the lines are
+-- read, if they are known. `header` and `row` are the records at hand, and `number` is that of the
+-- row, or 0 for the header.
 pub record LocatedLeft : Type 0 where
   pub table : ℕ
   pub left : Option (List (List TableFault))
+  pub heads : Option (List ℕ)
   pub cells : Option (List ℕ)
   pub lines : Option (List ℕ)
+  pub number : ℕ
   pub header : Record
   pub row : Record
+
+-- The table is the same, and so are the files from which header, rows and lines are read.
+abbrev pub KeepsFiles : LocatedLeft → LocatedLeft → Type 0
+KeepsFiles old new = (new.table ≡ old.table) × (new.heads ≡ old.heads) × (new.cells ≡ old.cells) × (new.lines ≡ old.lines)
 
 -- An answer if these faults are left: those of the first row, and the others remain; or the end, if
 -- none is left. Or a reader failed or memory ran out.
@@ -69,6 +76,10 @@ ArePlacesIn cells lines located = All (HasPlaceIn cells lines) located
 abbrev pub AreAt : Option (List ℕ) → Record → Record → List LocatedFault → Type 0
 AreAt cells header row located = IfSome cells (λ bytes. All (λ l. HasRow (grid bytes) l.fault.row header row) located)
 
+-- The three readers have these bytes.
+abbrev pub AreReadersOf : Option (List ℕ) → Option (List ℕ) → Option (List ℕ) → List ℕ → Type 0
+AreReadersOf heads cells lines bytes = (heads ≡ Some bytes) × (cells ≡ Some bytes) × (lines ≡ Some bytes)
+
 -- All faults of the table whose file has these bytes are left.
 abbrev pub IsStartOf : ReportValue → ℕ → LocatedLeft → List ℕ → Type 0
-IsStartOf report table rows bytes = (rows.left ≡ Some (faults_by_row report table profile.rows (grid bytes))) × (rows.cells ≡ Some bytes) × (rows.lines ≡ Some bytes)
+IsStartOf report table rows bytes = (rows.left ≡ Some (faults_by_row report table profile.rows (grid bytes))) × AreReadersOf rows.heads rows.cells rows.lines bytes

@@ -15,7 +15,7 @@ use Rattle.oim_places.specs.Cells.{as_text}
 use Rattle.oim_places.specs.FolderFiles.{FoundIn}
 use Rattle.oim_places.specs.LineNumbers.{IsLineOf, line_of_record}
 use Rattle.oim_places.specs.declared.fault_places.FaultPlace.{FaultPlace}
-use Rattle.oim_places.specs.declared.record_walk.RowAgain.{RowAgain}
+use Rattle.oim_places.specs.declared.records.RowAgain.{RowAgain}
 
 -- The record at a place, and its cell in a column, which is counted from 1; empty if it does not
 -- exist.

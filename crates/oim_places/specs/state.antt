@@ -3,4 +3,3 @@ pub mod FaultPlaces
 pub mod FaultRows
 pub mod Pointers
 pub mod RecordLines
-pub mod RecordWalks

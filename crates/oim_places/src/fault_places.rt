@@ -3,12 +3,12 @@
 ghost use Rattle.std.specs.Prelude.{◌≡◌, ◌⊎◌, ◌<◌, IfOk, IfSome, length, string_bytes, true};
 ghost use Rattle.oim_places.specs.FaultPlaces as spec;
 ghost use Rattle.oim_places.specs.FaultPlaces.{HasRecordOf, IsPlaceAt, IsPlaceOf, IsTablePath, column_place, unknown_place};
-ghost use Rattle.oim_places.specs.FaultLists.{IsStartOf};
+ghost use Rattle.oim_places.specs.FaultLists.{AreReadersOf, IsStartOf};
 ghost use Rattle.oim_places.specs.FolderFiles.{FoundAt};
-ghost use Rattle.oim_places.specs.state.FaultPlaces.{AreReadersOf, IsFirstIn};
+ghost use Rattle.oim_places.specs.state.FaultPlaces.{IsFirstIn};
 
 use crate::bad_rows::BadRows;
-use crate::record_walk::RowAgain;
+use crate::records::RowAgain;
 use crate::reread::ReportAgain;
 use oim_files::{Folder, folder_of, path_in};
 use oim_meta::Report;
@@ -121,8 +121,8 @@ pub fn bad_rows_at<'a, R: Read + Drop, F: Folder<R>>(
     ensures table { IfSome result (λ rows. rows.table ≡ table) }
     ensures faults { IfSome result (λ rows. FoundAt (F.files folder.old) path.now (IsStartOf report.now table rows)) }
 {
-    let (faults, cells, lines) = opened(folder, path)?;
-    BadRows::open(alloc, report, table, faults, cells, lines).ok()
+    let (header, rows, lines) = opened(folder, path)?;
+    BadRows::open(alloc, report, table, header, rows, lines).ok()
 }
 
 /// Returns whether a fault that is found again is this one.
@@ -138,7 +138,7 @@ fn first_record<R: Read + Drop>(
     rows: &mut BadRows<'_, R>,
     fault: &TableFault,
 ) -> Result<Option<FaultRecord>, AllocError>
-    ensures { IfOk result (λ o. IfSome o (IsFirstIn rows.old fault.now)) }
+    ensures { IfOk result (λ o. IfSome o (λ r. (rows.old).heads ≡ (rows.old).cells → IsFirstIn rows.old fault.now r)) }
 {
     let Ok(Some(located)) = rows.next_row(alloc) else {
         return Ok(None);

@@ -1,14 +1,36 @@
-//! The records of a file that is read again.
+//! Records of a file that is read again.
 
-ghost use Rattle.std.specs.Prelude.{◌≡◌, IfOk, IfSome, true};
+ghost use Rattle.std.specs.Prelude.{◌≡◌, [], IfOk, IfSome, OnOk, true};
 ghost use Rattle.csv.specs.Records.{fields_of};
 ghost use Rattle.oim_records.specs.Reads.{TakesRecord};
-ghost use Rattle.oim_places.specs.state.FaultPlaces.{TakesNth};
+ghost use Rattle.oim_places.specs.state.FaultLists.{HasHeader};
 
 use csv::ByteRecord;
 use oim_meta::{ReadFault, Records};
+use oim_records::Fields;
 use std::alloc::{AllocError, Global};
 use std::io::Read;
+
+/// A table's header and one of its records.
+#[derive(Drop)]
+pub struct RowAgain {
+    /// The header.
+    pub header: ByteRecord,
+    /// The record, which is empty if the header itself was asked for.
+    pub row: ByteRecord,
+}
+
+impl RowAgain {
+    /// Copies both.
+    pub fn copied(&self) -> Result<RowAgain, AllocError>
+        ensures { IfOk result (λ copy. copy ≡ self.now) }
+    {
+        Ok(RowAgain {
+            header: self.header.clone()?,
+            row: self.row.clone()?,
+        })
+    }
+}
 
 /// Reads the next record, and returns whether it exists. A reader that fails has none.
 fn next_record<R: Read>(records: &mut Records<R>, row: &mut ByteRecord) -> Result<bool, AllocError>
@@ -21,20 +43,33 @@ fn next_record<R: Read>(records: &mut Records<R>, row: &mut ByteRecord) -> Resul
     }
 }
 
-/// Reads the record `before` places after the next one, and returns whether it exists.
-pub(crate) fn read_nth<R: Read>(
-    records: &mut Records<R>,
-    row: &mut ByteRecord,
-    before: usize,
-) -> Result<bool, AllocError>
-    ensures { IfOk result (λ found. found ≡ true → IfSome records.old (λ left. TakesNth left before (fields_of row.new) records.new)) }
+/// Returns the header of a file without a row, or `None` if it has none or cannot be read.
+pub(crate) fn header_of<R: Read + Drop>(alloc: Global, reader: R) -> Option<RowAgain>
+    ensures { IfSome result (λ cells. HasHeader (R.remaining reader) (fields_of cells.header) × (fields_of cells.row ≡ [])) }
 {
-    for _ in 0..before {
-        if !next_record(records, row)? {
-            return Ok(false);
+    let mut records = Records::new(alloc, reader);
+    let mut header = ByteRecord::new(alloc);
+    match next_record(&mut records, &mut header) {
+        Ok(true) => Some(RowAgain {
+            header,
+            row: ByteRecord::new(alloc),
+        }),
+        _ => None,
+    }
+}
+
+/// Copies the fields of a record into `row`. If memory runs out, it has the first of them.
+pub(crate) fn copy_fields(fields: &Fields<'_>, row: &mut ByteRecord) -> Result<(), AllocError>
+    ensures { OnOk result (fields_of row.new ≡ fields.now) }
+{
+    row.clear();
+    for place in 0..fields.len() {
+        match fields.get(place) {
+            Some(field) => row.push_field(field)?,
+            None => return Ok(()),
         }
     }
-    next_record(records, row)
+    Ok(())
 }
 
 /// Returns the number of the first of these records after their header that has this text at a

@@ -1,5 +1,5 @@
 //! What the rings of one report share: the count of facts waiting in them, the feeds that are held
-//! back, and spare vectors for new blocks.
+//! back, and spares for new blocks.
 //!
 //! A feed waits at most for its turn: the writer's table is never held back, and the writer wakes
 //! the feed of each table that it reaches. The model of `oim_waiting` proves that no such wake is
@@ -29,19 +29,19 @@ ghost use Rattle.oim_waiting.specs.declared.steps.TurnStep.TheVariants.{Announce
 
 use crossbeam_queue::ArrayQueue;
 use crossbeam_utils::sync::{EventCount, Key};
-use oim_json::Block;
+use oim_json::{Block, Spare};
 use oim_waiting::{Steps, TurnStep};
 use std::alloc::{AllocError, Global};
 use std::sync::atomic::{AtomicBool, AtomicUsize, Ordering};
 use std::sync::{Arc, Wait};
 
-/// The greatest count of spare vectors.
+/// The greatest count of spares.
 const MOST_SPARES: usize = 160;
 
-/// The largest spare vector, in bytes.
+/// The largest vector of the texts in a spare, in bytes.
 const LARGEST_SPARE: usize = 262_144;
 
-/// The most memory of spare vectors, in bytes.
+/// The most memory of these vectors, in bytes. The vectors of ends are far smaller.
 const SPARE_MEMORY: usize = 12_582_912;
 
 /// How many bytes of a block's texts count as one fact, if its facts have more.
@@ -70,8 +70,8 @@ pub(crate) struct Backlog {
     /// The count of feeds that are held back at all places.
     held: AtomicUsize,
     sleepers: Vec<Sleepers>,
-    /// Spare vectors for new blocks.
-    spares: ArrayQueue<Vec<u8>>,
+    /// Spares for new blocks.
+    spares: ArrayQueue<Spare>,
 }
 
 /// Returns the places, with no feed held back.
@@ -320,18 +320,17 @@ impl BacklogHandle {
         }
     }
 
-    /// Keeps a spare vector for the texts of another block. Drops it if enough are kept or it is
-    /// large.
-    pub(crate) fn keep_spare<R: Wait>(&self, rt: &R, spare: Vec<u8>) {
-        let size = spare.capacity();
+    /// Keeps a spare for the texts of another block. Drops it if enough are kept or it is large.
+    pub(crate) fn keep_spare<R: Wait>(&self, rt: &R, spare: Spare) {
+        let size = spare.bytes.capacity();
         let kept = self.backlog.spares.len(rt);
         if size <= LARGEST_SPARE && kept.saturating_mul(size) <= SPARE_MEMORY {
             let _ = self.backlog.spares.push(rt, spare);
         }
     }
 
-    /// Returns a spare vector with its old contents, if one is kept.
-    pub(crate) fn kept_spare<R: Wait>(&self, rt: &R) -> Option<Vec<u8>> {
+    /// Returns a spare with its old contents, if one is kept.
+    pub(crate) fn kept_spare<R: Wait>(&self, rt: &R) -> Option<Spare> {
         self.backlog.spares.pop(rt)
     }
 

@@ -109,8 +109,8 @@ impl Drain {
         self.waiting.wait(rt, &mut Steps::none());
     }
 
-    /// Gives back the vector of a block's texts for later blocks, unless enough spare vectors are
-    /// kept. The items taken stay the same.
+    /// Gives back the memory of a block for later blocks, unless enough spares are kept. The items
+    /// taken stay the same.
     pub fn give_back<R: Wait>(&self, rt: &R, block: Block) {
         self.backlog.keep_spare(rt, block.into_spare());
     }

@@ -1,7 +1,7 @@
 //! The sending end of a ring.
 //!
 //! Not proved: when `Feed::wait` and `Feed::wait_for_turn` return, the answers of `Feed::is_held`
-//! and `Feed::is_reached`, which spare vector `Feed::kept_spare` returns, and what was sent if
+//! and `Feed::is_reached`, which spare `Feed::kept_spare` returns, and what was sent if
 //! `Feed::close` fails with `Lost`.
 
 ghost use Rattle.std.specs.Prelude.{◌≡◌, ◌<◌, ◌≤◌, ◌-◌, ◌/◌, [], ◌∷◌, ◌++◌, true, length, IsOk, OnOk, OnErr, IfErr};
@@ -16,7 +16,7 @@ ghost use Rattle.oim_waiting.specs.state.Orders.{finding_none};
 use crate::backlog::BacklogHandle;
 use crate::item::{Ending, Item};
 use crate::waiting::FeedWaiting;
-use oim_json::Block;
+use oim_json::{Block, Spare};
 use oim_waiting::{RoomStep, Steps};
 use rtrb::{Finished, Producer};
 use std::marker::Model;
@@ -301,15 +301,14 @@ impl Feed {
         self.backlog.is_reached()
     }
 
-    /// Gives back a spare vector for blocks of any table of the report. Drops it if enough are kept
-    /// or it is large.
-    pub fn give_back<R: Wait>(&self, rt: &R, spare: Vec<u8>) {
+    /// Gives back a spare for blocks of any table of the report. Drops it if enough are kept or it
+    /// is large.
+    pub fn give_back<R: Wait>(&self, rt: &R, spare: Spare) {
         self.backlog.keep_spare(rt, spare);
     }
 
-    /// Returns a spare vector with its old contents, if a feed or a drain of the report gave one
-    /// back.
-    pub fn kept_spare<R: Wait>(&self, rt: &R) -> Option<Vec<u8>> {
+    /// Returns a spare with its old contents, if a feed or a drain of the report gave one back.
+    pub fn kept_spare<R: Wait>(&self, rt: &R) -> Option<Spare> {
         self.backlog.kept_spare(rt)
     }
 }

@@ -13,7 +13,7 @@
 //! There is no lock around a ring, and none of these calls waits. Only `Feed::wait`,
 //! `Feed::wait_for_turn` and `Drain::wait` sleep: until the other end or the writer has moved, or
 //! in `Drain::wait` for a few milliseconds. `Feed::kept_spare`, `Feed::give_back` and
-//! `Drain::give_back` pass spare vectors on and may wait for one another for a moment. `Lanes`
+//! `Drain::give_back` pass spares on and may wait for one another for a moment. `Lanes`
 //! opens the rings of one report. Its feeds wait for their turn while too many facts wait in all
 //! rings together. The contracts of these calls only keep what was sent and taken.
 //!

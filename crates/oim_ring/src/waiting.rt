@@ -10,7 +10,7 @@
 //! - Elsewhere a worker waits only for its turn (`backlog`), for a piece of its table that a helper
 //!   thread is decoding, and at the table's end for these threads. They have ended by then or find
 //!   that no more pieces are sent. A helper thread waits only for a piece. A call that passes on a
-//!   spare vector waits only for a call of that kind that is under way.
+//!   spare waits only for a call of that kind that is under way.
 //! - A drain sleeps for at most a few milliseconds and then checks again. So it needs no wake; a
 //!   wake only ends its sleep early.
 //! - The writer waits only for the table that it has reached, and that table's feed is never held

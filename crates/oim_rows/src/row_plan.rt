@@ -1,6 +1,6 @@
 //! Turns the cells of a row into its facts.
 
-ghost use Rattle.std.specs.Prelude.{◌≡◌, ◌<◌, Err, IfOk, IfSome, OnOk, length, map};
+ghost use Rattle.std.specs.Prelude.{◌≡◌, ◌<◌, Err, IfErr, IfOk, IfSome, IsOk, OnOk, length, map};
 ghost use Rattle.std.specs.List.{range_with_len};
 ghost use Rattle.std.specs.String.{string_bytes};
 ghost use Rattle.oim_report.specs.Readers.{columns_of};
@@ -191,6 +191,48 @@ impl RowPlan<'_> {
             }
         }
         Ok(facts)
+    }
+
+    /// Tests the cells of a row one by one, and keeps no fact.
+    ///
+    /// Returns the fault of the first cell that has one, or Memory if memory runs out.
+    fn check_cells(
+        &self,
+        alloc: Global,
+        header: &TableHeader<'_>,
+        row: &Row,
+    ) -> Result<(), TableFault>
+        requires header { header.now ≡ self.now }
+        requires cells { length row.now.cells ≡ length (columns_of (self.now).report (self.now).table) }
+        ensures good { OnOk result (IsOk (facts_from (self.now).report (self.now).table row.now 0 (self.now).columns)) }
+        ensures fault { IfErr result (λ e. OrNoMemory (self.now).table (Err e) (facts_from (self.now).report (self.now).table row.now 0 (self.now).columns)) }
+    {
+        let columns = header.columns();
+        for i in 0..columns.len() {
+            self.fact_of_cell(alloc, header, row, i, columns[i])?;
+        }
+        Ok(())
+    }
+
+    /// Tests the cells of row `number` as `facts` does, and keeps no fact.
+    ///
+    /// Returns the fault of the first cell that has one, or Memory if memory runs out.
+    pub fn check(
+        &self,
+        alloc: Global,
+        header: &TableHeader<'_>,
+        number: u32,
+        row: &Fields<'_>,
+    ) -> Result<(), TableFault>
+        requires header { header.now ≡ self.now }
+        requires texts { IsTextRecord row.now }
+        ensures good { OnOk result (IsOk (facts_from (self.now).report (self.now).table (row_of self.now number row.now) 0 (self.now).columns)) }
+        ensures fault { IfErr result (λ e. OrNoMemory (self.now).table (Err e) (facts_from (self.now).report (self.now).table (row_of self.now number row.now) 0 (self.now).columns)) }
+    {
+        let Ok(cells) = self.row(alloc, header, number, row) else {
+            return Err(whole_fault(header.table(), TableKind::Memory));
+        };
+        self.check_cells(alloc, header, &cells)
     }
 
     /// Returns the facts of the cells of row `number`, in header order. It does not look for faults

@@ -1,16 +1,18 @@
 -- Worked cases of what a reader of the bad rows of a table answers, and of what it keeps.
-use Rattle.std.proofs.Common.{◌≡◌, [], ◌∷◌, Some, None, Ok, Err, refl, ap, arith, codes, inl, inr}
+use Rattle.std.proofs.Common.{◌≡◌, ℕ, List, [], ◌∷◌, Some, None, Ok, Err, refl, ap, arith, codes, inl, inr}
 use Rattle.csv.specs.Records.{field_at}
-use Rattle.oim_records.specs.Grids.{Record}
+use Rattle.csv.specs.Machine.{next_record}
+use Rattle.csv.specs.Reading.{records_from, strip_bom}
+use Rattle.oim_records.specs.Grids.{Record, records_left}
 use Rattle.oim_report.specs.ReportValue.{ReportValue}
 use Rattle.oim_rows.specs.FaultNames.{number_of}
 use Rattle.oim_rows.specs.Header.{fault_at, file_fault}
 use Rattle.oim_rows.specs.declared.fault.TableFault.{TableFault}
 use Rattle.oim_rows.specs.declared.fault.TableKind.TheVariants as kind
 use Rattle.oim_table_faults.specs.Laws.{first_in}
-use Rattle.oim_table_faults.specs.Reading.{GivesBadRow, KeepsEnd}
+use Rattle.oim_table_faults.specs.Reading.{GivesBadRow, IsCurrent, KeepsEnd}
 use Rattle.oim_table_faults.specs.TableFaults.{bad_rows}
-use Rattle.oim_table_faults.specs.state.Rows.{EarlierRows, HasListed, StillLeft, if_any, left_of, repeats, turns_left}
+use Rattle.oim_table_faults.specs.state.Rows.{EarlierRows, HasListed, IsReading, StillLeft, if_any, left_of, repeats, turns_left}
 
 abbrev a : TableFault
 a = fault_at 0 2 0 kind.Ragged
@@ -84,6 +86,23 @@ rows_left : (left_of None reading 5 (Some (row ∷ [])) ≡ Some ((fault_at 0 5 
     × (left_of (Some None) reading 5 (Some (row ∷ [])) ≡ Some []) × (left_of (Some (Some failed)) reading 5 (Some []) ≡ None)
 unfolding bad_rows
 rows_left = (refl, refl, refl, refl)
+
+-- `IsCurrent`: the current row is that of its number; the header is row 0.
+abbrev two_rows : List ℕ
+two_rows = codes "h\n1\n2\n"
+
+current_row : IsCurrent (Some two_rows) 2 (codes "2" ∷ []) × IsCurrent None 2 []
+unfolding records_left records_from strip_bom next_record
+current_row = (refl, tt)
+
+another_row : IsCurrent (Some two_rows) 1 [] → ⊥
+unfolding records_left records_from strip_bom next_record
+another_row h = let other : Some (codes "1" ∷ []) ≡ Some [] = h in absurd (cc other)
+
+-- `IsReading`: the rows after it are left.
+rows_after : IsReading (Some two_rows) 1 (Some ((codes "2" ∷ []) ∷ []))
+unfolding records_left records_from strip_bom next_record
+rows_after = refl
 
 -- `StillLeft`: after the end no bad row may be left.
 left_behind_the_end : StillLeft 0 ((a ∷ []) ∷ []) (Some None) (Some []) → ⊥

@@ -1,5 +1,5 @@
 -- What is left of a table's bad rows after one more row was read.
-use Rattle.std.proofs.Common.{◌≡◌, ◌∙◌, ◌++◌, ◌+◌, ℕ, Bool, true, false, List, [], ◌∷◌, Option, Some, None, Result, refl, sym, ap, subst, option_map, unwrap_or, IfSome, IsSome}
+use Rattle.std.proofs.Common.{◌≡◌, ◌∙◌, ◌++◌, ◌+◌, ℕ, zero, suc, arith, drop, slice_get, Bool, true, false, List, [], ◌∷◌, Option, Some, None, Result, refl, sym, ap, subst, option_map, unwrap_or, IfSome, IsSome, OnSome}
 use Rattle.std.specs.Prelude.{◌||◌, if◌then◌else◌, is_none, nat_lt}
 use Rattle.std.specs.List.{list_any}
 use Rattle.std.specs.Str.{bytes_eq}
@@ -11,9 +11,9 @@ use Rattle.oim_rows.specs.Header.{Header, file_header_fault, or_else}
 use Rattle.oim_rows.specs.RowFacts.{TableHeaderValue, id_place_of, ids_after, row_fault}
 use Rattle.oim_rows.specs.Streams.{TakesHeader, answer_of}
 use Rattle.oim_rows.specs.declared.fault.TableFault.{TableFault}
-use Rattle.oim_table_faults.specs.Reading.{FaultsLeft, GivesBadRow}
+use Rattle.oim_table_faults.specs.Reading.{FaultsLeft, GivesBadRow, IsCurrent}
 use Rattle.oim_table_faults.specs.TableFaults.{alone_or, bad_rows, bad_rows_of, cell_faults, faults_of_row, ids_up_to, row_before}
-use Rattle.oim_table_faults.specs.state.Rows.{EarlierRows, HaveSame, Steps, StillLeft, if_any, repeats}
+use Rattle.oim_table_faults.specs.state.Rows.{EarlierRows, HaveSame, IsReading, Steps, StillLeft, if_any, repeats}
 use Rattle.oim_table_faults.proofs.OwnFaults.{own_apart}
 
 -- THE SAME IDENTIFIERS
@@ -111,6 +111,28 @@ none_left g n ids r None new took = tt
 none_left g n ids r (Some []) new took = refl
 none_left g n ids r (Some (x ∷ rest)) new took = cc took.0
 
+-- THE CURRENT ROW
+
+taken_at : (records : List Record) (n : ℕ) (r : Record) (after : Option (List Record)) → TakesRecord (Some (drop n records)) true r after
+    → (slice_get records n ≡ Some r) × (after ≡ Some (drop (suc n) records))
+taken_at [] zero r after took = cc took.0
+taken_at [] (suc n) r after took = cc took.0
+taken_at (x ∷ rest) zero r after took = (ap Some (sym took.1), took.2)
+taken_at (x ∷ rest) (suc n) r after took = taken_at rest n r after took
+
+pub on_some : {A : Type 0} (o : Option A) (P : Type 0) → P → OnSome o P
+on_some None P h = tt
+on_some (Some x) P h = h
+
+-- One more row was read, and is the current one.
+pub row_read : (file : Option (List ℕ)) (n : ℕ) (r : Record) (left after : Option (List Record)) → IsReading file n left → TakesRecord left true r after
+    → IsReading file (n + 1) after × IsCurrent file (n + 1) r
+row_read None n r left after reading took = (tt, tt)
+row_read (Some bytes) n r left after reading took =
+    let taken = taken_at (grid bytes) (n + 1) r after (subst (λ l. TakesRecord l true r after) reading took) in
+    let one : suc (n + 1) ≡ (n + 1) + 1 = omega arith in
+    (taken.1 ∙ ap (λ k. Some (drop k (grid bytes))) one, taken.0)
+
 -- WHAT WAS FOUND
 
 pub still_left : (o : Option (List (List TableFault))) (table : ℕ) (answered : Option (Option TableFault)) → answered ≡ None → IfSome o (λ rows. StillLeft table rows answered o)
@@ -134,6 +156,16 @@ opened_at : (report : ReportValue) (table limit : ℕ) (rs : List Record) (new :
     → (option_map (bad_rows (record { report = report; table = table; limit = limit; columns = h }) 1 []) new ≡ Some (bad_rows_of report table limit rs)) × (file_header_fault report table rs ≡ None)
 opened_at report table limit [] new h took = absurd took
 opened_at report table limit (r ∷ rows) new h took = (rw (took.2, took.1) refl, took.0)
+
+-- The rows are left.
+pub reads_rows : (report : ReportValue) (table : ℕ) (known : Option (List ℕ)) (old new : Option (List Record)) (h : Header) → StartsFile known old → TakesHeader report table old h new
+    → IsReading known 0 new
+reads_rows report table None old new h starts took = tt
+reads_rows report table (Some bytes) old new h starts took = by (grid bytes) (rw starts at took)
+  where
+    by : (rs : List Record) → TakesHeader report table (Some rs) h new → new ≡ Some (drop 1 rs)
+    by [] took = absurd took
+    by (r ∷ rows) took = took.2
 
 -- The bad rows under a header without a fault are those of the table.
 pub opened_rows : (report : ReportValue) (table limit : ℕ) (known : Option (List ℕ)) (old new : Option (List Record)) (h : Header) (g : TableHeaderValue) (rows : EarlierRows) → StartsFile known old

@@ -1,6 +1,6 @@
 -- What a reader of the bad rows of a table answers: each with its faults, in row order, and then
 -- the end.
-use Rattle.std.specs.Prelude.{⊤, ◌≡◌, ◌⊎◌, List, [], ◌∷◌, ◌++◌, ℕ, Option, Some, None, Result, Ok, Err}
+use Rattle.std.specs.Prelude.{⊤, ◌≡◌, ◌⊎◌, List, [], ◌∷◌, ◌++◌, ℕ, Option, Some, None, Result, Ok, Err, IfSome, slice_get}
 use Rattle.oim_records.specs.Grids.{Record, grid}
 use Rattle.oim_report.specs.ReportValue.{ReportValue}
 use Rattle.oim_rows.specs.Header.{file_header_fault}
@@ -10,7 +10,8 @@ use Rattle.oim_table_faults.specs.TableFaults.{bad_rows_of, faults_of_rows, tabl
 
 -- What is left of a table. `given` counts the rows that were read. `answered` is the end, or the
 -- failure of the reader or of memory, once it was found. `left` are the bad rows that are left, if
--- the reader's bytes are known and nothing failed. `unread` are the records left in the reader.
+-- the reader's bytes are known and nothing failed. `unread` are the records left in the reader,
+-- `file` its bytes, if they are known, and `row` the current row.
 pub record FaultsLeft : Type 0 where
   pub table : ℕ
   pub limit : ℕ
@@ -18,6 +19,16 @@ pub record FaultsLeft : Type 0 where
   pub answered : Option (Option TableFault)
   pub left : Option (List (List TableFault))
   pub unread : Option (List Record)
+  pub file : Option (List ℕ)
+  pub row : Record
+
+-- The current row is the file's row of this number.
+abbrev pub IsCurrent : Option (List ℕ) → ℕ → Record → Type 0
+IsCurrent file number row = IfSome file (λ bytes. slice_get (grid bytes) number ≡ Some row)
+
+-- The table, its limit and its file are the same.
+abbrev pub KeepsTable : FaultsLeft → FaultsLeft → Type 0
+KeepsTable old new = (new.table ≡ old.table) × (new.limit ≡ old.limit) × (new.file ≡ old.file)
 
 -- An answer if these bad rows are left: the first one, and the others remain; or the end, if none
 -- is left. Or the reader failed or memory ran out.

@@ -4,13 +4,14 @@ ghost use Rattle.std.specs.Prelude.{◌≡◌, ◌⊎◌, ◌≤◌, ◌<◌, �
 ghost use Rattle.oim_records.specs.Grids.{grid};
 ghost use Rattle.oim_rows.specs.Header.{file_header_fault};
 ghost use Rattle.oim_rows.specs.Streams.{IsOutside, answer_of};
-ghost use Rattle.oim_table_faults.specs.Reading.{GivesBadRow, KeepsEnd};
+ghost use Rattle.oim_table_faults.specs.Reading.{GivesBadRow, IsCurrent, KeepsEnd, KeepsTable};
 ghost use Rattle.oim_table_faults.specs.TableFaults.{bad_rows_of};
 ghost use Rattle.oim_table_faults.specs.state.Rows.{Steps, if_any};
 
 use crate::row_faults::RowFaults;
+use ghost_value::GhostValue;
 use oim_names::Items;
-use oim_records::RecordReader;
+use oim_records::{Fields, RecordReader};
 use oim_report::{Limits, Report};
 use oim_rows::{TableFault, TableHeader, TableKind, fault_of_read, whole_fault};
 use std::alloc::Global;
@@ -20,10 +21,12 @@ use std::marker::Model;
 /// The bad rows of a table that are not read yet (xBRL-CSV 1.0, table files: the first record is
 /// the header, and each record after it a row).
 ///
-/// It keeps only the identifiers of the rows. Contracts see the table's place and limit, how many
-/// rows were read, and the end or the failure once it was found. For a reader whose bytes are known
-/// they also see the bad rows that are left and the unread records.
+/// It keeps only the identifiers of the rows and the current row. Contracts see the table's place
+/// and limit, how many rows were read, the current row, and the end or the failure once it was
+/// found. For a reader whose bytes are known they also see these, the bad rows that are left and
+/// the unread records.
 pub struct TableFaults<'a, R: Read + Drop> {
+    file: GhostValue<R>,
     rows: RowFaults<'a>,
     records: RecordReader<R>,
     limit: u32,
@@ -36,6 +39,7 @@ pub struct TableFaults<'a, R: Read + Drop> {
 impl<R: Read + Drop> Drop for TableFaults<'_, R> {
     fn drop(self) {
         let Self {
+            file: _,
             rows: _,
             records: _,
             limit: _,
@@ -46,9 +50,9 @@ impl<R: Read + Drop> Drop for TableFaults<'_, R> {
 }
 
 impl<'a, R: Read + Drop> Model for TableFaults<'a, R> {
-    ghost use Rattle.std.specs.Prelude.{◌≡◌, ◌≤◌, ◌<◌, ◌^◌, ◌-◌, ◌+◌};
+    ghost use Rattle.std.specs.Prelude.{◌≡◌, ◌≤◌, ◌<◌, ◌^◌, ◌-◌, ◌+◌, None};
     ghost use Rattle.oim_table_faults.specs.Reading.{FaultsLeft};
-    ghost use Rattle.oim_table_faults.specs.state.Rows.{left_of};
+    ghost use Rattle.oim_table_faults.specs.state.Rows.{IsReading, left_of};
 
     ghost Value = { FaultsLeft };
 
@@ -59,9 +63,12 @@ impl<'a, R: Read + Drop> Model for TableFaults<'a, R> {
       answered = a.settled;
       left = left_of a.settled a.rows (a.given + 1) a.records.left;
       unread = a.records.left;
+      file = R.remaining a.file.value;
+      row = a.records.fields;
     } };
 
-    ghost invariant = { λ a. (a.rows.header.limit ≡ a.limit) × (a.given ≤ a.limit) × (a.limit < 2 ^ 32 - 1) };
+    ghost invariant = { λ a. (a.rows.header.limit ≡ a.limit) × (a.limit < 2 ^ 32 - 1) × (a.given ≤ a.limit + 1)
+        × (a.settled ≡ None → (a.given ≤ a.limit) × IsReading (R.remaining a.file.value) a.given a.records.left) };
 }
 
 /// Returns the faults of a row, if it has any.
@@ -93,7 +100,7 @@ impl<'a, R: Read + Drop> TableFaults<'a, R> {
         requires rows { limits.rows ≤ 4294967294 }
 
         // The bad rows of the table, if its header has no fault.
-        ensures start { IfOk result (λ rows. (rows.table ≡ table) × (rows.limit ≡ limits.rows) × (rows.given ≡ 0) × (rows.answered ≡ None)) }
+        ensures start { IfOk result (λ rows. (rows.table ≡ table) × (rows.limit ≡ limits.rows) × (rows.given ≡ 0) × (rows.answered ≡ None) × (rows.file ≡ R.remaining reader)) }
         ensures rows { IfSome (R.remaining reader) (λ bytes. IfOk result (λ rows. rows.left ≡ Some (bad_rows_of report.now table limits.rows (grid bytes)))) }
         ensures header { IfSome (R.remaining reader) (λ bytes. IfOk result (λ _. file_header_fault report.now table (grid bytes) ≡ None)) }
 
@@ -101,6 +108,7 @@ impl<'a, R: Read + Drop> TableFaults<'a, R> {
         ensures fault { IfSome (R.remaining reader) (λ bytes. IfErr result (λ e. IsOutside table e
             ⊎ (file_header_fault report.now table (grid bytes) ≡ Some e))) }
     {
+        let file = GhostValue::seen(&reader);
         let mut records = match RecordReader::open(alloc, reader) {
             Ok(records) => records,
             Err(fault) => return Err(fault_of_read(table, fault)),
@@ -113,6 +121,7 @@ impl<'a, R: Read + Drop> TableFaults<'a, R> {
             return Err(whole_fault(table, TableKind::Memory));
         };
         Ok(TableFaults {
+            file,
             rows,
             records,
             limit: limits.rows,
@@ -135,11 +144,14 @@ impl<R: Read + Drop> TableFaults<'_, R> {
         ensures kept { KeepsEnd result self.new.answered }
         ensures again { IfSome self.old.answered (λ kept. (result ≡ answer_of kept) × (self.new ≡ self.old)) }
 
+        // The row that has them.
+        ensures row { IfOk result (λ o. OnSome o (IsCurrent self.old.file self.new.given self.new.row)) }
+
         // What holds of any reader.
         ensures some { IfOk result (λ o. IfSome o (λ faults. 1 ≤ length faults)) }
-        ensures counts { (self.old.given ≤ self.new.given) × (self.new.given ≤ self.new.limit) }
-        ensures moves { IfOk result (λ o. OnSome o (IsSome self.new.answered ⊎ (self.old.given < self.new.given))) }
-        ensures same { (self.new.table ≡ self.old.table) × (self.new.limit ≡ self.old.limit) }
+        ensures counts { (self.old.given ≤ self.new.given) × (self.new.given ≤ self.new.limit + 1) }
+        ensures moves { IfOk result (λ o. OnSome o (self.old.given < self.new.given)) }
+        ensures same { KeepsTable self.old self.new }
     {
         while !self.is_settled() {
             if let Some(faults) = self.step() {
@@ -149,10 +161,24 @@ impl<R: Read + Drop> TableFaults<'_, R> {
         self.ending()
     }
 
+    /// Returns the number of the current row, which is that of the last faults.
+    pub fn number(&self) -> u32
+        ensures { result ≡ (self.now).given }
+    {
+        self.given
+    }
+
+    /// Returns the fields of the current row.
+    pub fn row(&self) -> Fields<'_>
+        ensures { result ≡ (self.now).row }
+    {
+        self.records.fields()
+    }
+
     // Returns whether the end or a failure was found.
     fn is_settled(&self) -> bool
         ensures value { result ≡ is_some (self.now).answered }
-        ensures within { (self.now).given ≤ (self.now).limit }
+        ensures within { (self.now).given ≤ (self.now).limit + 1 }
     {
         match self.settled {
             Some(_) => true,
@@ -176,10 +202,11 @@ impl<R: Read + Drop> TableFaults<'_, R> {
     fn step(&mut self) -> Option<Items<TableFault>>
         requires { self.old.answered ≡ None }
         ensures rows { IfSome self.old.left (λ rows. Steps rows result self.new) }
+        ensures row { OnSome result ((self.old.given < self.new.given) × IsCurrent self.old.file self.new.given self.new.row) }
         ensures some { IfSome result (λ faults. 1 ≤ length faults) }
-        ensures counts { (self.old.given ≤ self.new.given) × (self.new.given ≤ self.new.limit) }
+        ensures counts { (self.old.given ≤ self.new.given) × (self.new.given ≤ self.new.limit + 1) }
         ensures moves { IsSome self.new.answered ⊎ (self.old.given < self.new.given) }
-        ensures same { (self.new.table ≡ self.old.table) × (self.new.limit ≡ self.old.limit) }
+        ensures same { KeepsTable self.old self.new }
     {
         match self.records.read() {
             Ok(true) => {}
@@ -196,8 +223,8 @@ impl<R: Read + Drop> TableFaults<'_, R> {
             self.settled = Some(Some(whole_fault(self.rows.table(), TableKind::Memory)));
             return None;
         };
-        if self.given < self.limit {
-            self.given += 1;
+        self.given += 1;
+        if self.given <= self.limit {
             return if_any(faults);
         }
         self.settled = Some(None);

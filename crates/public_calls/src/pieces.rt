@@ -8,6 +8,7 @@ use oim_decode::{
     FirstRecords, JoinedPiece, PieceAnswer, PieceDecoder, PieceJoin, file_in_pieces,
     joined_pieces_are_read, open_pieces, rows_in_pieces,
 };
+use oim_json::Spare;
 use oim_meta::Report;
 use oim_records::RecordReader;
 use oim_rows::{TableFault, TableHeader, TableKind, whole_fault};
@@ -44,7 +45,7 @@ fn new_join(alloc: Global) -> PieceJoin {
 /// memory of its identifiers is left.
 fn joins(alloc: Global, decoder: &mut PieceDecoder<'_>, piece: &[u8]) -> bool {
     let mut join = new_join(alloc);
-    decoder.keep_spare(Vec::new(alloc));
+    decoder.keep_spare(Spare::new(alloc));
     match next_piece(alloc, decoder, &mut join, piece, 1) {
         Ok(joined) => {
             let is_whole = joined.fault().is_none() && decoder.take_spare().len() == piece.len();

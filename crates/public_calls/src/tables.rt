@@ -2,6 +2,7 @@
 
 use crate::held::{Over, holds};
 use oim_decode::{TableBlocks, settled_tables_stay};
+use oim_json::Spare;
 use oim_meta::{Limits, Report};
 use oim_rows::TableFault;
 use std::alloc::Global;
@@ -13,7 +14,7 @@ fn first_block(alloc: Global, report: &Report, file: &[u8]) -> Result<usize, Tab
         return Ok(0);
     }
     let mut table = TableBlocks::open(alloc, report, 0, file, Limits::profile())?;
-    match table.next_block(Vec::new(alloc))? {
+    match table.next_block(Spare::new(alloc))? {
         Some(block) => Ok(block.count()),
         None => Ok(0),
     }

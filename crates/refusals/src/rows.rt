@@ -3,7 +3,7 @@
 use crate::report::{DOCUMENT, FIRST, HEAD};
 use crate::scarcity::Answer;
 use oim_decode::TableBlocks;
-use oim_json::{Block, block_of, head, member_of};
+use oim_json::{Block, Spare, block_of, head, member_of};
 use oim_meta::{Limits, Report};
 use oim_resolve::Fact;
 use oim_rows::{Rows, TableFault, TableKind};
@@ -55,7 +55,7 @@ fn without<'a>(left: &'a [u8], whole: &[u8], block: &Block) -> Option<&'a [u8]> 
 fn read_blocks(alloc: Global, blocks: &mut TableBlocks<'_, &[u8]>, whole: &[u8]) -> Answer {
     let mut left = whole;
     for _ in 0..5u32 {
-        match blocks.next_block(Vec::new(alloc)) {
+        match blocks.next_block(Spare::new(alloc)) {
             Ok(Some(block)) => match without(left, whole, &block) {
                 Some(rest) => left = rest,
                 None => return Answer::Wrong,

@@ -1,5 +1,5 @@
 //! Tests of a report's rings with threads: a later table waits for its turn and for space, a spare
-//! vector is reused, and two workers send three tables.
+//! is reused, and two workers send three tables.
 #![tactic(auto)]
 
 #[cfg(test)]

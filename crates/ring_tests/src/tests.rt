@@ -342,23 +342,24 @@ fn blocks_of<T: Wait>(rt: &T, drain: &mut Drain) -> u32 {
     0
 }
 
-/// Returns whether a spare vector is kept, which the feed then has.
+/// Returns whether a spare is kept, which the feed then has.
 fn keeps_one<T: Wait>(rt: &T, feed: &Feed) -> bool {
     feed.kept_spare(rt).is_some()
 }
 
-/// Returns whether the vector that a block gave back reaches this feed and then not the other, and
+/// Returns whether the spare that a block gave back reaches this feed and then not the other, and
 /// goes back.
 fn is_handed_on<T: Wait>(rt: &T, next: &Feed, feed: &Feed) -> bool {
-    let Some(room) = next.kept_spare(rt) else {
+    let Some(spare) = next.kept_spare(rt) else {
         return false;
     };
-    let is_kept = !room.is_empty() && !keeps_one(rt, feed);
-    next.give_back(rt, room);
+    let has_both = !spare.bytes.is_empty() && spare.ends.len() == 1;
+    let is_kept = has_both && !keeps_one(rt, feed);
+    next.give_back(rt, spare);
     is_kept
 }
 
-/// Returns whether the vector of a block that was given back reaches the feed of any table, and
+/// Returns whether the memory of a block that was given back reaches the feed of any table, and
 /// only once, and one that a feed gives back reaches another feed.
 fn comes_back<T: Wait>(rt: &T, block: Block, rings: &Rings) -> bool {
     let (feed, next) = (&rings.own.0, &rings.next.0);

@@ -1,5 +1,5 @@
 -- How the rows of a table are read into blocks, one after another.
-use Rattle.std.specs.Prelude.{⊤, ◌≡◌, ◌⊎◌, ◌+◌, ◌≤◌, Bool, true, false, List, [], ◌++◌, drop, ℕ, suc, Option, Some, None, Result, Ok, Err}
+use Rattle.std.specs.Prelude.{⊤, ◌≡◌, ◌⊎◌, ◌+◌, ◌≤◌, Bool, true, false, List, [], ◌++◌, drop, ℕ, suc, Option, Some, None, IfSome, Result, Ok, Err}
 use Rattle.std.specs.Option.{is_some}
 use Rattle.oim_records.specs.Grids.{Record}
 use Rattle.oim_resolve.specs.FactParts.{FactParts as Fact}
@@ -7,14 +7,17 @@ use Rattle.oim_rows.specs.RowFacts.{TableHeaderValue}
 use Rattle.oim_rows.specs.Streams.{GivesNext, IsOutside, Stream, ending, facts_of_rows}
 use Rattle.oim_rows.specs.declared.fault.TableFault.{TableFault}
 use Rattle.oim_decode.specs.Blocks.{BlocksLeft, ReadsRows}
+use Rattle.oim_decode.specs.state.RowParts.{RowRestValue, with_rest}
 
 -- A table's header and how many of its rows were read. For a reader whose bytes are known, also the
--- stream of the other rows and the unread records.
+-- stream of the other rows and the unread records. `rest` is what is not written yet of the last
+-- row.
 pub record RowsUnread : Type 0 where
   pub header : TableHeaderValue
   pub given : ℕ
   pub left : Option Stream
   pub unread : Option (List Record)
+  pub rest : Option RowRestValue
 
 -- The stream that is left of a table: its end once that was found, else the given stream.
 abbrev pub end_or_left : Option (Option TableFault) → Option Stream → Option Stream
@@ -28,7 +31,7 @@ blocks_left rows facts settled = record {
   table = rows.header.table;
   limit = rows.header.limit;
   given = rows.given;
-  pending = facts;
+  pending = with_rest facts rows.rest;
   answered = settled;
   left = end_or_left settled rows.left;
   unread = rows.unread;
@@ -54,11 +57,11 @@ CountsRow limit (Ok true) before after = (after ≡ before + 1) × (after ≤ li
 CountsRow limit (Ok false) before after = after ≡ before
 CountsRow limit (Err e) before after = after ≡ before
 
--- Facts are added only with a row.
-abbrev pub AddsNone : Result Bool TableFault → List Fact → List Fact → Type 0
-AddsNone (Ok true) before after = ⊤
-AddsNone (Ok false) before after = after ≡ before
-AddsNone (Err e) before after = after ≡ before
+-- Facts are added or left only with a row.
+abbrev pub AddsNone : Result Bool TableFault → List Fact → List Fact → Option RowRestValue → Type 0
+AddsNone (Ok true) before after rest = ⊤
+AddsNone (Ok false) before after rest = (after ≡ before) × (rest ≡ None)
+AddsNone (Err e) before after rest = (after ≡ before) × (rest ≡ None)
 
 -- The answer for a row without its facts: whether there is a row, or the fault.
 abbrev pub has_row : Result (Option (List Fact)) TableFault → Result Bool TableFault
@@ -68,6 +71,9 @@ has_row (Err e) = Err e
 -- Rows of a stream were read, and their facts wait after those that waited before.
 abbrev pub HasRead : ℕ → Stream → List Fact → List Fact → Option Stream → Type 0
 HasRead table s before pending left = (rows : List (List Fact)) × ReadsRows table s rows left × (pending ≡ before ++ facts_of_rows rows)
+
+abbrev pub HasReadOn : BlocksLeft → BlocksLeft → Type 0
+HasReadOn old new = IfSome old.left (λ s. HasRead old.table s old.pending new.pending new.left)
 
 -- At most how many more records are read, if at most n more rows are allowed.
 abbrev pub turns_left : Option (Option TableFault) → ℕ → ℕ

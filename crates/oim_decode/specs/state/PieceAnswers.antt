@@ -1,5 +1,5 @@
 -- How a piece is decoded, row after row.
-use Rattle.std.specs.Prelude.{◌≡◌, ◌⊎◌, ◌≤◌, Bool, true, false, List, [], ◌∷◌, ◌++◌, ℕ, None}
+use Rattle.std.specs.Prelude.{◌≡◌, ◌⊎◌, ◌≤◌, Bool, true, false, List, [], ◌∷◌, ℕ, None}
 use Rattle.oim_records.specs.Grids.{Record}
 use Rattle.oim_fast.specs.Facts.{facts_of_row}
 use Rattle.oim_row.specs.Rows.{RowValue}

@@ -11,6 +11,7 @@ use crate::piece::piece_rows::PieceRows;
 use crate::piece::spare_vectors::SpareVectors;
 use crate::table::row_texts::RowTexts;
 use oim_fast::TableRow;
+use oim_json::Spare;
 use oim_records::Fields;
 use oim_rows::{RowId, TableFault, TableKind, whole_fault};
 use std::alloc::{AllocError, Global};
@@ -70,9 +71,9 @@ fn keep_id(ids: &mut Vec<RowId>, id: Option<RowId>)
 }
 
 impl PieceAnswer {
-    /// Makes an answer without a row or a fault, whose first texts go to the spare vector `spare`,
+    /// Makes an answer without a row or a fault, whose first texts go to the memory of `spare`,
     /// without taking memory.
-    pub(crate) fn within(alloc: Global, spare: Vec<u8>) -> PieceAnswer
+    pub(crate) fn within(alloc: Global, spare: Spare) -> PieceAnswer
         ensures { result ≡ no_rows }
     {
         PieceAnswer {
@@ -86,7 +87,7 @@ impl PieceAnswer {
     pub fn refused(alloc: Global, table: usize) -> PieceAnswer
         ensures { result ≡ no_memory table }
     {
-        let mut answer = PieceAnswer::within(alloc, Vec::new(alloc));
+        let mut answer = PieceAnswer::within(alloc, Spare::new(alloc));
         answer.end(whole_fault(table, TableKind::Memory));
         answer
     }
@@ -101,7 +102,7 @@ impl PieceAnswer {
     /// Adds a row that has no fault apart from its cells, and returns whether it did.
     ///
     /// Otherwise ends the answer with the fault of the row's first faulty cell, or with Memory if
-    /// memory runs out. `spares` has spare vectors for the texts.
+    /// memory runs out. `spares` has memory for the texts.
     pub(crate) fn push_row<'a>(
         &mut self,
         alloc: Global,

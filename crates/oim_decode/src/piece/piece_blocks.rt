@@ -8,7 +8,7 @@ use crate::piece::piece_rows::PieceRows;
 use crate::piece::written_rows::WrittenRows;
 use crate::table::pending_facts::PendingFacts;
 use crate::table::table_blocks::MOST;
-use oim_json::Block;
+use oim_json::{Block, Spare};
 use std::alloc::{AllocError, Global};
 
 /// Appends some facts to `blocks` as blocks.
@@ -22,7 +22,7 @@ fn push_blocks(
 {
     let mut facts = facts;
     while facts.count() > MOST {
-        let block = facts.take_block(alloc, MOST, Vec::new(alloc))?;
+        let block = facts.take_block(MOST, Spare::new(alloc))?;
         blocks.push(block)?;
     }
     let count = facts.count();

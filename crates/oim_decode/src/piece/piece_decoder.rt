@@ -12,6 +12,7 @@ use crate::piece::piece_answer::PieceAnswer;
 use crate::piece::spare_vectors::SpareVectors;
 use crate::table::row_texts::RowTexts;
 use oim_fast::TableRow;
+use oim_json::Spare;
 use oim_records::{Fields, PieceRecords, TextFields};
 use oim_rows::{RowIds, TableFault, TableHeader, TableKind, whole_fault};
 use std::alloc::{AllocError, Global};
@@ -26,7 +27,7 @@ pub struct PieceDecoder<'a> {
     header: TableHeader<'a>,
     texts: RowTexts<'a>,
     records: PieceRecords,
-    // Spare vectors for texts.
+    // Memory for texts.
     spares: SpareVectors,
     // The identifiers of other rows: always empty.
     ids: RowIds,
@@ -127,15 +128,15 @@ impl PieceDecoder<'_> {
         self.records.take_spare(self.alloc)
     }
 
-    /// Keeps a spare vector for texts that are decoded later.
-    pub fn keep_spare(&mut self, spare: Vec<u8>)
+    /// Keeps the memory of a block for texts that are decoded later.
+    pub fn keep_spare(&mut self, spare: Spare)
         ensures { self.new ≡ self.old }
     {
         self.spares.keep(spare);
     }
 
-    /// Returns a spare vector that was not used, if one is left.
-    pub fn free_spare(&mut self) -> Option<Vec<u8>>
+    /// Returns memory that was kept and not used, if some is left.
+    pub fn free_spare(&mut self) -> Option<Spare>
         ensures { self.new ≡ self.old }
     {
         self.spares.free()
@@ -157,7 +158,7 @@ impl PieceDecoder<'_> {
         }
     }
 
-    /// Makes an answer without a row, with a spare vector for its texts.
+    /// Makes an answer without a row, with memory for its texts if some is kept.
     fn begin(&mut self) -> PieceAnswer
         ensures answer { result ≡ no_rows }
         ensures same { self.new ≡ self.old }

@@ -8,7 +8,7 @@ ghost use Rattle.oim_decode.specs.PieceAnswers.{IsJoined};
 use crate::piece::piece_answer::PieceAnswer;
 use crate::piece::piece_blocks::blocks_of;
 use crate::piece::piece_rows::PieceRows;
-use oim_json::Block;
+use oim_json::{Block, Spare};
 use oim_rows::{
     RowId, RowIds, SpareIds, TableFault, TableHeader, TableKind, fault_at_place, whole_fault,
 };
@@ -141,7 +141,7 @@ impl PieceJoin {
                 }
             }
             Err(_) => JoinedPiece {
-                rows: PieceRows::within(self.alloc, Vec::new(self.alloc)),
+                rows: PieceRows::within(self.alloc, Spare::new(self.alloc)),
                 fault: Some(whole_fault(header.table(), TableKind::Memory)),
             },
         }

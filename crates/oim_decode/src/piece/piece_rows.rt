@@ -11,6 +11,7 @@ use crate::piece::written_rows::WrittenRows;
 use crate::table::row_texts::RowTexts;
 use crate::table::table_blocks::has_room;
 use oim_fast::TableRow;
+use oim_json::Spare;
 use oim_records::Fields;
 use oim_rows::{TableFault, TableKind, whole_fault};
 use std::alloc::{AllocError, Global};
@@ -64,9 +65,9 @@ fn end_of(full: &[WrittenRows], count: usize) -> (usize, usize)
 }
 
 impl PieceRows {
-    /// Makes a list without a row, whose first texts go to the spare vector `spare`, without taking
+    /// Makes a list without a row, whose first texts go to the memory of `spare`, without taking
     /// memory.
-    pub(crate) fn within(alloc: Global, spare: Vec<u8>) -> PieceRows
+    pub(crate) fn within(alloc: Global, spare: Spare) -> PieceRows
         ensures { result ≡ [] }
     {
         PieceRows {
@@ -75,9 +76,9 @@ impl PieceRows {
         }
     }
 
-    /// Starts a new stretch, whose texts go to the spare vector `spare`. The rows stay.
+    /// Starts a new stretch, whose texts go to the memory of `spare`. The rows stay.
     #[tactic(auto, using(crate::proofs::RowCounts::closed))]
-    fn close(&mut self, alloc: Global, spare: Vec<u8>) -> Result<(), AllocError>
+    fn close(&mut self, alloc: Global, spare: Spare) -> Result<(), AllocError>
         ensures { self.new ≡ self.old }
     {
         if self.full.is_empty() {
@@ -116,7 +117,7 @@ impl PieceRows {
         (full, last)
     }
 
-    /// Adds the facts of a row. `spares` has spare vectors for their texts.
+    /// Adds the facts of a row. `spares` has memory for their texts.
     ///
     /// Fails with the fault of the row's first faulty cell, and with Memory if memory runs out.
     /// Then nothing is added.

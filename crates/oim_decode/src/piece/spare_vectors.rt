@@ -1,11 +1,12 @@
-//! Spare vectors.
+//! The memory of blocks, kept for a piece.
 
+use oim_json::Spare;
 use std::alloc::Global;
 
-/// Spare vectors to which texts are written. Their contents have no meaning.
+/// The memory of blocks to which texts are written.
 #[derive(Drop)]
 pub(crate) struct SpareVectors {
-    spares: Vec<Vec<u8>>,
+    spares: Vec<Spare>,
 }
 
 impl SpareVectors {
@@ -16,21 +17,21 @@ impl SpareVectors {
         }
     }
 
-    /// Takes the vector that was kept last, or an empty one.
-    pub(crate) fn take(&mut self, alloc: Global) -> Vec<u8> {
+    /// Takes the spare that was kept last, or an empty one.
+    pub(crate) fn take(&mut self, alloc: Global) -> Spare {
         match self.spares.pop() {
             Some(spare) => spare,
-            None => Vec::new(alloc),
+            None => Spare::new(alloc),
         }
     }
 
-    /// Takes the vector that was kept last, if there is one.
-    pub(crate) fn free(&mut self) -> Option<Vec<u8>> {
+    /// Takes the spare that was kept last, if there is one.
+    pub(crate) fn free(&mut self) -> Option<Spare> {
         self.spares.pop()
     }
 
-    /// Keeps a vector, or drops it if memory runs out.
-    pub(crate) fn keep(&mut self, spare: Vec<u8>) {
+    /// Keeps a spare, or drops it if memory runs out.
+    pub(crate) fn keep(&mut self, spare: Spare) {
         let _ = self.spares.push(spare);
     }
 }

@@ -11,6 +11,7 @@ use crate::table::pending_facts::PendingFacts;
 use crate::table::row_texts::RowTexts;
 use ghost_value::{Denotes, GhostValue};
 use oim_fast::TableRow;
+use oim_json::Spare;
 use oim_names::Items;
 use oim_records::Fields;
 use oim_resolve::Fact;
@@ -76,9 +77,8 @@ fn room_for(count: usize) -> usize
 }
 
 impl WrittenRows {
-    /// Makes a list without a row, whose texts go to the spare vector `spare`, without taking
-    /// memory.
-    pub(crate) fn within(alloc: Global, spare: Vec<u8>) -> WrittenRows
+    /// Makes a list without a row, whose texts go to the memory of `spare`, without taking memory.
+    pub(crate) fn within(alloc: Global, spare: Spare) -> WrittenRows
         ensures { result ≡ [] }
     {
         WrittenRows {
@@ -90,11 +90,11 @@ impl WrittenRows {
 
     /// Makes a list without a row, with memory for as many rows and texts as these have, so that
     /// the texts are not copied as they grow. It uses the memory of `spare` first.
-    pub(crate) fn like(&self, alloc: Global, spare: Vec<u8>) -> Result<WrittenRows, AllocError>
+    pub(crate) fn like(&self, alloc: Global, spare: Spare) -> Result<WrittenRows, AllocError>
         ensures { IfOk result (λ rows. rows ≡ []) }
     {
         Ok(WrittenRows {
-            facts: self.facts.like(alloc, spare)?,
+            facts: self.facts.like(spare)?,
             ends: Vec::with_capacity(alloc, self.ends.len().max(FEW_ROWS))?,
             rows: none(),
         })

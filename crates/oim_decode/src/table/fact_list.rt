@@ -75,3 +75,15 @@ pub(crate) fn rest<T>(all: &GhostValue<Items<T>>, count: usize) -> GhostValue<It
 {
     GhostValue::of(&Back { all, count })
 }
+
+/// Returns the list `before`, followed by the first `count` items of `all`.
+#[inline(always)]
+pub(crate) fn then_first<T>(
+    before: &GhostValue<Items<T>>,
+    all: &GhostValue<Items<T>>,
+    count: usize,
+) -> GhostValue<Items<T>>
+    ensures { result.value ≡ before.now.value ++ take count all.now.value }
+{
+    then(before, &Front { all, count })
+}

@@ -1,16 +1,21 @@
 //! The texts of facts that wait to be given.
 
-ghost use Rattle.std.specs.Prelude.{◌≡◌, ◌≤◌, [], IfOk, OnErr, OnOk, drop, length, take};
+ghost use Rattle.std.specs.Prelude.{◌≡◌, ◌≤◌, ◌++◌, [], IfErr, IfOk, OnErr, OnOk, drop, length, take};
+ghost use Rattle.oim_json.specs.Blocks.{behind_commas};
 ghost use Rattle.oim_fast.specs.Facts.{facts_of_row};
 ghost use Rattle.oim_rows.specs.RowFacts.{IsTextRecord};
+ghost use Rattle.oim_rows.specs.Header.{file_fault};
+ghost use Rattle.oim_rows.specs.declared.fault.TableKind.TheVariants as kind;
+ghost use Rattle.oim_decode.specs.state.RowParts.{AddsParts, IsLeft, IsRestOf, with_rest};
 ghost use Rattle.oim_decode.specs.state.RowTexts.{AddsFacts, facts_of_answer};
 
-use crate::table::fact_list::{first, none, rest, then};
+use crate::table::fact_list::{first, none, rest, then, then_first};
+use crate::table::row_rest::RowRest;
 use crate::table::row_texts::RowTexts;
 use crate::table::table_blocks::MOST;
 use ghost_value::{Denotes, GhostValue};
 use oim_fast::{TableRow, TextBuffer};
-use oim_json::Block;
+use oim_json::{Block, Spare};
 use oim_names::Items;
 use oim_records::Fields;
 use oim_resolve::Fact;
@@ -75,6 +80,24 @@ fn no_text(alloc: Global, spare: Vec<u8>) -> TextBuffer
     }
 }
 
+/// Returns an empty list of ends in the memory of `spare`.
+fn no_ends(spare: Vec<usize>) -> Vec<usize>
+    ensures { result.items ≡ [] }
+{
+    let mut ends = spare;
+    ends.clear();
+    ends
+}
+
+/// Returns an empty list of ends in the memory of `spare`, with room for those of a block.
+fn ends_of_block(spare: Vec<usize>) -> Result<Vec<usize>, AllocError>
+    ensures { IfOk result (λ ends. ends.items ≡ []) }
+{
+    let mut ends = no_ends(spare);
+    ends.reserve(MOST)?;
+    Ok(ends)
+}
+
 impl PendingFacts {
     /// Makes an empty list, without taking memory.
     pub(crate) fn new(alloc: Global) -> PendingFacts
@@ -87,26 +110,28 @@ impl PendingFacts {
         }
     }
 
-    /// Makes an empty list whose texts go to the spare vector `spare`, without taking memory.
-    pub(crate) fn within(alloc: Global, spare: Vec<u8>) -> PendingFacts
+    /// Makes an empty list whose texts go to the memory of `spare`, without taking memory.
+    pub(crate) fn within(alloc: Global, spare: Spare) -> PendingFacts
         ensures { result ≡ [] }
     {
+        let Spare { bytes, ends } = spare;
         PendingFacts {
-            bytes: no_text(alloc, spare),
-            ends: Vec::new(alloc),
+            bytes: no_text(alloc, bytes),
+            ends: no_ends(ends),
             facts: none(),
         }
     }
 
     /// Makes an empty list with memory for texts as long as these and somewhat more, so that they
     /// are not copied as they grow. It uses the memory of `spare` first.
-    pub(crate) fn like(&self, alloc: Global, spare: Vec<u8>) -> Result<PendingFacts, AllocError>
+    pub(crate) fn like(&self, spare: Spare) -> Result<PendingFacts, AllocError>
         ensures { IfOk result (λ facts. facts ≡ []) }
     {
-        let more = more_than(spare.capacity(), self.bytes.len());
+        let Spare { bytes, ends } = spare;
+        let more = more_than(bytes.capacity(), self.bytes.len());
         Ok(PendingFacts {
-            bytes: TextBuffer::within(spare, more)?,
-            ends: Vec::with_capacity(alloc, MOST)?,
+            bytes: TextBuffer::within(bytes, more)?,
+            ends: ends_of_block(ends)?,
             facts: none(),
         })
     }
@@ -119,7 +144,9 @@ impl PendingFacts {
     }
 
     /// Returns how many bytes the texts have.
-    pub(crate) fn bytes(&self) -> usize {
+    pub(crate) fn bytes(&self) -> usize
+        ensures { result ≡ length (behind_commas self.now) }
+    {
         self.bytes.len()
     }
 
@@ -156,14 +183,82 @@ impl PendingFacts {
         }
     }
 
-    /// Takes the first `count` facts as a block, and moves the other texts to the spare vector
-    /// `spare`. If memory runs out, takes nothing.
-    pub(crate) fn take_block(
+    /// Adds the facts of a row, or only the first of them if their texts are long. Then it returns
+    /// the others.
+    ///
+    /// Fails as `push_row` does.
+    pub(crate) fn begin_row<'a>(
         &mut self,
         alloc: Global,
-        count: usize,
-        spare: Vec<u8>,
-    ) -> Result<Block, AllocError>
+        texts: &mut RowTexts<'a>,
+        row: &TableRow<'a, '_>,
+        fields: &Fields<'_>,
+    ) -> Result<Option<RowRest>, TableFault>
+        requires header { row.now.header ≡ texts.old }
+        requires fields { fields.now ≡ row.now.fields }
+        requires texts { IsTextRecord fields.now }
+        ensures facts { AddsParts row.now.header.table (facts_of_row row.now) self.old self.new result }
+        ensures rest { IfOk result (IsLeft row.now self.new) }
+        ensures same { texts.new ≡ texts.old }
+    {
+        let whole = RowRest::whole(&RowNote { row });
+        let length = self.bytes.len();
+        let count = self.ends.len();
+        match texts.begin_row(alloc, row, fields, &mut self.bytes, &mut self.ends) {
+            Ok(next) => {
+                let more = self.ends.len() - count;
+                self.facts = then_first(&self.facts, whole.facts(), more);
+                Ok(whole.after(next, more))
+            }
+            Err(fault) => {
+                self.bytes.truncate(length);
+                self.ends.truncate(count);
+                Err(fault)
+            }
+        }
+    }
+
+    /// Adds more facts of a row, those that are left, until their texts are long again. Returns
+    /// the others.
+    ///
+    /// Fails only if memory runs out. Then nothing is added.
+    pub(crate) fn put_more<'a>(
+        &mut self,
+        alloc: Global,
+        texts: &mut RowTexts<'a>,
+        row: &TableRow<'a, '_>,
+        fields: &Fields<'_>,
+        rest: &RowRest,
+    ) -> Result<Option<RowRest>, TableFault>
+        requires header { row.now.header ≡ texts.old }
+        requires fields { fields.now ≡ row.now.fields }
+        requires texts { IsTextRecord fields.now }
+        requires rest { IsRestOf row.now rest.now }
+        ensures facts { IfOk result (λ left. with_rest self.new left ≡ self.old ++ rest.now.facts) }
+        ensures rest { IfOk result (IsLeft row.now self.new) }
+        ensures fault { IfErr result (λ e. e ≡ file_fault row.now.header.table kind.Memory) }
+        ensures kept { OnErr result (self.new ≡ self.old) }
+        ensures same { texts.new ≡ texts.old }
+    {
+        let length = self.bytes.len();
+        let count = self.ends.len();
+        match texts.put_more(alloc, row, fields, rest, &mut self.bytes, &mut self.ends) {
+            Ok(next) => {
+                let more = self.ends.len() - count;
+                self.facts = then_first(&self.facts, rest.facts(), more);
+                Ok(rest.after(next, more))
+            }
+            Err(fault) => {
+                self.bytes.truncate(length);
+                self.ends.truncate(count);
+                Err(fault)
+            }
+        }
+    }
+
+    /// Takes the first `count` facts as a block, and moves the other texts to the memory of
+    /// `spare`. If memory runs out, takes nothing.
+    pub(crate) fn take_block(&mut self, count: usize, spare: Spare) -> Result<Block, AllocError>
         requires some { 1 ≤ count }
         requires most { count ≤ 256 }
         requires there { count ≤ length self.old }
@@ -171,29 +266,28 @@ impl PendingFacts {
         ensures left { OnOk result (self.new ≡ drop count self.old) }
         ensures same { OnErr result (self.new ≡ self.old) }
     {
-        let left = self.from_place(alloc, count, spare)?;
+        let left = self.from_place(count, spare)?;
         let all = mem::replace(self, left);
         Ok(all.into_block(count))
     }
 
-    // Copies the facts after the first `count`, with their texts in `spare`.
-    fn from_place(
-        &self,
-        alloc: Global,
-        count: usize,
-        spare: Vec<u8>,
-    ) -> Result<PendingFacts, AllocError>
+    // Copies the facts after the first `count` to the memory of `spare`.
+    fn from_place(&self, count: usize, spare: Spare) -> Result<PendingFacts, AllocError>
         requires some { 1 ≤ count }
         requires there { count ≤ length self.now }
         ensures { IfOk result (λ b. b ≡ drop count self.now) }
     {
         let start = self.ends[count - 1];
-        let more = more_than(spare.capacity(), self.bytes.len());
-        let mut bytes = TextBuffer::within(spare, more)?;
+        let Spare {
+            bytes: memory,
+            ends,
+        } = spare;
+        let more = more_than(memory.capacity(), self.bytes.len());
+        let mut bytes = TextBuffer::within(memory, more)?;
         bytes.put(after(self.bytes.as_slice(), start))?;
         Ok(PendingFacts {
             bytes,
-            ends: counted_from(alloc, behind(self.ends.as_slice(), count), start)?,
+            ends: counted_from(ends, behind(self.ends.as_slice(), count), start)?,
             facts: rest(&self.facts, count),
         })
     }
@@ -248,11 +342,12 @@ fn behind(ends: &[usize], count: usize) -> &[usize]
     &ends[count..]
 }
 
-// Returns the ends, counted from `start`.
-fn counted_from(alloc: Global, ends: &[usize], start: usize) -> Result<Vec<usize>, AllocError>
+// Returns the ends, counted from `start`, in the memory of `spare`.
+fn counted_from(spare: Vec<usize>, ends: &[usize], start: usize) -> Result<Vec<usize>, AllocError>
     ensures { IfOk result (λ counted. counted.items ≡ map (λ end. end - start) ends.now) }
 {
-    let mut counted = Vec::with_capacity(alloc, ends.len())?;
+    let mut counted = no_ends(spare);
+    counted.reserve(ends.len())?;
     for end in ends {
         counted.push(end.saturating_sub(start))?;
     }

@@ -1,11 +1,12 @@
 //! The plain way from a row to the texts of its facts.
 
-ghost use Rattle.std.specs.Prelude.{◌≡◌, ◌++◌, ◌∷◌, [], Err, IfErr, IfOk, OnOk, length};
+ghost use Rattle.std.specs.Prelude.{◌≡◌, ◌++◌, ◌∷◌, [], Err, IfErr, IfOk, OnOk, drop, length};
 ghost use mathlib.Core.List.{IsPrefix};
 ghost use Rattle.oim_fast.specs.Facts.{WritesFacts, facts_of_row};
 ghost use Rattle.oim_json.specs.Blocks.{behind_commas, ends_from};
 ghost use Rattle.oim_rows.specs.RowFacts.{IsTextRecord};
 ghost use Rattle.oim_rows.specs.Streams.{OrNoMemory};
+ghost use Rattle.oim_decode.specs.state.RowParts.{WritesRest};
 
 use oim_fast::{TableRow, TextBuffer};
 use oim_json::member_of;
@@ -40,7 +41,7 @@ impl<'a> Model for PlainRows<'a> {
 /// Appends the text of each fact with a comma before it, and records where each ends.
 fn put_facts(
     alloc: Global,
-    facts: &Items<Fact>,
+    facts: &[Fact],
     out: &mut TextBuffer,
     ends: &mut Vec<usize>,
 ) -> Result<(), AllocError>
@@ -48,13 +49,39 @@ fn put_facts(
     ensures ends { OnOk result (ends.new.items ≡ ends.old.items ++ ends_from (length out.old.items) facts.now) }
     ensures front { IsPrefix out.old.items out.new.items × IsPrefix ends.old.items ends.new.items }
 {
-    for fact in facts.as_slice() {
+    for fact in facts {
         let member = member_of(alloc, fact)?;
         out.push(b',')?;
         out.put(member.bytes())?;
         ends.push(out.len())?;
     }
     Ok(())
+}
+
+/// Returns the facts after the first `count`.
+fn behind(facts: &[Fact], count: usize) -> &[Fact]
+    ensures { result.now ≡ drop count facts.now }
+{
+    let start = count.min(facts.len());
+    &facts[start..]
+}
+
+/// Returns the facts of a row. It first tests all cells, so that a bad row keeps no facts.
+fn checked_facts(
+    alloc: Global,
+    plan: &RowPlan<'_>,
+    row: &TableRow<'_, '_>,
+    fields: &Fields<'_>,
+) -> Result<Items<Fact>, TableFault>
+    requires header { row.now.header ≡ plan.now }
+    requires fields { fields.now ≡ row.now.fields }
+    requires texts { IsTextRecord fields.now }
+    ensures { OrNoMemory row.now.header.table result (facts_of_row row.now) }
+{
+    match plan.check(alloc, row.header(), row.number(), fields) {
+        Ok(()) => plan.facts(alloc, row.header(), row.number(), fields),
+        Err(fault) => Err(fault),
+    }
 }
 
 impl<'a> PlainRows<'a> {
@@ -82,12 +109,12 @@ impl<'a> PlainRows<'a> {
         ensures same { self.new ≡ self.old }
     {
         if let Some(plan) = &self.plan {
-            return plan.facts(alloc, row.header(), row.number(), fields);
+            return checked_facts(alloc, plan, row, fields);
         }
         let Ok(plan) = RowPlan::new(alloc, row.header()) else {
             return Err(whole_fault(row.table(), TableKind::Memory));
         };
-        let facts = plan.facts(alloc, row.header(), row.number(), fields);
+        let facts = checked_facts(alloc, &plan, row, fields);
         self.plan = Some(plan);
         facts
     }
@@ -118,7 +145,36 @@ impl<'a> PlainRows<'a> {
             Ok(facts) => facts,
             Err(fault) => return Err(fault),
         };
-        match put_facts(alloc, &facts, out, ends) {
+        match put_facts(alloc, facts.as_slice(), out, ends) {
+            Ok(()) => Ok(()),
+            Err(_) => Err(whole_fault(row.table(), TableKind::Memory)),
+        }
+    }
+
+    /// Appends the texts of a row's facts after the first `count` as `put_row` does.
+    #[cold]
+    pub(crate) fn put_rest(
+        &mut self,
+        alloc: Global,
+        row: &TableRow<'a, '_>,
+        fields: &Fields<'_>,
+        count: usize,
+        out: &mut TextBuffer,
+        ends: &mut Vec<usize>,
+    ) -> Result<(), TableFault>
+        requires header { row.now.header ≡ self.old }
+        requires fields { fields.now ≡ row.now.fields }
+        requires texts { IsTextRecord fields.now }
+        ensures facts { OnOk result (WritesRest (facts_of_row row.now) count out.old.items out.new.items ends.old.items ends.new.items) }
+        ensures fault { IfErr result (λ e. OrNoMemory row.now.header.table (Err e) (facts_of_row row.now)) }
+        ensures front { IsPrefix out.old.items out.new.items × IsPrefix ends.old.items ends.new.items }
+        ensures same { self.new ≡ self.old }
+    {
+        let facts = match self.facts(alloc, row, fields) {
+            Ok(facts) => facts,
+            Err(fault) => return Err(fault),
+        };
+        match put_facts(alloc, behind(facts.as_slice(), count), out, ends) {
             Ok(()) => Ok(()),
             Err(_) => Err(whole_fault(row.table(), TableKind::Memory)),
         }

@@ -10,7 +10,7 @@ ghost use Rattle.oim_decode.specs.Blocks.{GivesBlock, KeepsAnswer, KeepsFound, L
 
 use crate::table::pending_facts::PendingFacts;
 use crate::table::text_rows::TextRows;
-use oim_json::Block;
+use oim_json::{Block, Spare};
 use oim_report::{Limits, Report};
 use oim_rows::{TableFault, TableKind, whole_fault};
 use std::alloc::Global;
@@ -51,12 +51,15 @@ impl<R: Read + Drop> Drop for TableBlocks<'_, R> {
 }
 
 impl<'a, R: Read + Drop> Model for TableBlocks<'a, R> {
+    ghost use Rattle.std.specs.Prelude.{◌≡◌, IsSome, None};
     ghost use Rattle.oim_decode.specs.Blocks.{BlocksLeft};
     ghost use Rattle.oim_decode.specs.state.Blocks.{blocks_left};
 
     ghost Value = { BlocksLeft };
 
     ghost view = { λ a. blocks_left a.rows a.facts a.settled };
+
+    ghost invariant = { λ a. IsSome a.settled → a.rows.rest ≡ None };
 }
 
 impl<'a, R: Read + Drop> TableBlocks<'a, R> {
@@ -99,14 +102,19 @@ impl<'a, R: Read + Drop> TableBlocks<'a, R> {
     }
 }
 
-ghost use Rattle.std.specs.Prelude.{IsSome, OnSome};
-ghost use Rattle.oim_decode.specs.state.Blocks.{HasRead};
+ghost use Rattle.std.specs.Prelude.{Err, IsOk, IsSome, Ok, OnErr, OnOk, OnSome};
+ghost use Rattle.oim_json.specs.Blocks.{behind_commas};
+ghost use Rattle.oim_rows.specs.Header.{file_fault};
+ghost use Rattle.oim_rows.specs.Streams.{ending};
+ghost use Rattle.oim_rows.specs.declared.fault.TableKind.TheVariants as kind;
+ghost use Rattle.oim_decode.specs.state.Blocks.{HasReadOn, blocks_left};
+ghost use Rattle.oim_decode.specs.state.RowParts.{with_rest};
 
 impl<R: Read + Drop> TableBlocks<'_, R> {
     /// Returns the next 1 to 256 facts in header order, row by row, or None at the end of the
     /// table.
     ///
-    /// Further texts go to the spare vector `spare`, which may be that of an earlier block. With
+    /// Further texts go to the memory of `spare`, which may be that of an earlier block. With
     /// each block a row was read or fewer facts wait, and at most `limits.rows` rows are read, so
     /// even an endless file ends. After the end or a fault each call answers the same and takes no
     /// record.
@@ -115,7 +123,7 @@ impl<R: Read + Drop> TableBlocks<'_, R> {
     /// this order: Ragged, NotUtf8, TooManyRows, MissingRowId, BadRowId, RepeatedRowId, then the
     /// faults of its cells from left to right. Fails with Read if the reader failed, and with
     /// Memory if memory runs out.
-    pub fn next_block(&mut self, spare: Vec<u8>) -> Result<Option<Block>, TableFault>
+    pub fn next_block(&mut self, spare: Spare) -> Result<Option<Block>, TableFault>
         ensures next { IfSome self.old.left (λ s. GivesBlock self.old.table self.old.pending s result self.new.pending self.new.left) }
         ensures kept { KeepsAnswer result self.new.answered }
         ensures again { IfSome self.old.answered (λ kept. self.old.pending ≡ [] → (result ≡ answer_of kept) × (self.new ≡ self.old)) }
@@ -129,7 +137,10 @@ impl<R: Read + Drop> TableBlocks<'_, R> {
 
         ensures same { (self.new.table ≡ self.old.table) × (self.new.limit ≡ self.old.limit) }
     {
-        let whole = self.fill();
+        let whole = match fill(&mut self.rows, &mut self.facts, &mut self.settled) {
+            Ok(whole) => whole,
+            Err(fault) => return self.lose(fault),
+        };
         let count = self.facts.count();
         if count == 0 {
             return match self.settled {
@@ -137,48 +148,109 @@ impl<R: Read + Drop> TableBlocks<'_, R> {
                 Some(None) | None => Ok(None),
             };
         }
-        match self
-            .facts
-            .take_block(self.alloc, share(count, whole), spare)
-        {
+        match self.facts.take_block(share(count, whole), spare) {
             Ok(block) => Ok(Some(block)),
             Err(_) => {
                 let fault = whole_fault(self.rows.table(), TableKind::Memory);
-                self.facts = PendingFacts::new(self.alloc);
-                self.settled = Some(Some(fault));
-                Err(fault)
+                self.lose(fault)
             }
         }
     }
 
-    // Reads rows until one more might exceed a block. Returns how many facts there were before the
-    // last row.
-    fn fill(&mut self) -> usize
-        ensures reads { IfSome self.old.left (λ s. HasRead self.old.table s self.old.pending self.new.pending self.new.left) }
-        ensures settled { self.new.answered ≡ None → 1 ≤ length self.new.pending }
-        ensures behind { self.old.answered ≡ None → ReadsBehind self.old self.new }
-        ensures counts { (self.old.given ≤ self.new.given) × (self.new.given ≤ self.new.limit) }
-        ensures moves { (self.old.given < self.new.given) ⊎ (self.new.pending ≡ self.old.pending) }
-        ensures again { IsSome self.old.answered → self.new ≡ self.old }
-        ensures same { (self.new.table ≡ self.old.table) × (self.new.limit ≡ self.old.limit) }
-        ensures whole { result ≤ 256 }
+    // Settles the table with a fault, and drops the facts that wait.
+    #[cold]
+    fn lose(&mut self, fault: TableFault) -> Result<Option<Block>, TableFault>
+        ensures answer { result ≡ Err fault }
+        ensures settled { self.new ≡ record self.old { pending = []; answered = Some (Some fault); left = Some (ending (Some fault)) } }
     {
-        let mut whole = 0;
-        let width = self.rows.width();
-        while has_room(self.facts.count(), width, self.facts.bytes()) {
-            match self.settled {
-                Some(_) => return whole,
-                None => {}
-            }
-            whole = self.facts.count();
-            match self.rows.next_row(&mut self.facts) {
-                Ok(true) => {}
-                Ok(false) => self.settled = Some(None),
-                Err(fault) => self.settled = Some(Some(fault)),
-            }
-        }
-        whole
+        self.facts = PendingFacts::new(self.alloc);
+        self.rows.close();
+        self.settled = Some(Some(fault));
+        Err(fault)
     }
+}
+
+// Adds facts of the last row that are left, and then rows, until one more might exceed a block.
+// Returns how many facts there were before the last row.
+#[inline(always)]
+fn fill<R: Read + Drop>(
+    rows: &mut TextRows<'_, R>,
+    facts: &mut PendingFacts,
+    settled: &mut Option<Option<TableFault>>,
+) -> Result<usize, TableFault>
+    requires { IsSome settled.old → rows.old.rest ≡ None }
+    ensures reads { OnOk result (HasReadOn (blocks_left rows.old facts.old settled.old) (blocks_left rows.new facts.new settled.new)) }
+    ensures some { OnOk result (settled.new ≡ None → 1 ≤ length facts.new) }
+    ensures closed { IsSome settled.new → rows.new.rest ≡ None }
+    ensures behind { OnOk result (settled.old ≡ None → ReadsBehind (blocks_left rows.old facts.old settled.old) (blocks_left rows.new facts.new settled.new)) }
+    ensures counts { (rows.old.given ≤ rows.new.given) × (rows.new.given ≤ rows.new.header.limit) }
+    ensures moves { OnOk result ((rows.old.given < rows.new.given) ⊎ (with_rest facts.new rows.new.rest ≡ with_rest facts.old rows.old.rest)) }
+    ensures again { IsSome settled.old → IsOk result × (blocks_left rows.new facts.new settled.new ≡ blocks_left rows.old facts.old settled.old) }
+    ensures fault { IfErr result (λ e. e ≡ file_fault rows.old.header.table kind.Memory) }
+    ensures lost { OnErr result ((rows.new.given ≡ rows.old.given) × (rows.new.unread ≡ rows.old.unread) × (settled.new ≡ None)) }
+    ensures same { (rows.new.header.table ≡ rows.old.header.table) × (rows.new.header.limit ≡ rows.old.header.limit) }
+    ensures whole { IfOk result (λ whole. whole ≤ 256) }
+{
+    match fill_from_row(rows, facts) {
+        Ok(()) => Ok(fill_with_rows(rows, facts, settled)),
+        Err(fault) => Err(fault),
+    }
+}
+
+// Adds more facts of the last row if some are left, unless the texts that wait are long.
+#[inline(always)]
+fn fill_from_row<R: Read + Drop>(
+    rows: &mut TextRows<'_, R>,
+    facts: &mut PendingFacts,
+) -> Result<(), TableFault>
+    ensures facts { OnOk result (with_rest facts.new rows.new.rest ≡ with_rest facts.old rows.old.rest) }
+    ensures long { OnOk result (IsSome rows.new.rest → 131072 < length (behind_commas facts.new)) }
+    ensures closed { rows.old.rest ≡ None → (result ≡ Ok tt) × (rows.new ≡ rows.old) × (facts.new ≡ facts.old) }
+    ensures fault { IfErr result (λ e. e ≡ file_fault rows.old.header.table kind.Memory) }
+    ensures lost { OnErr result (rows.new.rest ≡ None) }
+    ensures same { rows.new ≡ record rows.old { rest = rows.new.rest } }
+    ensures within { rows.new.given ≤ rows.new.header.limit }
+{
+    if !rows.is_open() || facts.bytes() > LONG {
+        return Ok(());
+    }
+    rows.put_more(facts)
+}
+
+// Reads rows until one more might exceed a block, or the texts are long. Returns how many facts
+// there were before the last row.
+fn fill_with_rows<R: Read + Drop>(
+    rows: &mut TextRows<'_, R>,
+    facts: &mut PendingFacts,
+    settled: &mut Option<Option<TableFault>>,
+) -> usize
+    requires long { IsSome rows.old.rest → 131072 < length (behind_commas facts.old) }
+    requires closed { IsSome settled.old → rows.old.rest ≡ None }
+    ensures reads { HasReadOn (blocks_left rows.old facts.old settled.old) (blocks_left rows.new facts.new settled.new) }
+    ensures some { settled.new ≡ None → 1 ≤ length facts.new }
+    ensures closed { IsSome settled.new → rows.new.rest ≡ None }
+    ensures behind { settled.old ≡ None → ReadsBehind (blocks_left rows.old facts.old settled.old) (blocks_left rows.new facts.new settled.new) }
+    ensures counts { (rows.old.given ≤ rows.new.given) × (rows.new.given ≤ rows.new.header.limit) }
+    ensures moves { (rows.old.given < rows.new.given) ⊎ (with_rest facts.new rows.new.rest ≡ with_rest facts.old rows.old.rest) }
+    ensures again { IsSome settled.old → blocks_left rows.new facts.new settled.new ≡ blocks_left rows.old facts.old settled.old }
+    ensures same { (rows.new.header.table ≡ rows.old.header.table) × (rows.new.header.limit ≡ rows.old.header.limit) }
+    ensures whole { result ≤ 256 }
+{
+    let mut whole = 0;
+    let width = rows.width();
+    while has_room(facts.count(), width, facts.bytes()) {
+        match settled {
+            Some(_) => return whole,
+            None => {}
+        }
+        whole = facts.count();
+        match rows.next_row(facts) {
+            Ok(true) => {}
+            Ok(false) => *settled = Some(None),
+            Err(fault) => *settled = Some(Some(fault)),
+        }
+    }
+    whole
 }
 
 // Returns whether to read a row of `width` cells before giving the `count` waiting facts, whose
@@ -187,6 +259,7 @@ impl<R: Read + Drop> TableBlocks<'_, R> {
 pub(crate) fn has_room(count: usize, width: usize, bytes: usize) -> bool
     ensures some { result ≡ false → 1 ≤ count }
     ensures full { result ≡ false → bytes ≤ 131072 → 256 < count + width }
+    ensures short { result ≡ true → 1 ≤ count → bytes ≤ 131072 }
     ensures most { result ≡ true → count ≤ 256 }
     ensures room { result ≡ true → 1 ≤ count → count + width ≤ 256 }
 {

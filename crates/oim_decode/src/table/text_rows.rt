@@ -1,19 +1,22 @@
 //! The rows of one table that are not read yet.
 
-ghost use Rattle.std.specs.Prelude.{◌≡◌, ◌⊎◌, ◌≤◌, ◌<◌, ◌+◌, [], Err, IfErr, IfOk, IfSome, None, OnErr, OnOk, Some, length, option_map, true};
+ghost use Rattle.std.specs.Prelude.{◌≡◌, ◌⊎◌, ◌≤◌, ◌<◌, ◌+◌, [], Err, IfErr, IfOk, IfSome, IsSome, None, OnErr, OnOk, Some, is_some, length, option_map, true};
 ghost use Rattle.std.specs.Prelude.{◌++◌, ◌∷◌, false, not, if◌then◌else◌};
 ghost use Rattle.std.specs.List.{list_any};
 ghost use Rattle.std.specs.Str.{bytes_eq};
 ghost use Rattle.oim_records.specs.Grids.{grid};
-ghost use Rattle.oim_rows.specs.Header.{file_header_fault};
+ghost use Rattle.oim_rows.specs.Header.{file_fault, file_header_fault};
 ghost use Rattle.oim_rows.specs.RowFacts.{id_place_of, ids_after, row_fault, row_result};
 ghost use Rattle.oim_rows.specs.Streams.{OrNoMemory, stream_of};
 ghost use Rattle.oim_rows.specs.state.Streams.{early_row_answer};
 ghost use Rattle.oim_decode.specs.state.Blocks.{AddsNone, AddsRow, CountsRow, TakesOne, has_row};
 ghost use Rattle.oim_decode.specs.state.Heads.{IsHeaderFault};
-ghost use Rattle.oim_decode.specs.state.RowTexts.{AddsFacts};
+ghost use Rattle.oim_json.specs.Blocks.{behind_commas};
+ghost use Rattle.oim_rows.specs.declared.fault.TableKind.TheVariants as kind;
+ghost use Rattle.oim_decode.specs.state.RowParts.{AddsParts, IsLeft, with_rest};
 
 use crate::table::pending_facts::PendingFacts;
+use crate::table::row_rest::RowRest;
 use crate::table::row_texts::RowTexts;
 use oim_fast::TableRow;
 use oim_records::{Fields, ReadFault, RecordReader};
@@ -40,12 +43,16 @@ pub(crate) struct TextRows<'a, R: Read + Drop> {
     // compared with `ids` when it is added to them.
     no_ids: RowIds,
     given: u32,
+    // The facts of the last row that are not written yet.
+    rest: Option<RowRest>,
 }
 
 impl<'a, R: Read + Drop> Model for TextRows<'a, R> {
-    ghost use Rattle.std.specs.Prelude.{◌≡◌, ◌≤◌, ◌<◌, ◌^◌, ◌-◌, ◌+◌, [], option_map};
+    ghost use Rattle.std.specs.Prelude.{◌≡◌, ◌≤◌, ◌<◌, ◌^◌, ◌-◌, ◌+◌, [], IfSome, IsSome, option_map};
+    ghost use Rattle.oim_rows.specs.RowFacts.{IsTextRecord};
     ghost use Rattle.oim_rows.specs.Streams.{stream_from};
     ghost use Rattle.oim_decode.specs.state.Blocks.{RowsUnread};
+    ghost use Rattle.oim_decode.specs.state.RowParts.{IsRestOf};
 
     ghost Value = { RowsUnread };
 
@@ -54,9 +61,11 @@ impl<'a, R: Read + Drop> Model for TextRows<'a, R> {
       given = a.given;
       left = option_map (stream_from a.header (a.given + 1) a.ids) a.records.left;
       unread = a.records.left;
+      rest = a.rest;
     } };
 
-    ghost invariant = { λ a. (a.texts ≡ a.header) × (a.no_ids ≡ []) × (a.given ≤ a.header.limit) × (a.header.limit < 2 ^ 32 - 1) };
+    ghost invariant = { λ a. (a.texts ≡ a.header) × (a.no_ids ≡ []) × (a.given ≤ a.header.limit) × (a.header.limit < 2 ^ 32 - 1)
+        × (IsSome a.rest → IsTextRecord a.records.fields) × IfSome a.rest (IsRestOf (record { header = a.header; number = a.given; fields = a.records.fields })) };
 }
 
 impl<'a, R: Read + Drop> TextRows<'a, R> {
@@ -74,6 +83,7 @@ impl<'a, R: Read + Drop> TextRows<'a, R> {
         requires place { table < length report.now.tables }
         requires rows { limit ≤ 4294967294 }
         ensures start { IfOk result (λ rows. (rows.header.table ≡ table) × (rows.header.limit ≡ limit) × (rows.given ≡ 0)) }
+        ensures closed { IfOk result (λ rows. rows.rest ≡ None) }
         ensures stream { IfSome (R.remaining reader) (λ bytes. IfOk result (λ rows. rows.left ≡ Some (stream_of report.now table limit (grid bytes)))) }
         ensures header { IfSome (R.remaining reader) (λ bytes. IfOk result (λ _. file_header_fault report.now table (grid bytes) ≡ None)) }
         ensures fault { IfSome (R.remaining reader) (λ bytes. IfErr result (IsHeaderFault report.now table bytes)) }
@@ -97,6 +107,7 @@ impl<'a, R: Read + Drop> TextRows<'a, R> {
             ids: RowIds::new(alloc),
             no_ids: RowIds::new(alloc),
             given: 0,
+            rest: None,
         })
     }
 }
@@ -122,10 +133,12 @@ impl<R: Read + Drop> TextRows<'_, R> {
     /// Fails with the row's first fault, with Read if the reader failed, and with Memory if memory
     /// runs out. Then nothing is added.
     pub(crate) fn next_row(&mut self, facts: &mut PendingFacts) -> Result<bool, TableFault>
-        ensures next { IfSome self.old.left (λ s. AddsRow self.old.header.table s facts.old facts.new result self.new.left) }
+        requires { self.old.rest ≡ None }
+        ensures next { IfSome self.old.left (λ s. AddsRow self.old.header.table s facts.old (with_rest facts.new self.new.rest) result self.new.left) }
         ensures header { self.new.header ≡ self.old.header }
         ensures counts { CountsRow self.old.header.limit result self.old.given self.new.given }
-        ensures none { AddsNone result facts.old facts.new }
+        ensures none { AddsNone result facts.old facts.new self.new.rest }
+        ensures long { IsSome self.new.rest → 1048576 < length (behind_commas facts.new) }
         ensures unread { IfSome self.old.unread (λ rs. TakesOne self.old.header.table rs result self.new.unread) }
     {
         let found = self.records.read();
@@ -152,9 +165,53 @@ impl<R: Read + Drop> TextRows<'_, R> {
             &fields,
             facts,
         ) {
-            Ok(()) => {
+            Ok(rest) => {
                 self.given = number;
+                self.rest = rest;
                 Ok(true)
+            }
+            Err(fault) => Err(fault),
+        }
+    }
+
+    /// Returns whether facts of the last row are not written yet.
+    pub(crate) fn is_open(&self) -> bool
+        ensures value { result ≡ is_some (self.now).rest }
+        ensures within { (self.now).given ≤ (self.now).header.limit }
+    {
+        self.rest.is_some()
+    }
+
+    /// Drops the facts of the last row that are not written yet.
+    pub(crate) fn close(&mut self)
+        ensures { self.new ≡ record self.old { rest = None } }
+    {
+        self.rest = None;
+    }
+
+    /// Adds more facts of the last row, those that are left, until their texts are long again.
+    ///
+    /// Fails only if memory runs out. Then nothing is added, and nothing is left of the row.
+    #[cold]
+    pub(crate) fn put_more(&mut self, facts: &mut PendingFacts) -> Result<(), TableFault>
+        ensures facts { OnOk result (with_rest facts.new self.new.rest ≡ with_rest facts.old self.old.rest) }
+        ensures long { OnOk result (IsSome self.new.rest → 1048576 < length (behind_commas facts.new)) }
+        ensures fault { IfErr result (λ e. e ≡ file_fault self.old.header.table kind.Memory) }
+        ensures lost { OnErr result ((facts.new ≡ facts.old) × (self.new.rest ≡ None)) }
+        ensures same { self.new ≡ record self.old { rest = self.new.rest } }
+    {
+        let Some(rest) = self.rest.take() else {
+            return Ok(());
+        };
+        let fields = self.records.fields();
+        let Some(texts) = self.records.text_fields() else {
+            unreachable!()
+        };
+        let row = TableRow::new(&self.header, self.given, &texts);
+        match facts.put_more(self.alloc, &mut self.texts, &row, &fields, &rest) {
+            Ok(left) => {
+                self.rest = left;
+                Ok(())
             }
             Err(fault) => Err(fault),
         }
@@ -245,18 +302,19 @@ fn add_row<'a>(
     row: &TableRow<'a, '_>,
     fields: &Fields<'_>,
     facts: &mut PendingFacts,
-) -> Result<(), TableFault>
+) -> Result<Option<RowRest>, TableFault>
     requires header { row.now.header ≡ texts.old }
     requires fields { fields.now ≡ row.now.fields }
     requires row { row_fault row.now.header row.now.number [] row.now.fields ≡ None }
-    ensures facts { AddsFacts row.now.header.table (row_result row.now.header row.now.number ids.old row.now.fields) facts.old facts.new result }
+    ensures facts { AddsParts row.now.header.table (row_result row.now.header row.now.number ids.old row.now.fields) facts.old facts.new result }
+    ensures rest { IfOk result (IsLeft row.now facts.new) }
     ensures own { IfSome (row_fault row.now.header row.now.number ids.old row.now.fields) (λ fault. result ≡ Err fault) }
     ensures ids { OnOk result (ids.new ≡ ids_after (id_place_of row.now.header) ids.old row.now.fields) }
     ensures refused { OnErr result ((ids.new ≡ ids.old) ⊎ (ids.new ≡ ids_after (id_place_of row.now.header) ids.old row.now.fields)) }
     ensures same { texts.new ≡ texts.old }
 {
     match keep_id(alloc, row, ids) {
-        Ok(()) => facts.push_row(alloc, texts, row, fields),
+        Ok(()) => facts.begin_row(alloc, texts, row, fields),
         Err(fault) => Err(fault),
     }
 }

@@ -1,14 +1,14 @@
 -- What is prepared for the cells of a table's rows.
-use Rattle.std.specs.Prelude.{◌≡◌, ◌⊎◌, ◌<◌, ◌^◌, ℕ, true, Bool, List, [], ◌∷◌, ◌++◌, codes, decimal, length, map, slice_index_or, take, IfSome, None, Option, Result, Ok}
+use Rattle.std.specs.Prelude.{◌≡◌, ◌⊎◌, ◌≤◌, ◌-◌, drop, ◌<◌, ◌^◌, ℕ, true, Bool, List, ◌++◌, codes, decimal, length, map, slice_index_or, take, IfSome, None, Result, Ok}
 use Rattle.std.specs.List.{All}
-use Rattle.std.specs.Option.{option_to_list}
 use Rattle.oim_cells.specs.Cells.{meaning_of}
 use Rattle.oim_json.specs.Blocks.{behind_commas, ends_from}
 use Rattle.oim_resolve.specs.FactParts.{FactParts as Fact}
 use Rattle.oim_resolve.specs.Facts.{cell_result, is_absent}
 use Rattle.oim_rows.specs.RowFacts.{TableHeaderValue, id_place_of}
 use Rattle.oim_fast.specs.state.CellValues.{IsValue}
-use Rattle.oim_fast.specs.state.Columns.{AreFactColumns, fact_columns_in}
+use Rattle.oim_fast.specs.Facts.{GiveFacts, fact_columns_in}
+use Rattle.oim_fast.specs.state.Columns.{AreFactColumns}
 use Rattle.oim_fast.specs.state.FactTexts.{AddsFact}
 use Rattle.oim_fast.specs.state.Facts.{WritesFact, lead_text, start_text}
 use Rattle.oim_fast.specs.state.FrameTexts.{FrameValue}
@@ -62,11 +62,6 @@ PutsSaid x rs t start cell old new (Ok true) =
     ((is_absent (meaning_of cell) ≡ true) × (new ≡ old)) ⊎ ((v : Value) × IsValue x.header.report t.kind (meaning_of cell) v × AddsFact rs t v start old new)
 PutsSaid x rs t start cell old new r = new ≡ old
 
--- These columns give the row these facts.
-abbrev pub GiveFacts : RowValue → List ℕ → List Fact → Type 0
-GiveFacts x [] fs = fs ≡ []
-GiveFacts x (c ∷ cs) fs = (o : Option Fact) × (more : List Fact) × (cell_result (cell_in x c) ≡ Ok o) × (fs ≡ option_to_list o ++ more) × GiveFacts x cs more
-
 -- The facts of the first i columns were appended, each with a comma before it, and the end of each
 -- was recorded.
 pub record HasFacts (x : RowValue) (i : ℕ) (old new noted notes : List ℕ) : Type 0 where
@@ -74,3 +69,9 @@ pub record HasFacts (x : RowValue) (i : ℕ) (old new noted notes : List ℕ) : 
   pub are : GiveFacts x (take i (fact_columns_in x.header x.header.columns)) facts
   pub text : new ≡ old ++ behind_commas facts
   pub ends : notes ≡ noted ++ ends_from (length old) facts
+
+-- No cell of the columns of facts from index i up to j has a fault.
+pub record GivesPart (x : RowValue) (i j : ℕ) : Type 0 where
+  pub facts : List Fact
+  pub order : i ≤ j
+  pub are : GiveFacts x (take (j - i) (drop i (fact_columns_in x.header x.header.columns))) facts

@@ -1,8 +1,9 @@
 -- The kept columns of facts of a header.
-use Rattle.std.specs.Prelude.{◌≡◌, ◌<◌, ℕ, List, [], ◌∷◌, Option, Some, None, map, length, slice_index_or, if◌then◌else◌}
+use Rattle.std.specs.Prelude.{◌≡◌, ◌<◌, ℕ, List, [], ◌∷◌, Option, Some, None, map, length, slice_index_or}
 use Rattle.std.specs.List.{All, slice_get}
 use Rattle.std.specs.Option.{option_map}
-use Rattle.oim_rows.specs.RowFacts.{TableHeaderValue, is_fact_column, source_of_column}
+use Rattle.oim_rows.specs.RowFacts.{TableHeaderValue, source_of_column}
+use Rattle.oim_fast.specs.Facts.{fact_columns_in}
 use Rattle.oim_fast.specs.state.Facts.{column_lead}
 use Rattle.oim_fast.specs.state.ChosenGroups.{choices_in}
 use Rattle.oim_row.specs.Rows.{column_in, columns_in}
@@ -22,12 +23,6 @@ pub record IsFactColumn (f : TableHeaderValue) (cells : List GroupCell) (c : Fac
 -- The choices in the columns of groups that a column takes from.
 abbrev pub column_choices : List GroupCell → FactColumn → List Choice
 column_choices cells c = choices_in cells c.groups.items
-
--- The columns of a header that hold facts, in its order.
-abbrev pub fact_columns_in : TableHeaderValue → List (Option ℕ) → List ℕ
-fact_columns_in f [] = []
-fact_columns_in f (None ∷ h) = fact_columns_in f h
-fact_columns_in f (Some c ∷ h) = if is_fact_column (columns_in f) c then c ∷ fact_columns_in f h else fact_columns_in f h
 
 -- The column of facts that place i of the header names, if it names one.
 abbrev pub fact_column_at : TableHeaderValue → ℕ → List ℕ

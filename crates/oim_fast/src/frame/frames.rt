@@ -22,8 +22,11 @@ use oim_report::Kind;
 use oim_row::{Choice, GroupCells, TableRow};
 use std::alloc::{AllocError, Global};
 
-/// About how much memory the frames of a table may take. A frame beyond it removes them all.
-const MOST: usize = 64 << 20;
+/// About how many bytes of memory the frames of a table may take, whatever its template is.
+const MOST: usize = 15 << 20;
+
+/// How many more bytes they may take for each property group of the template.
+const FOR_GROUP: usize = 1_024;
 
 /// The kept frames of a table. A place is valid until another frame is kept.
 #[derive(Drop)]
@@ -31,6 +34,8 @@ pub(crate) struct Frames {
     pub(crate) list: Vec<Frame>,
     by_hash: HashIndex,
     size: usize,
+    // How much memory they may take. A frame beyond it removes them all.
+    most: usize,
 }
 
 /// Returns whether two choices are equal and known.
@@ -100,14 +105,15 @@ fn guess_of(groups: &[usize], cells: &GroupCells<'_>) -> usize
 }
 
 impl Frames {
-    /// Makes an empty list, without taking memory.
-    pub(crate) fn new(alloc: Global) -> Frames
+    /// Makes an empty list for a template with this many property groups, without taking memory.
+    pub(crate) fn new(alloc: Global, groups: usize) -> Frames
         ensures { result.list.items ≡ [] }
     {
         Frames {
             list: Vec::new(alloc),
             by_hash: HashIndex::new(alloc),
             size: 0,
+            most: MOST.saturating_add(groups.saturating_mul(FOR_GROUP)),
         }
     }
 
@@ -158,7 +164,7 @@ impl Frames {
         ensures { HoldsStill IsFrame self.old.list.items self.new.list.items }
     {
         let together = self.size.saturating_add(size);
-        if together <= MOST {
+        if together <= self.most {
             self.size = together;
             return;
         }

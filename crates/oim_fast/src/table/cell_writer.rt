@@ -1,13 +1,13 @@
 //! Writing the facts of a row cell by cell.
 
-ghost use Rattle.std.specs.Prelude.{◌≡◌, ◌<◌, ◌≤◌, ◌++◌, ◌∷◌, [], IfOk, OnOk, Some, length, true};
+ghost use Rattle.std.specs.Prelude.{◌≡◌, ◌+◌, ◌<◌, ◌≤◌, ◌++◌, ◌∷◌, [], IfOk, IfSome, OnOk, Some, length, true, vec_capacity, vec_len};
 ghost use mathlib.Core.List.{IsPrefix};
 ghost use Rattle.oim_cells.specs.Cells.{meaning_of};
 ghost use Rattle.oim_resolve.specs.Facts.{is_absent};
 ghost use Rattle.oim_rows.specs.RowFacts.{field_or_empty};
 ghost use Rattle.oim_fast.specs.state.CellWriters.{IsCellWriter, IsInRow, PutsCell, PutsSaid, column_at};
 ghost use Rattle.oim_fast.specs.state.FactTexts.{IsOfReferences};
-ghost use Rattle.oim_fast.specs.Facts.{WritesFacts};
+ghost use Rattle.oim_fast.specs.Facts.{HasPart, WritesFacts, WritesPart};
 
 use crate::frame::fact::put_fact;
 use crate::frame::fact_column::{FactColumn, fact_columns};
@@ -46,13 +46,28 @@ fn note_end(before: usize, end: usize, ends: &mut Vec<usize>) -> Result<(), Allo
     Ok(())
 }
 
+/// Records the end of a text as `note_end` does. The list has spare capacity.
+#[inline(always)]
+fn note_reserved(before: usize, end: usize, ends: &mut Vec<usize>)
+    requires { vec_len ends.old < vec_capacity ends.old }
+    ensures more { before < end → ends.new.items ≡ ends.old.items ++ end ∷ [] }
+    ensures none { end ≤ before → ends.new.items ≡ ends.old.items }
+    ensures len { vec_len ends.new ≤ vec_len ends.old + 1 }
+    ensures capacity { vec_capacity ends.new ≡ vec_capacity ends.old }
+{
+    if before < end {
+        ends.push_reserved(end);
+    }
+}
+
 /// The most facts that a block of texts has.
 const BLOCK: usize = 256;
 
 /// Takes memory for the ends of `count` more texts, at first for a whole block.
 #[inline(always)]
 fn reserve_ends(ends: &mut Vec<usize>, count: usize) -> Result<(), AllocError>
-    ensures { ends.new.items ≡ ends.old.items }
+    ensures items { ends.new.items ≡ ends.old.items }
+    ensures room { OnOk result (vec_len ends.new + count ≤ vec_capacity ends.new) }
 {
     let more = if ends.is_empty() {
         count.max(BLOCK)
@@ -93,6 +108,15 @@ fn put_rare(
     }
 }
 
+/// Returns how many property groups the template of a header's table has.
+fn groups_in(header: &TableHeader<'_>) -> usize {
+    let mut count = 0usize;
+    for column in header.report().template_columns(header.table()) {
+        count = count.saturating_add(column.groups.len());
+    }
+    count
+}
+
 impl<'a> CellWriter<'a> {
     /// Prepares the cells of the rows under a header.
     pub(crate) fn new(alloc: Global, header: &TableHeader<'a>) -> Result<CellWriter<'a>, AllocError>
@@ -101,7 +125,7 @@ impl<'a> CellWriter<'a> {
         let mut cells = GroupCells::new(alloc);
         let columns = fact_columns(alloc, header, &mut cells)?;
         let maker = FrameMaker::new(alloc, cells);
-        let frames = Frames::new(alloc);
+        let frames = Frames::new(alloc, groups_in(header));
         let start = FactStart::new(alloc, header)?;
         Ok(CellWriter {
             columns,
@@ -199,6 +223,73 @@ impl<'a> CellWriter<'a> {
             }
             let end = out.len();
             note_end(before, end, ends)?;
+        }
+        Ok(true)
+    }
+
+    /// Appends the facts of the current row in the columns of facts from index `from` on, each with
+    /// a comma before it, and where each ends, until the text is longer than `most`. Returns the
+    /// index of the next column, or None if the fast way leaves the row.
+    ///
+    /// After None, or if memory runs out, more text may follow the old one.
+    #[inline(always)]
+    pub(crate) fn put_part(
+        &mut self,
+        alloc: Global,
+        row: &TableRow<'a, '_>,
+        from: usize,
+        most: usize,
+        out: &mut TextBuffer,
+        ends: &mut Vec<usize>,
+    ) -> Result<Option<usize>, AllocError>
+        requires row { IsInRow row.now self.old }
+        requires from { from ≤ length self.old.columns.items }
+        ensures header { IsCellWriter row.now.header self.new }
+        ensures front { IsPrefix out.old.items out.new.items × IsPrefix ends.old.items ends.new.items }
+        ensures facts { IfOk result (λ o. IfSome o (λ next. WritesPart row.now from next out.old.items out.new.items ends.old.items ends.new.items)) }
+        ensures long { IfOk result (λ o. IfSome o (λ next. next < length self.old.columns.items → most < length out.new.items)) }
+    {
+        let count = self.columns.len();
+        reserve_ends(ends, count - from)?;
+        for i in from..count {
+            let before = out.len();
+            let done = self.put_cell(alloc, row, i, out)?;
+            if !done {
+                return Ok(None);
+            }
+            let end = out.len();
+            note_reserved(before, end, ends);
+            if end > most {
+                return Ok(Some(i + 1));
+            }
+        }
+        Ok(Some(count))
+    }
+
+    /// Returns whether the fast way writes the facts of the current row in the columns of facts
+    /// from index `from` on. Each is written after `out` and taken back.
+    ///
+    /// After false, or if memory runs out, more text may follow the old one.
+    pub(crate) fn writes_part(
+        &mut self,
+        alloc: Global,
+        row: &TableRow<'a, '_>,
+        from: usize,
+        out: &mut TextBuffer,
+    ) -> Result<bool, AllocError>
+        requires row { IsInRow row.now self.old }
+        requires from { from ≤ length self.old.columns.items }
+        ensures header { IsCellWriter row.now.header self.new }
+        ensures text { out.new.items ≡ out.old.items }
+        ensures facts { IfOk result (λ written. written ≡ true → HasPart row.now from) }
+    {
+        for i in from..self.columns.len() {
+            let before = out.len();
+            let done = self.put_cell(alloc, row, i, out)?;
+            if !done {
+                return Ok(false);
+            }
+            out.truncate(before);
         }
         Ok(true)
     }

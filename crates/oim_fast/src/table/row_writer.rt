@@ -1,8 +1,8 @@
 //! The fast way from a row to the texts of its facts.
 
-ghost use Rattle.std.specs.Prelude.{◌≡◌, IfOk, true};
+ghost use Rattle.std.specs.Prelude.{◌≡◌, ◌<◌, ◌≤◌, IfOk, IfSome, length, true};
 ghost use mathlib.Core.List.{IsPrefix};
-ghost use Rattle.oim_fast.specs.Facts.{WritesFacts};
+ghost use Rattle.oim_fast.specs.Facts.{HasPart, WritesFacts, WritesPart, fact_columns_in};
 
 use crate::table::cell_writer::CellWriter;
 use ghost_value::GhostValue;
@@ -72,5 +72,56 @@ impl<'a> RowWriter<'a> {
     {
         self.cells.refresh(alloc, row)?;
         self.cells.put_cells(alloc, row, out, ends)
+    }
+
+    /// Returns how many columns of facts the header names.
+    pub fn columns(&self) -> usize
+        ensures { result ≡ length (fact_columns_in self.now self.now.columns) }
+    {
+        self.cells.columns.len()
+    }
+
+    /// Appends the facts of a row in the columns of facts from index `from` on as `put_row` does,
+    /// until the text is longer than `most`. Returns the index of the next column.
+    ///
+    /// Returns None if the fast way leaves the row. After None, or if memory runs out, more may
+    /// follow the old items of both lists; the caller must cut it off.
+    pub fn put_part(
+        &mut self,
+        alloc: Global,
+        row: &TableRow<'a, '_>,
+        from: usize,
+        most: usize,
+        out: &mut TextBuffer,
+        ends: &mut Vec<usize>,
+    ) -> Result<Option<usize>, AllocError>
+        requires header { row.now.header ≡ self.old }
+        requires from { from ≤ length (fact_columns_in row.now.header row.now.header.columns) }
+        ensures same { self.new ≡ self.old }
+        ensures front { IsPrefix out.old.items out.new.items × IsPrefix ends.old.items ends.new.items }
+        ensures facts { IfOk result (λ o. IfSome o (λ next. WritesPart row.now from next out.old.items out.new.items ends.old.items ends.new.items)) }
+        ensures long { IfOk result (λ o. IfSome o (λ next. next < length (fact_columns_in row.now.header row.now.header.columns) → most < length out.new.items)) }
+    {
+        self.cells.refresh(alloc, row)?;
+        self.cells.put_part(alloc, row, from, most, out, ends)
+    }
+
+    /// Returns whether the fast way writes the facts of a row in the columns of facts from index
+    /// `from` on. Each is written after the text of `out` and taken back.
+    pub fn writes_part(
+        &mut self,
+        alloc: Global,
+        row: &TableRow<'a, '_>,
+        from: usize,
+        out: &mut TextBuffer,
+    ) -> Result<bool, AllocError>
+        requires header { row.now.header ≡ self.old }
+        requires from { from ≤ length (fact_columns_in row.now.header row.now.header.columns) }
+        ensures same { self.new ≡ self.old }
+        ensures text { out.new.items ≡ out.old.items }
+        ensures facts { IfOk result (λ written. written ≡ true → HasPart row.now from) }
+    {
+        self.cells.refresh(alloc, row)?;
+        self.cells.writes_part(alloc, row, from, out)
     }
 }

@@ -1,19 +1,11 @@
 -- How the record of a table's fault is found in the files.
-use Rattle.std.specs.Prelude.{◌≡◌, ◌+◌, ℕ, List, ◌∷◌, Option, Some, IfSome, drop, slice_get}
+use Rattle.std.specs.Prelude.{◌≡◌, List, ◌∷◌, IfSome}
 use Rattle.csv.specs.Records.{fields_of}
-use Rattle.oim_records.specs.Grids.{Record, grid}
+use Rattle.oim_records.specs.Grids.{grid}
 use Rattle.oim_rows.specs.declared.fault.TableFault.{TableFault}
 use Rattle.oim_places.specs.FaultLists.{LocatedLeft}
 use Rattle.oim_places.specs.FaultPlaces.{HasRow, stands_at}
 use Rattle.oim_places.specs.declared.fault_places.FaultRecord.{FaultRecord}
-
--- The three readers have these bytes.
-abbrev pub AreReadersOf : Option (List ℕ) → Option (List ℕ) → Option (List ℕ) → List ℕ → Type 0
-AreReadersOf one two three bytes = (one ≡ Some bytes) × (two ≡ Some bytes) × (three ≡ Some bytes)
-
--- The record `before` places after the next one, and those that are left after it.
-abbrev pub TakesNth : List Record → ℕ → Record → Option (List Record) → Type 0
-TakesNth left before row after = (slice_get left before ≡ Some row) × (after ≡ Some (drop (before + 1) left))
 
 -- The fault is the first of those that are left, and this is its record with its place.
 pub record IsFirstIn (rows : LocatedLeft) (f : TableFault) (r : FaultRecord) : Type 0 where

@@ -1,9 +1,9 @@
 -- The rows before a row, as the program keeps them.
-use Rattle.std.specs.Prelude.{◌≡◌, ◌⊎◌, List, [], ◌∷◌, ◌++◌, ℕ, suc, ◌+◌, if◌then◌else◌, Option, Some, None, option_map, unwrap_or}
+use Rattle.std.specs.Prelude.{◌≡◌, ◌⊎◌, List, [], ◌∷◌, ◌++◌, ℕ, suc, ◌+◌, if◌then◌else◌, Option, Some, None, IfSome, drop, option_map, unwrap_or}
 use Rattle.std.specs.List.{list_any}
 use Rattle.std.specs.Str.{bytes_eq}
 use Rattle.csv.specs.Records.{field_at}
-use Rattle.oim_records.specs.Grids.{Field, Record}
+use Rattle.oim_records.specs.Grids.{Field, Record, grid}
 use Rattle.oim_rows.specs.Header.{fault_at}
 use Rattle.oim_rows.specs.RowFacts.{TableHeaderValue}
 use Rattle.oim_rows.specs.declared.fault.TableFault.{TableFault}
@@ -32,6 +32,10 @@ abbrev pub left_of : Option (Option TableFault) → EarlierRows → ℕ → Opti
 left_of None rows n records = option_map (bad_rows rows.header n rows.ids) records
 left_of (Some None) rows n records = Some []
 left_of (Some (Some e)) rows n records = None
+
+-- The records after the row of this number are left.
+abbrev pub IsReading : Option (List ℕ) → ℕ → Option (List Record) → Type 0
+IsReading file number left = IfSome file (λ bytes. left ≡ Some (drop (number + 1) (grid bytes)))
 
 -- These bad rows are still left, or none is left at the end, or there was a failure.
 abbrev pub StillLeft : ℕ → List (List TableFault) → Option (Option TableFault) → Option (List (List TableFault)) → Type 0

@@ -1,6 +1,5 @@
 use Rattle.std.proofs.Common.{OnOk, subst}
 use Rattle.std.specs.Io.KnownBytes.{Appends}
-use Rattle.oim_places.specs.FaultPlaces.{unknown_place}
 use Rattle.oim_places.specs.FaultRows.{no_cause}
 use Rattle.oim_explain.specs.ListedFaults.{fault_text}
 use Rattle.oim_explain.proofs.fault_list.put_alone.Goals as goal

@@ -12,6 +12,6 @@ returns-then-is_same g c =
     let header : fields_of c.in_ok-copied.field-0.header ≡ c.next_row.new.self.header = search rules in
     let row : fields_of c.in_ok-copied.field-0.row ≡ c.next_row.new.self.row = search rules in
     let place : c.in_ok-copied-2.field-0 ≡ c.in-Some.first.now.place = search rules in
-    first_given c.args.rows.now c.next_row.new.self c.next_row.result c.in-Ok-Some.located c.in-Some.first.now c.args.fault.now
+    λ one. first_given c.args.rows.now c.next_row.new.self c.next_row.result c.in-Ok-Some.located c.in-Some.first.now c.args.fault.now
     (record { cells = c.in_ok-copied.field-0; place = c.in_ok-copied-2.field-0 }) given item same
-    c.next_row.ensures.next c.next_row.ensures.places c.next_row.ensures.cells header row place
+    c.next_row.ensures.next (c.next_row.ensures.places one) (c.next_row.ensures.cells one) header row place

@@ -1,6 +1,7 @@
 use Rattle.std.proofs.Common.{◌≡◌, map, take}
 use Rattle.std.specs.List.{All}
-use Rattle.oim_fast.specs.state.Columns.{IsFactColumn, fact_columns_in}
+use Rattle.oim_fast.specs.Facts.{fact_columns_in}
+use Rattle.oim_fast.specs.state.Columns.{IsFactColumn}
 use Rattle.oim_row.specs.Groups.{IsGroupCell}
 use Rattle.oim_fast.specs.declared.frame.fact_column.FactColumn.{FactColumn}
 use Rattle.oim_fast.proofs.frame.fact_column.fact_columns.Given as goal

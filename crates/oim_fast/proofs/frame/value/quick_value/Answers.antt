@@ -1,9 +1,7 @@
-use Rattle.std.proofs.Common.{◌≡◌, None, Some, IfSome, List, ℕ, false, refl, sym, subst, ◌∙◌}
+use Rattle.std.proofs.Common.{None, Some, List, ℕ, false, refl, sym, subst, ◌∙◌}
 use Rattle.oim_cells.specs.Cells.{meaning_of}
 use Rattle.oim_rows.specs.RowFacts.{field_or_empty}
-use Rattle.oim_report.specs.declared.kind.Kind.{Kind}
 use Rattle.oim_fast.specs.state.CellValues.{IsValue}
-use Rattle.oim_fast.specs.state.ValueForms.{form_of}
 use Rattle.oim_fast.specs.declared.frame.value.Value.{Value}
 use Rattle.oim_fast.proofs.ValueFormLaws.{form_plain}
 use Rattle.oim_fast.proofs.ValueLaws.{number_there, plain_value}

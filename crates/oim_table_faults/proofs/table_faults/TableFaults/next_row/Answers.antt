@@ -5,4 +5,4 @@ use Rattle.oim_table_faults.proofs.table_faults.TableFaults.next_row.Goals as go
 pub loop-self-init : goal.loop-self-init
 loop-self-init g c =
     let s = c.args.self.now in
-    record { rows = λ none. still_left s.left s.table s.answered none; again = λ _. refl; begun = omega arith; table = refl; limit = refl }
+    record { rows = λ none. still_left s.left s.table s.answered none; again = λ _. refl; begun = omega arith; same = (refl, refl, refl) }

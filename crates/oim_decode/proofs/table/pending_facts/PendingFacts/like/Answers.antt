@@ -6,5 +6,5 @@ use Rattle.oim_decode.proofs.table.pending_facts.PendingFacts.like.Goals as goal
 pub invariant_of-result : goal.invariant_of-result
 invariant_of-result c = (
   c.in_ok-within.ensures.items ∙ nothing_written.0 ∙ ap behind_commas (sym c.none.ensures),
-  c.in_ok-with_capacity.ensures.items ∙ nothing_written.1 ∙ ap (ends_from 0) (sym c.none.ensures),
+  c.in_ok-ends_of_block.ensures ∙ nothing_written.1 ∙ ap (ends_from 0) (sym c.none.ensures),
 )

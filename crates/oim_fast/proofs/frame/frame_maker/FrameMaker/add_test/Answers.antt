@@ -1,4 +1,4 @@
-use Rattle.std.proofs.Common.{Option, Some, map, refl, sym, ap, ◌∙◌}
+use Rattle.std.proofs.Common.{Some, sym, ap, ◌∙◌}
 use Rattle.std.specs.Option.{option_and_then, option_map}
 use Rattle.std.specs.Borrow.{Bor}
 use Rattle.oim_report.specs.declared.data.Written.{Written}

@@ -1,4 +1,4 @@
-use Rattle.std.proofs.Common.{map, reverse, sym, ap, inl}
+use Rattle.std.proofs.Common.{map, reverse, sym, inl}
 use Rattle.oim_resolve.specs.ProgramCell.{held}
 use Rattle.oim_fast.specs.state.Frames.{entry_of}
 use Rattle.oim_fast.specs.state.FrameParts.{IsPart}

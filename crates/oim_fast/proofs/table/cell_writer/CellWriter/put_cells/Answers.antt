@@ -1,7 +1,7 @@
 use Rattle.std.proofs.Common.{◌<◌, ◌∙◌, ◌++◌, ◌∷◌, [], ℕ, List, length, sym, ap, subst, arith}
 use mathlib.Core.List.{IsPrefix}
 use Rattle.oim_fast.specs.state.CellWriters.{HasFacts, column_at}
-use Rattle.oim_fast.specs.state.Columns.{fact_columns_in}
+use Rattle.oim_fast.specs.Facts.{fact_columns_in}
 use Rattle.oim_fast.proofs.CellWriterLaws.{again, behind, cell_done, cell_failed, cell_left, columns_length, wrote_behind}
 use Rattle.oim_fast.proofs.LoopLaws.{all_given, ends_stay, none_yet, one_more, text_stays}
 use Rattle.oim_fast.proofs.table.cell_writer.CellWriter.put_cells.Goals as goal
@@ -85,5 +85,5 @@ loop-i-init c =
     let x = c.args.row.now in
     record {
       row = c.requires;
-      facts = subst (λ (ns : List ℕ). HasFacts x 0 c.args.out.now.items c.args.out.now.items c.args.ends.now.items ns) (sym c.reserve_ends.ensures) (none_yet x c.args.out.now.items c.args.ends.now.items);
+      facts = subst (λ (ns : List ℕ). HasFacts x 0 c.args.out.now.items c.args.out.now.items c.args.ends.now.items ns) (sym c.reserve_ends.ensures.items) (none_yet x c.args.out.now.items c.args.ends.now.items);
     }

@@ -1,0 +1,108 @@
+use Rattle.std.proofs.Common.{◌<◌, ◌≤◌, ◌∙◌, ◌++◌, ◌∷◌, [], ℕ, List, length, sym, ap, subst, arith}
+use mathlib.Core.List.{IsPrefix}
+use Rattle.oim_fast.specs.state.CellWriters.{column_at}
+use Rattle.oim_fast.specs.Facts.{WritesPart, fact_columns_in}
+use Rattle.oim_fast.proofs.CellWriterLaws.{again, cell_done, cell_failed, cell_left, columns_length}
+use Rattle.oim_fast.proofs.LoopLaws.{part_ends_stay, part_next, part_none, part_stays}
+use Rattle.oim_fast.proofs.table.cell_writer.CellWriter.put_part.Goals as goal
+
+pub put_cell-requires-clause-within : goal.put_cell-requires-clause-within
+put_cell-requires-clause-within c =
+    let x = c.args.row.now in
+    let i = c.loop-i.i in
+    let so = c.loop-i.invariant in
+    omega (arith, c.len-count.ensures, columns_length x.header c.args.self.now.maker.cells.list.items c.args.self.now.columns.items c.requires.row.columns, columns_length x.header c.loop-i.self.maker.cells.list.items c.loop-i.self.columns.items so.row.columns)
+
+pub returns-in_err-done-clause-header : goal.returns-in_err-done-clause-header
+returns-in_err-done-clause-header c = again c.args.row.now _ c.put_cell.ensures.row
+
+pub returns-then-not-done-clause-header : goal.returns-then-not-done-clause-header
+returns-then-not-done-clause-header c = again c.args.row.now _ c.put_cell.ensures.row
+
+pub returns-in_err-reserve_ends-clause-header : goal.returns-in_err-reserve_ends-clause-header
+returns-in_err-reserve_ends-clause-header c = again c.args.row.now c.args.self.now c.requires.row
+
+pub returns-clause-header : goal.returns-clause-header
+returns-clause-header c = again c.args.row.now _ c.loop-i.invariant.row
+
+pub returns-in_err-done-clause-front : goal.returns-in_err-done-clause-front
+returns-in_err-done-clause-front c =
+    let x = c.args.row.now in
+    let i = c.loop-i.i in
+    let so = c.loop-i.invariant in
+    let left = cell_failed x (column_at x.header i) c.loop-i.out.items c.put_cell.new.out.items c.put_cell.result _ c.put_cell.ensures.cell c.in_err-done.was in
+    (subst (IsPrefix c.args.out.now.items) (sym left) (part_stays so.facts), part_ends_stay so.facts)
+
+pub returns-then-not-done-clause-front : goal.returns-then-not-done-clause-front
+returns-then-not-done-clause-front c =
+    let x = c.args.row.now in
+    let i = c.loop-i.i in
+    let so = c.loop-i.invariant in
+    let left = cell_left x (column_at x.header i) c.loop-i.out.items c.put_cell.new.out.items c.put_cell.result c.in_ok-done.done c.put_cell.ensures.cell c.in_ok-done.was c.if-not-done.true in
+    (subst (IsPrefix c.args.out.now.items) (sym left) (part_stays so.facts), part_ends_stay so.facts)
+
+pub returns-clause-front : goal.returns-clause-front
+returns-clause-front c = (part_stays c.loop-i.invariant.facts, part_ends_stay c.loop-i.invariant.facts)
+
+-- The text became long.
+pub returns-then-end-most-clause-header : goal.returns-then-end-most-clause-header
+returns-then-end-most-clause-header c = again c.args.row.now _ c.put_cell.ensures.row
+
+pub returns-then-end-most-clause-front : goal.returns-then-end-most-clause-front
+returns-then-end-most-clause-front c =
+    let x = c.args.row.now in
+    let i = c.loop-i.i in
+    let so = c.loop-i.invariant in
+    let wrote = cell_done x (column_at x.header i) c.loop-i.out.items c.put_cell.new.out.items c.put_cell.result c.in_ok-done.done c.put_cell.ensures.cell c.in_ok-done.was c.if-not-done.false in
+    let lt : i < length (fact_columns_in x.header x.header.columns) =
+    omega (arith, c.len-count.ensures, columns_length x.header c.args.self.now.maker.cells.list.items c.args.self.now.columns.items c.requires.row.columns) in
+    let part = part_next x c.args.from i c.args.out.now.items c.loop-i.out.items c.put_cell.new.out.items c.args.ends.now.items c.loop-i.ends.items c.note_reserved.new.ends.items lt so.facts wrote
+    (λ h. c.note_reserved.ensures.more (omega (arith, h, c.len-before.ensures, c.len-end.ensures)) ∙ ap (λ (m : ℕ). c.loop-i.ends.items ++ m ∷ []) c.len-end.ensures)
+    (λ h. c.note_reserved.ensures.none (omega (arith, h, c.len-before.ensures, c.len-end.ensures))) in
+    (part_stays part, part_ends_stay part)
+
+pub returns-then-end-most-clause-facts : goal.returns-then-end-most-clause-facts
+returns-then-end-most-clause-facts c =
+    let x = c.args.row.now in
+    let i = c.loop-i.i in
+    let so = c.loop-i.invariant in
+    let wrote = cell_done x (column_at x.header i) c.loop-i.out.items c.put_cell.new.out.items c.put_cell.result c.in_ok-done.done c.put_cell.ensures.cell c.in_ok-done.was c.if-not-done.false in
+    let lt : i < length (fact_columns_in x.header x.header.columns) =
+    omega (arith, c.len-count.ensures, columns_length x.header c.args.self.now.maker.cells.list.items c.args.self.now.columns.items c.requires.row.columns) in
+    part_next x c.args.from i c.args.out.now.items c.loop-i.out.items c.put_cell.new.out.items c.args.ends.now.items c.loop-i.ends.items c.note_reserved.new.ends.items lt so.facts wrote
+    (λ h. c.note_reserved.ensures.more (omega (arith, h, c.len-before.ensures, c.len-end.ensures)) ∙ ap (λ (m : ℕ). c.loop-i.ends.items ++ m ∷ []) c.len-end.ensures)
+    (λ h. c.note_reserved.ensures.none (omega (arith, h, c.len-before.ensures, c.len-end.ensures)))
+
+pub returns-then-end-most-clause-long : goal.returns-then-end-most-clause-long
+returns-then-end-most-clause-long c = λ _. omega (arith, c.if-end-most.true, c.len-end.ensures)
+
+pub note_reserved-requires : goal.note_reserved-requires
+note_reserved-requires c = omega (arith, c.loop-i.invariant.room, c.loop-i-test.true)
+
+pub loop-i-preserved : goal.loop-i-preserved
+loop-i-preserved c =
+    let x = c.args.row.now in
+    let i = c.loop-i.i in
+    let so = c.loop-i.invariant in
+    let wrote = cell_done x (column_at x.header i) c.loop-i.out.items c.put_cell.new.out.items c.put_cell.result c.in_ok-done.done c.put_cell.ensures.cell c.in_ok-done.was c.if-not-done.false in
+    let lt : i < length (fact_columns_in x.header x.header.columns) =
+    omega (arith, c.len-count.ensures, columns_length x.header c.args.self.now.maker.cells.list.items c.args.self.now.columns.items c.requires.row.columns) in
+    record {
+      row = c.put_cell.ensures.row;
+      facts = part_next x c.args.from i c.args.out.now.items c.loop-i.out.items c.put_cell.new.out.items c.args.ends.now.items c.loop-i.ends.items c.note_reserved.new.ends.items lt so.facts wrote
+          (λ h. c.note_reserved.ensures.more (omega (arith, h, c.len-before.ensures, c.len-end.ensures)) ∙ ap (λ (m : ℕ). c.loop-i.ends.items ++ m ∷ []) c.len-end.ensures)
+          (λ h. c.note_reserved.ensures.none (omega (arith, h, c.len-before.ensures, c.len-end.ensures)));
+      room = omega (arith, so.room, c.note_reserved.ensures.len, c.note_reserved.ensures.capacity);
+    }
+
+pub loop-i-init : goal.loop-i-init
+loop-i-init c =
+    let x = c.args.row.now in
+    let from = c.args.from in
+    let within : from ≤ length (fact_columns_in x.header x.header.columns) =
+    omega (arith, c.requires.from, columns_length x.header c.args.self.now.maker.cells.list.items c.args.self.now.columns.items c.requires.row.columns) in
+    record {
+      row = c.requires.row;
+      facts = subst (λ (ns : List ℕ). WritesPart x from from c.args.out.now.items c.args.out.now.items c.args.ends.now.items ns) (sym c.reserve_ends.ensures.items) (part_none x from c.args.out.now.items c.args.ends.now.items within);
+      room = omega (arith, c.in_ok-reserve_ends.ensures.room, c.requires.from, c.len-count.ensures);
+    }

@@ -1,0 +1,28 @@
+//! The memory of blocks that are no longer needed.
+
+ghost use Rattle.std.specs.Prelude.{◌≡◌, []};
+
+use std::alloc::Global;
+
+/// The memory of a block that is no longer needed, for the texts of another block. Its contents
+/// have no meaning.
+#[derive(Drop)]
+pub struct Spare {
+    /// The vector of the texts.
+    pub bytes: Vec<u8>,
+    /// The vector of the ends of the texts.
+    pub ends: Vec<usize>,
+}
+
+impl Spare {
+    /// Makes an empty spare, without taking memory.
+    pub fn new(alloc: Global) -> Spare
+        ensures bytes { result.bytes.items ≡ [] }
+        ensures ends { result.ends.items ≡ [] }
+    {
+        Spare {
+            bytes: Vec::new(alloc),
+            ends: Vec::new(alloc),
+        }
+    }
+}
