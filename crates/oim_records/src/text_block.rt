@@ -1,4 +1,6 @@
 //! The length of a UTF-8 prefix of a block of 64 bytes.
+//!
+//! Without it: no shape feels 0.5 %, and `mixed` -0.5 %.
 
 ghost use Rattle.std.specs.Prelude.{◌≡◌, ◌≤◌, take, map};
 ghost use Rattle.std.specs.Simd.Lanes.{mask_l};
