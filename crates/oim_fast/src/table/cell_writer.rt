@@ -47,6 +47,8 @@ fn note_end(before: usize, end: usize, ends: &mut Vec<usize>) -> Result<(), Allo
 }
 
 /// Records the end of a text as `note_end` does. The list has spare capacity.
+///
+/// Without it, by `note_end`: `wide` +0.5 %.
 #[inline(always)]
 fn note_reserved(before: usize, end: usize, ends: &mut Vec<usize>)
     requires { vec_len ends.old < vec_capacity ends.old }
