@@ -1,10 +1,10 @@
-//! The memory of blocks that are no longer needed.
+//! The memory of a written block, which another block uses.
 
 ghost use Rattle.std.specs.Prelude.{◌≡◌, []};
 
 use std::alloc::Global;
 
-/// The memory of a block that is no longer needed, for the texts of another block. Its contents
+/// The memory of a written block, for the texts of another block. Its contents
 /// have no meaning.
 #[derive(Drop)]
 pub struct Spare {
