@@ -10,7 +10,7 @@ use Rattle.csv.specs.declared.parser.State.TheVariants as state
 use Rattle.oim_records.specs.state.Bits.{differ, is_odd_below, is_set}
 use Rattle.oim_records.specs.state.Blocks.{block_scanned, but, cut_behind, cut_rows_behind, firsts, is_opener, led, may_open, rows_behind}
 use Rattle.oim_records.specs.Lines.{ends_line}
-use Rattle.oim_records.specs.state.Bytes.{begins_none, begins_pair, ends_field, is_comma, is_quote, joins_field, is_unquoted, is_ascii, is_high}
+use Rattle.oim_records.specs.state.Bytes.{ends_field, is_comma, is_quote, joins_field, is_unquoted, is_ascii, is_high}
 use Rattle.oim_records.specs.Cuts.{ended, is_between, state_after}
 use Rattle.oim_records.specs.state.Fields.{IsReadTo, IsWithin, ReadsFirst, fields_in}
 use Rattle.oim_records.specs.Grids.{Record, grid, records_left}
@@ -224,12 +224,6 @@ commas = refl
 -- UTF-8: bytes above 127 are not ASCII.
 high_bytes : (map is_high (0 ∷ 127 ∷ 128 ∷ 255 ∷ []) ≡ false ∷ false ∷ true ∷ true ∷ []) × (map is_ascii (0 ∷ 127 ∷ 128 ∷ 255 ∷ []) ≡ true ∷ true ∷ false ∷ false ∷ [])
 high_bytes = (refl, refl)
-
--- UTF-8 (RFC 3629, 4): a two-byte character is %xC2-DF and one of %x80-BF.
-character_bytes :
-    (map begins_pair (0 ∷ 0xC1 ∷ 0xC2 ∷ 0xDF ∷ 0xE0 ∷ []) ≡ false ∷ false ∷ true ∷ true ∷ false ∷ [])
-    × (map begins_none (0 ∷ 0x7F ∷ 0x80 ∷ 0xBF ∷ 0xC0 ∷ []) ≡ false ∷ false ∷ true ∷ true ∷ false ∷ [])
-character_bytes = (refl, refl)
 
 texts : map is_not_text ([] ∷ codes "a" ∷ (0xC3 ∷ 0xA9 ∷ []) ∷ (0xC3 ∷ []) ∷ (0xFF ∷ []) ∷ []) ≡ false ∷ false ∷ false ∷ true ∷ true ∷ []
 unfolding chars is_utf8 lib.Utf8.encode

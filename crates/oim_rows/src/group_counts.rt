@@ -30,6 +30,8 @@ const LOAD: usize = 7;
 
 /// How many of the identifiers in a hash set begin in each group and each stretch of its table, so
 /// that none begins in one that is full. A wrong count costs only time.
+///
+/// Without it: `mixed` -5.8 %, `ids` -5.4 %, `texts` -1.5 %, but `hash_ids` of 3,000 rows 9 times.
 #[derive(Drop)]
 pub(crate) struct GroupCounts {
     /// Two places for each group: its own count and, for the last group of a stretch, that of the

@@ -30,7 +30,8 @@ fn reads_a_piece(alloc: Global, piece: FilePiece) -> bool {
     let mut records = PieceRecords::new(alloc, piece.bytes);
     let is_read = records.read().is_ok();
     let has_both = has_bytes(&records.fields()) && has_texts(records.text_fields());
-    is_all && is_read && has_both && records.take_spare(alloc).as_slice() == FILE
+    let is_same = is_read_again(alloc, &records.fields());
+    is_all && is_read && has_both && is_same && records.take_spare(alloc).as_slice() == FILE
 }
 
 /// Does the same for the first piece of a file.
@@ -38,6 +39,14 @@ fn reads_the_first_piece(alloc: Global, file: &[u8]) -> bool {
     match first_piece(alloc, file) {
         Ok(Some(piece)) => reads_a_piece(alloc, piece),
         _ => false,
+    }
+}
+
+/// Returns whether the `csv` crate's reader finds as many fields.
+fn is_read_again(alloc: Global, fields: &Fields<'_>) -> bool {
+    match fields.read_by_csv(alloc) {
+        Ok(row) => row.len() == fields.len(),
+        Err(_) => false,
     }
 }
 

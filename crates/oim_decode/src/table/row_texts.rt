@@ -21,6 +21,7 @@ use std::marker::Model;
 const LONG: usize = 1_048_576;
 
 /// The most facts of a row that is always written at once.
+/// Without it: `positions` +1.1 %, `ids` +0.9 %, `mixed` +0.8 %, `datapoints` +0.6 %.
 const FEW: usize = 16;
 
 /// How the rows of a table become the texts of their facts.

@@ -47,6 +47,8 @@ fn note_end(before: usize, end: usize, ends: &mut Vec<usize>) -> Result<(), Allo
 }
 
 /// Records the end of a text as `note_end` does. The list has spare capacity.
+///
+/// Without it, by `note_end`: `wide` +0.5 %.
 #[inline(always)]
 fn note_reserved(before: usize, end: usize, ends: &mut Vec<usize>)
     requires { vec_len ends.old < vec_capacity ends.old }
@@ -58,23 +60,6 @@ fn note_reserved(before: usize, end: usize, ends: &mut Vec<usize>)
     if before < end {
         ends.push_reserved(end);
     }
-}
-
-/// The most facts that a block of texts has.
-const BLOCK: usize = 256;
-
-/// Takes memory for the ends of `count` more texts, at first for a whole block.
-#[inline(always)]
-fn reserve_ends(ends: &mut Vec<usize>, count: usize) -> Result<(), AllocError>
-    ensures items { ends.new.items ≡ ends.old.items }
-    ensures room { OnOk result (vec_len ends.new + count ≤ vec_capacity ends.new) }
-{
-    let more = if ends.is_empty() {
-        count.max(BLOCK)
-    } else {
-        count
-    };
-    ends.reserve(more)
 }
 
 /// Returns whether the cell at a place has no fact, so that nothing else of its column matters.
@@ -214,7 +199,7 @@ impl<'a> CellWriter<'a> {
         ensures facts { IfOk result (λ written. written ≡ true → WritesFacts row.now out.old.items out.new.items ends.old.items ends.new.items) }
     {
         let count = self.columns.len();
-        reserve_ends(ends, count)?;
+        ends.reserve(count)?;
         for i in 0..count {
             let before = out.len();
             let done = self.put_cell(alloc, row, i, out)?;
@@ -250,7 +235,7 @@ impl<'a> CellWriter<'a> {
         ensures long { IfOk result (λ o. IfSome o (λ next. next < length self.old.columns.items → most < length out.new.items)) }
     {
         let count = self.columns.len();
-        reserve_ends(ends, count - from)?;
+        ends.reserve(count - from)?;
         for i in from..count {
             let before = out.len();
             let done = self.put_cell(alloc, row, i, out)?;

@@ -22,8 +22,8 @@ returns-then-not-done-clause-header c = again c.args.row.now _ c.put_cell.ensure
 pub returns-in_err-note_end-clause-header : goal.returns-in_err-note_end-clause-header
 returns-in_err-note_end-clause-header c = again c.args.row.now _ c.put_cell.ensures.row
 
-pub returns-in_err-reserve_ends-clause-header : goal.returns-in_err-reserve_ends-clause-header
-returns-in_err-reserve_ends-clause-header c = again c.args.row.now c.args.self.now c.requires
+pub returns-in_err-reserve-clause-header : goal.returns-in_err-reserve-clause-header
+returns-in_err-reserve-clause-header c = again c.args.row.now c.args.self.now c.requires
 
 pub returns-clause-header : goal.returns-clause-header
 returns-clause-header c = again c.args.row.now _ c.loop-i.invariant.row
@@ -85,5 +85,5 @@ loop-i-init c =
     let x = c.args.row.now in
     record {
       row = c.requires;
-      facts = subst (λ (ns : List ℕ). HasFacts x 0 c.args.out.now.items c.args.out.now.items c.args.ends.now.items ns) (sym c.reserve_ends.ensures.items) (none_yet x c.args.out.now.items c.args.ends.now.items);
+      facts = subst (λ (ns : List ℕ). HasFacts x 0 c.args.out.now.items c.args.out.now.items c.args.ends.now.items ns) (sym c.reserve.ensures.items) (none_yet x c.args.out.now.items c.args.ends.now.items);
     }

@@ -19,8 +19,8 @@ returns-in_err-done-clause-header c = again c.args.row.now _ c.put_cell.ensures.
 pub returns-then-not-done-clause-header : goal.returns-then-not-done-clause-header
 returns-then-not-done-clause-header c = again c.args.row.now _ c.put_cell.ensures.row
 
-pub returns-in_err-reserve_ends-clause-header : goal.returns-in_err-reserve_ends-clause-header
-returns-in_err-reserve_ends-clause-header c = again c.args.row.now c.args.self.now c.requires.row
+pub returns-in_err-reserve-clause-header : goal.returns-in_err-reserve-clause-header
+returns-in_err-reserve-clause-header c = again c.args.row.now c.args.self.now c.requires.row
 
 pub returns-clause-header : goal.returns-clause-header
 returns-clause-header c = again c.args.row.now _ c.loop-i.invariant.row
@@ -103,6 +103,6 @@ loop-i-init c =
     omega (arith, c.requires.from, columns_length x.header c.args.self.now.maker.cells.list.items c.args.self.now.columns.items c.requires.row.columns) in
     record {
       row = c.requires.row;
-      facts = subst (λ (ns : List ℕ). WritesPart x from from c.args.out.now.items c.args.out.now.items c.args.ends.now.items ns) (sym c.reserve_ends.ensures.items) (part_none x from c.args.out.now.items c.args.ends.now.items within);
-      room = omega (arith, c.in_ok-reserve_ends.ensures.room, c.requires.from, c.len-count.ensures);
+      facts = subst (λ (ns : List ℕ). WritesPart x from from c.args.out.now.items c.args.out.now.items c.args.ends.now.items ns) (sym c.reserve.ensures.items) (part_none x from c.args.out.now.items c.args.ends.now.items within);
+      room = omega (arith, c.in_ok-reserve.ensures.ok, c.requires.from, c.len-count.ensures);
     }
