@@ -7,7 +7,7 @@ use Rattle.csv.specs.declared.parser.State.TheVariants as state
 use Rattle.oim_records.specs.Grids.{Record, grid, records_left}
 use Rattle.oim_records.specs.Reads.{TakesRecord}
 use Rattle.oim_records.specs.state.Fields.{IsFirstRecord}
-use Rattle.oim_records.specs.state.KeptTexts.{BeginsWith, HoldsFile, IsFileOf, IsFirstOf, KeepsFile, file_text}
+use Rattle.oim_records.specs.state.KeptTexts.{BeginsWith, HoldsFile, IsKeptFileOf, IsFirstOf, KeepsFile, file_text}
 use Rattle.oim_records.proofs.PieceReads.{line-before}
 use Rattle.oim_records.proofs.Ranges.{same-behind}
 
@@ -27,7 +27,7 @@ file-unread bytes end at start current low none = (
   low,
   λ file e.
       let same : take end bytes ≡ file = cc in
-      subst (λ xs. IsFileOf (take end bytes) at start current xs) same (record { long = refl; left = refl; begins = begins-none (drop start (take end bytes)) current none }),
+      subst (λ xs. IsKeptFileOf (take end bytes) at start current xs) same (record { long = refl; left = refl; begins = begins-none (drop start (take end bytes)) current none }),
 )
 
 -- No record is left.

@@ -214,8 +214,8 @@ impl RowPlan<'_> {
         Ok(())
     }
 
-    /// Tests the cells of row `number` as `facts` does, and keeps no fact. The `csv` crate reads the
-    /// row again from the file's bytes.
+    /// Tests the cells of row `number` as `facts` does, and keeps no fact. The `csv` crate reads
+    /// the row again from the file's bytes.
     ///
     /// Returns the fault of the first cell that has one, or Memory if memory runs out.
     pub fn check(

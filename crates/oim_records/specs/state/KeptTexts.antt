@@ -23,11 +23,11 @@ BeginsWith text r = 0 < length r → IsFirstOf (records_left state.StartRecord t
 
 -- The current record begins at `start` in the file's text, whose bytes from `at` on are those of
 -- the text.
-pub record IsFileOf (text : List ℕ) (at start : ℕ) (current : Record) (file : List ℕ) : Type 0 where
+pub record IsKeptFileOf (text : List ℕ) (at start : ℕ) (current : Record) (file : List ℕ) : Type 0 where
   pub long : length file ≡ length text
   pub left : drop at file ≡ drop at text
   pub begins : BeginsWith (drop start file) current
 
 -- What is kept of the text that ends at `end`.
 abbrev pub HoldsFile : Option (Option (List ℕ)) → List ℕ → ℕ → ℕ → ℕ → Record → Type 0
-HoldsFile kept bytes end at start current = (start ≤ end) × ((file : List ℕ) → file_text kept (take end bytes) ≡ Some file → IsFileOf (take end bytes) at start current file)
+HoldsFile kept bytes end at start current = (start ≤ end) × ((file : List ℕ) → file_text kept (take end bytes) ≡ Some file → IsKeptFileOf (take end bytes) at start current file)
