@@ -35,7 +35,7 @@ const WAITING_BYTES: usize = 8_388_608;
 
 /// How often a helper thread looks for a piece again before it sleeps. Waking it would cost its
 /// worker more than that, and all others wait for the worker.
-const LOOKS: usize = 50;
+const LOOKS: usize = 10;
 
 /// How many columns, groups and dimensions of a template are looked at for each table. To open the
 /// table takes longer.

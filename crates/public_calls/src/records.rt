@@ -50,6 +50,16 @@ fn is_read_again(alloc: Global, fields: &Fields<'_>) -> bool {
     }
 }
 
+/// Returns whether a file's first record is read after a piece was taken and put back.
+fn reads_after_pieces(alloc: Global, file: &[u8]) -> Result<bool, ReadFault> {
+    let mut pieces = PieceReader::new(alloc, file);
+    let Some(piece) = pieces.next(1, false)? else {
+        return Ok(false);
+    };
+    let mut records = RecordReader::after_pieces(alloc, piece.bytes, pieces);
+    Ok(records.read()? && records.fields().get(1) == Some(b"b".as_slice()))
+}
+
 fn has_bytes(fields: &Fields<'_>) -> bool {
     fields.len() == 2 && fields.get(0).is_some()
 }
@@ -85,6 +95,7 @@ fn cuts() -> bool {
 /// Returns whether all calls answer as they must.
 fn hold(alloc: Global) -> bool {
     matches!(reads_a_record(alloc), Ok(true))
+        && matches!(reads_after_pieces(alloc, FILE), Ok(true))
         && cuts()
         && reads_the_first_piece(alloc, FILE)
         && reads_by_csv(alloc, FILE)
