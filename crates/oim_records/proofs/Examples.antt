@@ -10,10 +10,13 @@ use Rattle.csv.specs.declared.parser.State.TheVariants as state
 use Rattle.oim_records.specs.state.Bits.{differ, is_odd_below, is_set}
 use Rattle.oim_records.specs.state.Blocks.{block_scanned, but, cut_behind, cut_rows_behind, firsts, is_opener, led, may_open, rows_behind}
 use Rattle.oim_records.specs.Lines.{ends_line}
-use Rattle.oim_records.specs.state.Bytes.{ends_field, is_comma, is_quote, joins_field, is_unquoted, is_ascii, is_high}
+use Rattle.oim_records.specs.state.Bytes.{begins_none, begins_pair, ends_field, is_comma, is_quote, joins_field, is_unquoted, is_ascii, is_high}
 use Rattle.oim_records.specs.Cuts.{ended, is_between, state_after}
 use Rattle.oim_records.specs.state.Fields.{IsReadTo, IsWithin, ReadsFirst, fields_in}
 use Rattle.oim_records.specs.Grids.{Record, grid, records_left}
+use Rattle.oim_records.specs.state.KeptStates.{kept_in}
+use Rattle.oim_records.specs.state.KeptTexts.{BeginsWith, file_text}
+use Rattle.oim_records.specs.declared.kept_text.Kept.TheVariants as kept
 use Rattle.oim_records.specs.PieceTaking.{bytes_left}
 use Rattle.oim_records.specs.Pieces.{unread}
 use Rattle.oim_records.specs.state.Places as places
@@ -225,6 +228,12 @@ commas = refl
 high_bytes : (map is_high (0 ∷ 127 ∷ 128 ∷ 255 ∷ []) ≡ false ∷ false ∷ true ∷ true ∷ []) × (map is_ascii (0 ∷ 127 ∷ 128 ∷ 255 ∷ []) ≡ true ∷ true ∷ false ∷ false ∷ [])
 high_bytes = (refl, refl)
 
+-- UTF-8 (RFC 3629, 4): a two-byte character is %xC2-DF and one of %x80-BF.
+character_bytes :
+    (map begins_pair (0 ∷ 0xC1 ∷ 0xC2 ∷ 0xDF ∷ 0xE0 ∷ []) ≡ false ∷ false ∷ true ∷ true ∷ false ∷ [])
+    × (map begins_none (0 ∷ 0x7F ∷ 0x80 ∷ 0xBF ∷ 0xC0 ∷ []) ≡ false ∷ false ∷ true ∷ true ∷ false ∷ [])
+character_bytes = (refl, refl)
+
 texts : map is_not_text ([] ∷ codes "a" ∷ (0xC3 ∷ 0xA9 ∷ []) ∷ (0xC3 ∷ []) ∷ (0xFF ∷ []) ∷ []) ≡ false ∷ false ∷ false ∷ true ∷ true ∷ []
 unfolding chars is_utf8 lib.Utf8.encode
 texts = refl
@@ -256,3 +265,18 @@ left_of_a_file : (left_in false ((codes "x" ∷ []) ∷ []) (record { held = cod
     × (left_in false [] (record { held = codes "a"; behind = None }) ≡ None) × (left_in true two_rows (record { held = codes "a"; behind = None }) ≡ Some [])
 unfolding records_left records_from next_record
 left_of_a_file = (refl, refl, refl)
+
+-- THE FILE'S TEXT: the text itself while it has not changed, else its copy, unless that is lost.
+file_texts : (file_text None (codes "a") ≡ Some (codes "a")) × (file_text (Some (Some (codes "b"))) (codes "a") ≡ Some (codes "b")) × (file_text (Some None) (codes "a") ≡ None)
+file_texts = (refl, refl, refl)
+
+kept_states : (kept_in kept.Unchanged (codes "a") ≡ None) × (kept_in kept.Copied (codes "a") ≡ Some (Some (codes "a"))) × (kept_in kept.Lost (codes "a") ≡ Some None)
+kept_states = (refl, refl, refl)
+
+record_begins : BeginsWith (codes "\na,b\nc") (codes "a" ∷ codes "b" ∷ [])
+unfolding records_left records_from next_record
+record_begins some = refl
+
+later_record : BeginsWith (codes "a\nc") (codes "c" ∷ []) → codes "c" ∷ [] ≡ codes "a" ∷ []
+unfolding records_left records_from next_record
+later_record h = h (omega arith)
