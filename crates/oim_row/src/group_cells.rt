@@ -62,7 +62,7 @@ fn place_among(groups: &[(Text, Level)], name: &str) -> Choice
     ensures { (column : ColumnValue) → groups.now ≡ column.groups → Says column (a_text name.now) result }
 {
     for i in 0..groups.len() {
-        if groups[i].0.as_str() == name {
+        if is_same(groups[i].0.as_str(), name) {
             return Choice::Group(i);
         }
     }
