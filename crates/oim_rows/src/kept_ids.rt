@@ -126,6 +126,14 @@ impl KeptIds {
         }
     }
 
+    /// Returns whether there are no identifiers.
+    #[inline(always)]
+    pub(crate) fn is_empty(&self) -> bool
+        ensures { result ≡ true → (id : List ℕ) → is_kept (self.now).hashed.keys (self.now).ordered id ≡ false }
+    {
+        self.hashed.is_empty() && self.ordered.is_empty()
+    }
+
     /// Returns whether a text is one of the identifiers.
     pub(crate) fn has(&self, id: &str) -> bool
         ensures { result ≡ is_kept (self.now).hashed.keys (self.now).ordered id.now }
