@@ -158,8 +158,7 @@ impl KeptIds {
         if is_ordered(&self.ordered, id.as_str()) {
             return Ok(false);
         }
-        self.counts.make_room(&mut self.hashed);
-        if !self.counts.is_full(&id) {
+        if self.counts.make_room(&mut self.hashed, &id) {
             return insert_hashed(&mut self.hashed, id);
         }
         if self.hashed.contains(&id) {
