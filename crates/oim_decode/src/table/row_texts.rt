@@ -93,6 +93,7 @@ impl<'a> RowTexts<'a> {
     /// of facts.
     ///
     /// Fails as `put_row` does.
+    #[inline(always)]
     pub(crate) fn begin_row(
         &mut self,
         alloc: Global,
@@ -169,7 +170,7 @@ impl<'a> RowTexts<'a> {
     }
 
     /// Begins a row whose facts may be many, as `begin_fast` does.
-    #[inline(always)]
+    #[inline(never)]
     fn begin_long(
         &mut self,
         alloc: Global,
