@@ -62,6 +62,18 @@ fn note_reserved(before: usize, end: usize, ends: &mut Vec<usize>)
     }
 }
 
+/// A loop over the cells of a whole row. `put_cell` is large, and a proved program calls what is
+/// large unless one place has it. So each of the three loops has a `put_cell` of its own.
+///
+/// Without it, by a call for each cell: `positions` +2.4 %, `ids` +2.2 %, `mixed` +2.1 %.
+struct WholeRow;
+
+/// A loop over the cells of a part of a row.
+struct RowPart;
+
+/// A loop over cells that are only tested.
+struct RowTest;
+
 /// Returns whether the cell at a place has no fact, so that nothing else of its column matters.
 #[cold]
 #[inline(never)]
@@ -142,7 +154,7 @@ impl<'a> CellWriter<'a> {
     /// Appends the fact of the current row in the column at a place, with a comma before it, if it
     /// has one. Returns false, and appends nothing, if the fast way leaves it.
     #[inline(always)]
-    fn put_cell(
+    fn put_cell<Loop>(
         &mut self,
         alloc: Global,
         row: &TableRow<'a, '_>,
@@ -202,7 +214,7 @@ impl<'a> CellWriter<'a> {
         ends.reserve(count)?;
         for i in 0..count {
             let before = out.len();
-            let done = self.put_cell(alloc, row, i, out)?;
+            let done = self.put_cell::<WholeRow>(alloc, row, i, out)?;
             if !done {
                 return Ok(false);
             }
@@ -238,7 +250,7 @@ impl<'a> CellWriter<'a> {
         ends.reserve(count - from)?;
         for i in from..count {
             let before = out.len();
-            let done = self.put_cell(alloc, row, i, out)?;
+            let done = self.put_cell::<RowPart>(alloc, row, i, out)?;
             if !done {
                 return Ok(None);
             }
@@ -270,7 +282,7 @@ impl<'a> CellWriter<'a> {
     {
         for i in from..self.columns.len() {
             let before = out.len();
-            let done = self.put_cell(alloc, row, i, out)?;
+            let done = self.put_cell::<RowTest>(alloc, row, i, out)?;
             if !done {
                 return Ok(false);
             }
