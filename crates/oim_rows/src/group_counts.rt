@@ -128,6 +128,8 @@ impl GroupCounts {
 
     /// Counts an identifier whose group or stretch was full, after the table grew. It grows if it
     /// is at least half full, as it may be in a good report. Returns whether it counted it.
+    ///
+    /// Without it: `short_ids` +26 %, since a search among those in order follows for each row.
     #[cold]
     #[inline(never)]
     fn make_place(&mut self, ids: &mut IndexSet<RowId>, id: &RowId) -> bool
