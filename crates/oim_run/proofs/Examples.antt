@@ -8,7 +8,7 @@ use Rattle.clap.proofs.OnLiterals.{clap_on_literals}
 use Rattle.clap.specs.Words.{Row, Text, fault_of, first_of, matches_of, one_of}
 use Rattle.clap.specs.declared.error.kind.ErrorKind.TheVariants as kind
 use Rattle.oim_convert.specs.Histories.{AreDecoded}
-use Rattle.oim_convert.specs.Runs.{IsFromOutside}
+use Rattle.oim_convert.specs.Runs.{IsFromOutside, early_fault}
 use Rattle.oim_convert.specs.declared.fault.ConvertFault.TheVariants as fault
 use Rattle.oim_json.specs.JsonText.{head_text}
 use Rattle.oim_json.specs.Sinks.{SinkView}
@@ -35,7 +35,6 @@ use Rattle.oim_run.specs.CommandLine.{AreLayouts, Words, are_explained, command_
 use Rattle.oim_run.specs.Buffers.{flushed}
 use Rattle.oim_files.specs.Folders.{Files}
 use Rattle.oim_run.specs.Lines.{line_of, status_of, terminal_line_of, unprinted_status, words_status}
-use Rattle.oim_run.specs.state.Courses.{reader_fault}
 use Rattle.oim_run.specs.state.Naming.{outcome_at, table_ids}
 use Rattle.oim_run.specs.Outcomes.{AreDefined, AreHistoriesWith, Breaks, Leaves, WritesStreams, refused_tables}
 use Rattle.oim_run.specs.Runs.{range_fault, table_files}
@@ -295,10 +294,10 @@ ring_past_the_largest = refl
 
 -- Settings in range.
 
-as_many_readers_as_tables : reader_fault 2 2 ≡ None
+as_many_readers_as_tables : early_fault 1 1 2 2 ≡ None
 as_many_readers_as_tables = refl
 
-too_few_readers : reader_fault 1 2 ≡ Some fault.WrongReaders
+too_few_readers : early_fault 1 1 1 2 ≡ Some fault.WrongReaders
 too_few_readers = refl
 
 -- Outcomes.
