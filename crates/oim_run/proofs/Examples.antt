@@ -22,7 +22,8 @@ use Rattle.oim_report.specs.declared.data.Table.{Table}
 use Rattle.oim_entries.specs.declared.fault.MetaFault.{MetaFault}
 use Rattle.oim_entries.specs.declared.fault.MetaFault.TheVariants as refused
 use Rattle.oim_meta.specs.Findings.{finding}
-use Rattle.oim_meta.specs.declared.findings.Finding.{Finding}
+use Rattle.oim_files.specs.FileFaults.{of_metadata}
+use Rattle.oim_files.specs.declared.early_fault.FileFault.{FileFault}
 use Rattle.oim_resolve.specs.declared.fact.CellFault.TheVariants as cell
 use Rattle.oim_ring.specs.declared.item.Ending.TheVariants.{Refused}
 use Rattle.oim_ring.specs.declared.item.Item.{Item}
@@ -242,8 +243,8 @@ another_word = refl
 -- The files.
 
 -- A fault at a place, which no line names.
-abbrev at_tables : MetaFault → Finding
-at_tables f = finding f (codes "tables" ∷ [])
+abbrev at_tables : MetaFault → FileFault
+at_tables f = of_metadata (finding f (codes "tables" ∷ []))
 
 early_outcomes : map outcome_of (early.Report source.Report (at_tables refused.TooLarge) ∷ early.CannotRead (codes "x.csv") ∷ early.Memory ∷ [])
     ≡ outcome.Report source.Report (at_tables refused.TooLarge) ∷ outcome.CannotRead (codes "x.csv") ∷ outcome.Run fault.Memory ∷ []
