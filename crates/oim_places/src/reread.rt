@@ -7,8 +7,8 @@ ghost use Rattle.std.specs.Prelude.{◌≡◌, IfOk, IfSome, Ok};
 ghost use Rattle.oim_files.specs.Steps.{GivesRest};
 ghost use Rattle.oim_places.specs.Reports.{IsReportOf};
 
+use crate::json_values::after_mark;
 use crate::parameter_lines::ParameterLines;
-use crate::parts::after_mark;
 use oim_files::{EarlyFault, FileFault, Folder, Source, folder_of, metadata_at, report_with};
 use oim_meta::{MetaFault, Report};
 use serde_json::Value;
