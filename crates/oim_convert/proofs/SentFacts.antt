@@ -19,6 +19,8 @@ use Rattle.oim_rows.specs.declared.fault.TableKind.TheVariants as kind
 use Rattle.oim_convert.specs.Answer.{ending_of}
 use Rattle.oim_records.specs.Reads.{IsFileOf}
 use Rattle.oim_convert.specs.Histories.{IsDecoded, IsGiven, facts_in}
+pub use Rattle.oim_convert.specs.state.Reading.{IsReading}
+use Rattle.oim_convert.specs.state.Reading.{KeepsStream}
 use Rattle.oim_convert.proofs.TableFiles.{has_file, has_no_file, refused_header}
 
 -- Blocks.
@@ -67,12 +69,6 @@ reads_on table whole mid rows (m ∷ more) (Some rest) (inr (some, e, outside, o
     let no : m ∷ (more ++ some2.0) ≡ [] = some2.1 ∙ ap (λ (x : Stream). x.rows) only in absurd (cc no)
 
 -- The blocks of a table.
-
--- The facts of the rows read so far are those given and those pending, and this stream is left.
-pub record IsReading (table : ℕ) (whole : Stream) (given pending : List Fact) (left : Option Stream) : Type 0 where
-  pub rows : List (List Fact)
-  pub reads : ReadsRows table whole rows left
-  pub holds : given ++ pending ≡ facts_of_rows rows
 
 pub reading_begins : (table : ℕ) (left : Option Stream) (given pending : List Fact) → given ≡ [] → pending ≡ [] → IfSome left (λ whole. IsReading table whole given pending left)
 reading_begins table None given pending none waits = tt

@@ -1,21 +1,26 @@
 //! One piece that is under way.
 
-ghost use Rattle.std.specs.Prelude.{◌≡◌, Some};
+ghost use Rattle.std.specs.Prelude.{◌≡◌, ◌≤◌, ◌+◌, IfErr, IfOk, Some};
+ghost use Rattle.csv.specs.declared.parser.State.TheVariants as state;
+ghost use Rattle.oim_records.specs.Grids.{records_left};
 ghost use Rattle.oim_pieces.specs.state.PiecesUnderWay.{IsPieceAnswer};
-ghost use Rattle.oim_pieces.specs.state.Channels.{IsOf};
+ghost use Rattle.oim_pieces.specs.state.Channels.{IsOf, IsPiece};
 
+use crate::cutter::CutPiece;
 use crate::decoded::Asked;
-use crate::in_channel::Pending;
+use crate::in_channel::{Pending, PieceToDecode};
 use crate::table_threads::TableThreads;
 use oim_decode::PieceAnswer;
 use std::marker::Model;
 use std::sync::Wait;
 
-/// The answer for a piece: it arrives through the piece's channel, or is here already.
+/// The answer for a piece: it arrives through the piece's channel, or is here already, or the piece
+/// is kept here until it is asked for.
 #[derive(Drop)]
 pub(crate) enum ComingAnswer<'a> {
     Awaited(Pending<'a>),
     Here(PieceAnswer),
+    Kept(PieceToDecode<'a>),
 }
 
 /// A piece that is under way.
@@ -70,6 +75,48 @@ impl<'a> PieceUnderWay<'a> {
         }
     }
 
+    /// Makes a piece that is decoded when its answer is asked for.
+    pub(crate) fn kept(asked: Asked<'a>, to_decode: PieceToDecode<'a>) -> PieceUnderWay<'a>
+        requires piece { IsPiece asked to_decode }
+        requires first { 1 ≤ asked.first }
+        ensures { (result.header ≡ asked.entry.header.value) × (result.first ≡ asked.entry.first) × (result.rows ≡ asked.entry.rows.value) }
+    {
+        PieceUnderWay {
+            asked,
+            coming: ComingAnswer::Kept(to_decode),
+        }
+    }
+
+    /// Returns whether the piece is decoded only when its answer is asked for.
+    pub(crate) fn is_kept(&self) -> bool {
+        matches!(&self.coming, ComingAnswer::Kept(_))
+    }
+
+    /// Returns the bytes of a piece that was kept, and the number of its first row. Returns any
+    /// other piece as it is.
+    pub(crate) fn into_cut(self) -> Result<CutPiece, PieceUnderWay<'a>>
+        ensures first { IfOk result (λ piece. (piece.first ≡ self.entry.first) × (1 ≤ piece.first) × (piece.first ≤ self.entry.header.limit + 1)) }
+        ensures rows { IfOk result (λ piece. records_left state.StartRecord piece.bytes.items ≡ self.entry.rows) }
+        ensures other { IfErr result (λ piece. piece ≡ self.entry) }
+    {
+        let PieceUnderWay { asked, coming } = self;
+        match coming {
+            ComingAnswer::Kept(to_decode) => {
+                let PieceToDecode {
+                    asked: _,
+                    bytes,
+                    spares: _,
+                } = to_decode;
+                Ok(CutPiece {
+                    bytes,
+                    first: asked.first,
+                    stays: true,
+                })
+            }
+            coming => Err(PieceUnderWay { asked, coming }),
+        }
+    }
+
     /// Returns the number of the piece's first row.
     pub(crate) fn first(&self) -> u32
         ensures { result ≡ self.now.first }
@@ -103,6 +150,7 @@ impl<'a> PieceUnderWay<'a> {
                 threads.await_answer(rt, pending, first)
             }
             ComingAnswer::Here(answer) => answer,
+            ComingAnswer::Kept(to_decode) => threads.decode(to_decode),
         }
     }
 }

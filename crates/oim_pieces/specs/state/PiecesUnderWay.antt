@@ -90,12 +90,6 @@ IsEndOfTable table left (Some e) = IsOutside table e
 abbrev pub steps_in : UnderWayLeft → Option ℕ
 steps_in f = steps_for (length f.pieces) f.cutter.unread
 
--- There are no more steps than before, if their number was known.
-abbrev pub NoMoreSteps : Option ℕ → Option ℕ → Type 0
-NoMoreSteps None new = ⊤
-NoMoreSteps (Some n) None = ⊥
-NoMoreSteps (Some n) (Some m) = m ≤ n
-
 -- The first piece under way was joined to rows with the identifiers `ids`, which become `ids'`.
 pub record IsFront (piece : PieceRowsLeft) (ids : List Field) (s : Stream) (ids' : List Field) : Type 0 where
   pub answer : Apart
