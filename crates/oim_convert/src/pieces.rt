@@ -109,7 +109,7 @@ fn send_pieces<'s, E, R: Read + Drop, T: Threads + Wait + Sync + 's>(
 }
 
 /// Sends the pieces of an opened table with spares, and returns its ending. If the facts of a piece
-/// are far longer than its rows, this worker alone sends the rest of the table.
+/// are far longer than its rows, no other thread helps with the rest of the table.
 fn send_opened<'s, E, R: Read + Drop, T: Threads + Wait + Sync + 's>(
     scope: &Scope<'s, E>,
     rt: &'s T,

@@ -251,7 +251,7 @@ impl<'a, R: Read + Drop> PiecesUnderWay<'a, R> {
     ///
     /// The rows of the head, and a short piece from a slow reader, are given without waiting for
     /// others. After a longer one, others may be read before it is given, unless their facts take
-    /// much memory. Nothing is read behind a piece whose facts are so long that it was not decoded.
+    /// much memory. Nothing is read after a piece whose facts are so long that it was not decoded.
     fn may_cut<T: Threads>(&self, rt: &T) -> bool {
         match self.under_way.front() {
             Some(_) => {

@@ -353,7 +353,7 @@ impl TextGrowth {
         usual.min(added.min(copied).max(1))
     }
 
-    /// Returns how many bytes are added at most to the facts of a piece of `bytes` bytes with `rows`
+    /// Returns how many bytes are added at most to the facts of a piece of `bytes` bytes and `rows`
     /// rows: by the metadata, or by the copies of a cell if a cell of the piece may be long.
     fn added_to(&self, bytes: usize, rows: usize, may_be_long: bool) -> usize {
         let added = rows
