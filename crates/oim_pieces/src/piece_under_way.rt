@@ -4,7 +4,8 @@ ghost use Rattle.std.specs.Prelude.{◌≡◌, ◌≤◌, ◌+◌, IfErr, IfOk, 
 ghost use Rattle.csv.specs.declared.parser.State.TheVariants as state;
 ghost use Rattle.oim_records.specs.Grids.{records_left};
 ghost use Rattle.oim_pieces.specs.state.PiecesUnderWay.{IsPieceAnswer};
-ghost use Rattle.oim_pieces.specs.state.Channels.{IsOf, IsPiece};
+ghost use Rattle.oim_pieces.specs.state.Channels.{IsOf};
+ghost use Rattle.oim_pieces.specs.state.ComingAnswers.{IsKept};
 
 use crate::cutter::CutPiece;
 use crate::decoded::Asked;
@@ -14,13 +15,13 @@ use oim_decode::PieceAnswer;
 use std::marker::Model;
 use std::sync::Wait;
 
-/// The answer for a piece: it arrives through the piece's channel, or is here already, or the piece
-/// is kept here until it is asked for.
+/// The answer for a piece: it arrives through the piece's channel, or is here already, or the bytes
+/// of the piece are kept here until it is asked for.
 #[derive(Drop)]
 pub(crate) enum ComingAnswer<'a> {
     Awaited(Pending<'a>),
     Here(PieceAnswer),
-    Kept(PieceToDecode<'a>),
+    Kept(Vec<u8>),
 }
 
 /// A piece that is under way.
@@ -75,15 +76,14 @@ impl<'a> PieceUnderWay<'a> {
         }
     }
 
-    /// Makes a piece that is decoded when its answer is asked for.
-    pub(crate) fn kept(asked: Asked<'a>, to_decode: PieceToDecode<'a>) -> PieceUnderWay<'a>
-        requires piece { IsPiece asked to_decode }
-        requires first { 1 ≤ asked.first }
+    /// Makes a piece of these bytes that is decoded when its answer is asked for.
+    pub(crate) fn kept(asked: Asked<'a>, bytes: Vec<u8>) -> PieceUnderWay<'a>
+        requires { IsKept asked bytes.items }
         ensures { (result.header ≡ asked.entry.header.value) × (result.first ≡ asked.entry.first) × (result.rows ≡ asked.entry.rows.value) }
     {
         PieceUnderWay {
             asked,
-            coming: ComingAnswer::Kept(to_decode),
+            coming: ComingAnswer::Kept(bytes),
         }
     }
 
@@ -101,18 +101,11 @@ impl<'a> PieceUnderWay<'a> {
     {
         let PieceUnderWay { asked, coming } = self;
         match coming {
-            ComingAnswer::Kept(to_decode) => {
-                let PieceToDecode {
-                    asked: _,
-                    bytes,
-                    spares: _,
-                } = to_decode;
-                Ok(CutPiece {
-                    bytes,
-                    first: asked.first,
-                    stays: true,
-                })
-            }
+            ComingAnswer::Kept(bytes) => Ok(CutPiece {
+                bytes,
+                first: asked.first,
+                stays: true,
+            }),
             coming => Err(PieceUnderWay { asked, coming }),
         }
     }
@@ -150,7 +143,11 @@ impl<'a> PieceUnderWay<'a> {
                 threads.await_answer(rt, pending, first)
             }
             ComingAnswer::Here(answer) => answer,
-            ComingAnswer::Kept(to_decode) => threads.decode(to_decode),
+            ComingAnswer::Kept(bytes) => threads.decode(PieceToDecode {
+                asked,
+                bytes,
+                spares: 0,
+            }),
         }
     }
 }

@@ -390,7 +390,9 @@ impl<'a, R: Read + Drop> PiecesUnderWay<'a, R> {
         if self.under_way.len() != 1 {
             return None;
         }
-        let piece = self.under_way.pop_front()?;
+        let Some(piece) = self.under_way.pop_front() else {
+            return None;
+        };
         match piece.into_cut() {
             Ok(piece) => Some(piece),
             Err(piece) => {

@@ -123,10 +123,11 @@ impl<'a, R: Read + Drop> TablePieces<'a, R> {
         ensures steps { NoMoreSteps (steps_left self.old) (steps_left self.new) }
         ensures same { (self.new.table ≡ self.old.table) × (self.new.limit ≡ self.old.limit) × (self.new.next ≡ self.old.next) × (self.new.answered ≡ self.old.answered) }
     {
-        match self.settled {
-            Some(_) => {}
-            None => self.pieces_under_way.cut_ahead(scope, rt),
+        if let Some(_) = self.settled {
+            return;
         }
+        let pieces = &mut self.pieces_under_way;
+        pieces.cut_ahead(scope, rt);
     }
 
     /// Returns whether the next piece was cut and not decoded, since its facts are far longer than
@@ -146,21 +147,20 @@ impl<'a, R: Read + Drop> TablePieces<'a, R> {
         ensures left { IfOk result (λ rest. (rest.left ≡ self.entry.left) × (self.entry.answered ≡ None)) }
         ensures same { IfErr result (λ pieces. pieces ≡ self.entry) }
     {
-        match self.settled {
-            Some(_) => return Err(self),
-            None => {}
+        if let Some(_) = self.settled {
+            return Err(self);
         }
         let TablePieces {
             alloc,
             pieces_under_way,
-            settled: _,
+            settled,
         } = self;
         match pieces_under_way.into_rest(alloc) {
             Ok(rest) => Ok(rest),
             Err(pieces_under_way) => Err(TablePieces {
                 alloc,
                 pieces_under_way,
-                settled: None,
+                settled,
             }),
         }
     }

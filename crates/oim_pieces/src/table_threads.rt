@@ -266,13 +266,7 @@ impl<'a> TableThreads<'a> {
             first,
             stays: _,
         } = piece;
-        let asked = Asked::of(self.header(), &bytes, first);
-        let to_decode = PieceToDecode {
-            asked: Asked::of(self.header(), &bytes, first),
-            bytes,
-            spares: 0,
-        };
-        PieceUnderWay::kept(asked, to_decode)
+        PieceUnderWay::kept(Asked::of(self.header(), &bytes, first), bytes)
     }
 
     /// Queues a piece, or decodes it here if memory runs out.
