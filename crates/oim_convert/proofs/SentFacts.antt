@@ -74,6 +74,12 @@ pub reading_begins : (table : ℕ) (left : Option Stream) (given pending : List 
 reading_begins table None given pending none waits = tt
 reading_begins table (Some s) given pending none waits = record { rows = []; reads = inl (refl, refl); holds = ap (λ l. l ++ pending) none ∙ waits }
 
+-- The stream that is left is the same.
+pub reading_kept : (table : ℕ) (whole : Stream) (given pending : List Fact) (left left' : Option Stream) → IsReading table whole given pending left → KeepsStream left left'
+    → IsReading table whole given pending left'
+reading_kept table whole given pending None left' r kept = absurd r.reads
+reading_kept table whole given pending (Some s) left' r kept = subst (IsReading table whole given pending) (sym kept) r
+
 -- All rows read, after one more answer.
 record HasRead (table : ℕ) (whole : Stream) (given : List Fact) (result : Result (Option (List Fact)) TableFault) (pending : List Fact) (left : Option Stream) : Type 0 where
   rows : List (List Fact)
