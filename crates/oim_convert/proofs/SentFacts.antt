@@ -20,7 +20,7 @@ use Rattle.oim_convert.specs.Answer.{ending_of}
 use Rattle.oim_records.specs.Reads.{IsFileOf}
 use Rattle.oim_convert.specs.Histories.{IsDecoded, IsGiven, facts_in}
 pub use Rattle.oim_convert.specs.state.Reading.{IsReading}
-use Rattle.oim_convert.specs.state.Reading.{KeepsStream}
+use Rattle.oim_pieces.specs.PiecesLeft.{KeepsStream}
 use Rattle.oim_convert.proofs.TableFiles.{has_file, has_no_file, refused_header}
 
 -- Blocks.

@@ -2,8 +2,8 @@
 
 ghost use Rattle.std.specs.Prelude.{◌≡◌, ◌++◌, [], IfErr, IfOk, IfSome};
 ghost use Rattle.oim_convert.specs.Histories.{IsGiven, facts_in};
-ghost use Rattle.oim_convert.specs.state.Reading.{KeepsStream};
 ghost use Rattle.oim_convert.specs.state.TableFiles.{IsSentOfFile, IsTableFile};
+ghost use Rattle.oim_pieces.specs.PiecesLeft.{KeepsStream};
 ghost use Rattle.oim_rows.specs.Streams.{facts_of_rows};
 
 use crate::alone::{send_alone, send_blocks};

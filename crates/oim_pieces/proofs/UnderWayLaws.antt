@@ -19,7 +19,8 @@ use Rattle.oim_decode.specs.PieceAnswers.{IsJoined, IsPieceDecoded, fault_or_nex
 use Rattle.oim_decode.proofs.JoinLaws.{piece_is_read}
 use Rattle.oim_decode.proofs.PieceSteps.{within_limit}
 use Rattle.oim_pieces.specs.state.Cutting.{CutterLeft, IsOver, TakesRows}
-use Rattle.oim_pieces.specs.state.PiecesUnderWay.{AreChained, UnderWayLeft, PieceRowsLeft, IsEndOfTable, IsFront, IsPieceAnswer, KeepsStream, ReadsJoined, fault_or_left, first_row_of, next_row, rows_in, rows_left, stream_in}
+use Rattle.oim_pieces.specs.PiecesLeft.{KeepsStream}
+use Rattle.oim_pieces.specs.state.PiecesUnderWay.{AreChained, UnderWayLeft, PieceRowsLeft, IsEndOfTable, IsFront, IsPieceAnswer, ReadsJoined, fault_or_left, first_row_of, next_row, rows_in, rows_left, stream_in}
 
 -- COUNTS
 

@@ -8,8 +8,8 @@ ghost use Rattle.oim_records.specs.PieceTaking.{bytes_left};
 ghost use Rattle.oim_records.specs.Reads.{left_behind};
 ghost use Rattle.oim_rows.specs.Header.{file_header_fault};
 ghost use Rattle.oim_rows.specs.Streams.{IsOutside, ending, stream_from, stream_of};
-ghost use Rattle.oim_pieces.specs.PiecesLeft.{FewerSteps, NoMoreSteps};
-ghost use Rattle.oim_pieces.specs.state.PiecesUnderWay.{IsEndOfTable, IsFront, KeepsStream, ReadsJoined, head_pieces, next_row, rows_in, steps_in, stream_in};
+ghost use Rattle.oim_pieces.specs.PiecesLeft.{FewerSteps, KeepsStream, NoMoreSteps};
+ghost use Rattle.oim_pieces.specs.state.PiecesUnderWay.{IsEndOfTable, IsFront, ReadsJoined, head_pieces, next_row, rows_in, steps_in, stream_in};
 
 use crate::at_work::AtWork;
 use crate::cutter::{CutPiece, Cutter};

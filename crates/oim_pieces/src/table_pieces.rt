@@ -6,7 +6,7 @@ ghost use Rattle.oim_records.specs.Grids.{grid};
 ghost use Rattle.oim_rows.specs.Header.{file_fault, file_header_fault};
 ghost use Rattle.oim_rows.specs.Streams.{IsOutside, answer_of as answer_at_end, ending, stream_of};
 ghost use Rattle.oim_rows.specs.declared.fault.TableKind.TheVariants as kind;
-ghost use Rattle.oim_pieces.specs.PiecesLeft.{FewerSteps, GivesBlocks, NoMoreSteps, steps_left};
+ghost use Rattle.oim_pieces.specs.PiecesLeft.{FewerSteps, GivesBlocks, KeepsStream, NoMoreSteps, steps_left};
 ghost use Rattle.oim_pieces.specs.state.PiecesUnderWay.{GivesJoined};
 
 use crate::at_work::AtWork;
@@ -118,7 +118,7 @@ impl<'a, R: Read + Drop> TablePieces<'a, R> {
     /// cut.
     #[tactic(auto, using(crate::proofs::UnderWayLaws::stream_same, crate::proofs::StepLaws::steps_same))]
     pub fn cut_ahead<E, T: Threads + Wait + Sync + 'a>(&mut self, scope: &Scope<'a, E>, rt: &'a T)
-        ensures left { IfSome self.old.left (λ s. self.new.left ≡ Some s) }
+        ensures left { KeepsStream self.old.left self.new.left }
         ensures settled { OnSome self.old.answered (self.new ≡ self.old) }
         ensures steps { NoMoreSteps (steps_left self.old) (steps_left self.new) }
         ensures same { (self.new.table ≡ self.old.table) × (self.new.limit ≡ self.old.limit) × (self.new.next ≡ self.old.next) × (self.new.answered ≡ self.old.answered) }

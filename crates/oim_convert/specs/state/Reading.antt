@@ -1,5 +1,5 @@
 -- A table that is being sent, block after block.
-use Rattle.std.specs.Prelude.{◌≡◌, ◌++◌, ℕ, List, Option, Some, IfSome}
+use Rattle.std.specs.Prelude.{◌≡◌, ◌++◌, ℕ, List, Option}
 use Rattle.oim_decode.specs.Blocks.{ReadsRows}
 use Rattle.oim_resolve.specs.FactParts.{FactParts as Fact}
 use Rattle.oim_rows.specs.Streams.{Stream, facts_of_rows}
@@ -9,7 +9,3 @@ pub record IsReading (table : ℕ) (whole : Stream) (given pending : List Fact) 
   pub rows : List (List Fact)
   pub reads : ReadsRows table whole rows left
   pub holds : given ++ pending ≡ facts_of_rows rows
-
--- The stream does not change, if it was known.
-abbrev pub KeepsStream : Option Stream → Option Stream → Type 0
-KeepsStream old new = IfSome old (λ s. new ≡ Some s)

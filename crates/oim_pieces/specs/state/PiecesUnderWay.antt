@@ -63,10 +63,6 @@ next_row f = first_row_of f.pieces f.cutter.next
 abbrev pub stream_in : UnderWayLeft → Option Stream
 stream_in f = rows_left f.header f.ids f.pieces f.cutter.next f.cutter.left
 
--- The stream does not change, if it was known.
-abbrev pub KeepsStream : Option Stream → Option Stream → Type 0
-KeepsStream old new = IfSome old (λ s. new ≡ Some s)
-
 -- What is left after a piece: only its fault, or else what follows.
 abbrev pub fault_or_left : Option TableFault → Option Stream → Option Stream
 fault_or_left None next = next
