@@ -80,6 +80,15 @@ pub reading_kept : (table : ℕ) (whole : Stream) (given pending : List Fact) (l
 reading_kept table whole given pending None left' r kept = absurd r.reads
 reading_kept table whole given pending (Some s) left' r kept = subst (IsReading table whole given pending) (sym kept) r
 
+-- One worker sends the rest of a table.
+pub rest_given : (table opened : ℕ) (whole : Stream) (given given' pending : List Fact) (left left' : Option Stream) (e : Endings.Ending) → opened ≡ table → pending ≡ []
+    → KeepsStream left left' → IsReading table whole given [] left → (IsReading opened whole given pending left' → IsGiven opened whole given' e) → IsGiven table whole given' e
+rest_given table opened whole given given' pending left left' e same none kept r sent =
+    let now : IsReading table whole given [] left' = reading_kept table whole given [] left left' r kept in
+    let of_rest : IsReading opened whole given pending left' =
+    subst (λ t. IsReading t whole given pending left') (sym same) (subst (λ p. IsReading table whole given p left') (sym none) now) in
+    subst (λ t. IsGiven t whole given' e) same (sent of_rest)
+
 -- All rows read, after one more answer.
 record HasRead (table : ℕ) (whole : Stream) (given : List Fact) (result : Result (Option (List Fact)) TableFault) (pending : List Fact) (left : Option Stream) : Type 0 where
   rows : List (List Fact)

@@ -126,7 +126,7 @@ impl<'a> PieceUnderWay<'a> {
     }
 
     /// Returns the answer for the piece. The worker decodes other pieces until it arrives.
-    #[tactic(auto, using(crate::proofs::ChannelLaws::of_asked, crate::proofs::ChannelLaws::of_reads, crate::proofs::ChannelLaws::of_first))]
+    #[tactic(auto, using(crate::proofs::ChannelLaws::of_asked, crate::proofs::ChannelLaws::of_reads, crate::proofs::ChannelLaws::of_first, crate::proofs::ChannelLaws::may_kept, crate::proofs::ChannelLaws::kept_answer))]
     pub(crate) fn wait_for_answer<T: Wait>(
         self,
         rt: &T,

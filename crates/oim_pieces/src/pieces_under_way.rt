@@ -120,6 +120,28 @@ fn join_piece<'a, T: Wait>(
     join.join(threads.header(), first, answer)
 }
 
+/// Starts the decoding of a piece, unless its facts are so long that it is not decoded as a whole.
+/// Before the writer has reached the table, the worker decodes it.
+fn begin<'a, E, R: Read + Drop, T: Threads + Wait + Sync + 'a>(
+    scope: &Scope<'a, E>,
+    rt: &'a T,
+    cutter: &Cutter<R>,
+    threads: &mut TableThreads<'a>,
+    is_wanted: bool,
+    piece: CutPiece,
+) -> PieceUnderWay<'a>
+    requires first { 1 ≤ piece.first }
+    requires within { piece.first ≤ threads.old.limit + 1 }
+    ensures piece { (result.header ≡ threads.old) × (result.first ≡ piece.first) × (result.rows ≡ records_left state.StartRecord piece.bytes.items) }
+    ensures same { threads.new ≡ threads.old }
+{
+    if cutter.is_long_piece(piece.bytes.as_slice(), threads.header().columns()) {
+        return threads.keep(piece);
+    }
+    let stays = !is_wanted || threads.is_alone(rt);
+    threads.send_or_decode(scope, rt, piece.staying(stays))
+}
+
 impl<'a, R: Read + Drop> PiecesUnderWay<'a, R> {
     /// Opens a table with its head and the reader of its further pieces. If the head has rows, they
     /// are under way.
@@ -280,27 +302,6 @@ impl<'a, R: Read + Drop> PiecesUnderWay<'a, R> {
         self.under_way.len() == 1 && self.ends_kept()
     }
 
-    /// Starts the decoding of a piece, unless its facts are so long that it is not decoded as a
-    /// whole.
-    fn begin<E, T: Threads + Wait + Sync + 'a>(
-        &mut self,
-        scope: &Scope<'a, E>,
-        rt: &'a T,
-        piece: CutPiece,
-    ) -> PieceUnderWay<'a>
-        requires first { 1 ≤ piece.first }
-        requires within { piece.first ≤ self.old.header.limit + 1 }
-        ensures piece { (result.header ≡ self.old.header) × (result.first ≡ piece.first) × (result.rows ≡ records_left state.StartRecord piece.bytes.items) }
-        ensures same { self.new ≡ self.old }
-    {
-        let columns = self.threads.header().columns();
-        if self.cutter.is_long_piece(piece.bytes.as_slice(), columns) {
-            return self.threads.keep(piece);
-        }
-        let stays = !self.is_wanted || self.threads.is_alone(rt);
-        self.threads.send_or_decode(scope, rt, piece.staying(stays))
-    }
-
     /// Cuts the next piece and starts its decoding. Returns false if no piece is left or memory
     /// runs out.
     #[tactic(auto, using(crate::proofs::UnderWayLaws::chained_more, crate::proofs::UnderWayLaws::next_more, crate::proofs::UnderWayLaws::stream_more, crate::proofs::UnderWayLaws::stream_kept, crate::proofs::UnderWayLaws::stream_same, crate::proofs::StepLaws::steps_cut, crate::proofs::StepLaws::steps_kept, crate::proofs::StepLaws::steps_same))]
@@ -323,7 +324,14 @@ impl<'a, R: Read + Drop> PiecesUnderWay<'a, R> {
         let Some(piece) = self.cutter.cut() else {
             return false;
         };
-        let under_way = self.begin(scope, rt, piece);
+        let under_way = begin(
+            scope,
+            rt,
+            &self.cutter,
+            &mut self.threads,
+            self.is_wanted,
+            piece,
+        );
         self.under_way.push_back_reserved(under_way);
         true
     }

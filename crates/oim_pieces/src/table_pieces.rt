@@ -123,8 +123,10 @@ impl<'a, R: Read + Drop> TablePieces<'a, R> {
         ensures steps { NoMoreSteps (steps_left self.old) (steps_left self.new) }
         ensures same { (self.new.table ≡ self.old.table) × (self.new.limit ≡ self.old.limit) × (self.new.next ≡ self.old.next) × (self.new.answered ≡ self.old.answered) }
     {
-        if let Some(_) = self.settled {
-            return;
+        let settled = self.settled;
+        match settled {
+            Some(_) => return,
+            None => {}
         }
         let pieces = &mut self.pieces_under_way;
         pieces.cut_ahead(scope, rt);
@@ -147,13 +149,15 @@ impl<'a, R: Read + Drop> TablePieces<'a, R> {
         ensures left { IfOk result (λ rest. (rest.left ≡ self.entry.left) × (self.entry.answered ≡ None)) }
         ensures same { IfErr result (λ pieces. pieces ≡ self.entry) }
     {
-        if let Some(_) = self.settled {
-            return Err(self);
+        let settled = self.settled;
+        match settled {
+            Some(_) => return Err(self),
+            None => {}
         }
         let TablePieces {
             alloc,
             pieces_under_way,
-            settled,
+            settled: _,
         } = self;
         match pieces_under_way.into_rest(alloc) {
             Ok(rest) => Ok(rest),

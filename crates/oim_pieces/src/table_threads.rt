@@ -256,6 +256,7 @@ impl<'a> TableThreads<'a> {
     }
 
     /// Keeps a piece, which the worker decodes when its answer is asked for.
+    #[tactic(auto, using(crate::proofs::ChannelLaws::is_kept))]
     pub(crate) fn keep(&self, piece: CutPiece) -> PieceUnderWay<'a>
         requires first { 1 ≤ piece.first }
         requires within { piece.first ≤ self.now.limit + 1 }
