@@ -359,13 +359,15 @@ module _ (l : Layout) (old new : SinkView) (faults : Vec TableFault) where
   two_refused_here : (run : Run) → run.drains.items ≡ [] → run.faults.items ≡ file_fault 0 kind.NoFile ∷ ragged ∷ [] → run.end ≡ end.Refused
       → Wrote old new (text_after l (head_text three_tables) [] ++ []) → WritesHere silent l three_tables 10 (None ∷ Some 7 ∷ []) old new (Ok run)
   two_refused_here run none are is wrote =
-      let some : ¬ (run.faults.items ≡ []) = λ nothing. (let e : file_fault 0 kind.NoFile ∷ ragged ∷ [] ≡ [] = sym are ∙ nothing in cc) in
-      (none, subst (λ e. WritesUntil (AreRead silent three_tables 10 0 (None ∷ Some 7 ∷ [])) l three_tables old new run.faults.items e) (sym is)
-      (record {
-        histories = (Ending (Refused (file_fault 0 kind.NoFile)) ∷ []) ∷ (Block (third ∷ []) ∷ Ending (Refused ragged) ∷ []) ∷ [];
-        are = two_read;
-        merged = (are, (some, wrote));
-      }))
+      let some : ¬ (run.faults.items ≡ []) = λ nothing. (let e : file_fault 0 kind.NoFile ∷ ragged ∷ [] ≡ [] = sym are ∙ nothing in cc) in (
+        none,
+        subst (λ e. WritesUntil (AreRead silent three_tables 10 0 (None ∷ Some 7 ∷ [])) l three_tables old new run.faults.items e) (sym is)
+            (record {
+              histories = (Ending (Refused (file_fault 0 kind.NoFile)) ∷ []) ∷ (Block (third ∷ []) ∷ Ending (Refused ragged) ∷ []) ∷ [];
+              are = two_read;
+              merged = (are, (some, wrote));
+            }),
+      )
 
   drains_on_one_thread : (run : Run) (drain : _) → run.drains.items ≡ drain ∷ [] → WritesHere silent l three_tables 10 [] old new (Ok run) → ⊥
   drains_on_one_thread run drain some writes = let e : drain ∷ [] ≡ [] = sym some ∙ writes.0 in cc
