@@ -17,7 +17,7 @@ use Rattle.oim_rows.specs.declared.fault.TableKind.TheVariants as kind
 use Rattle.oim_decode.specs.Apart.{Apart, apart_from}
 use Rattle.oim_pieces.specs.state.ComingAnswers.{Comes, IsKept}
 use Rattle.oim_pieces.specs.state.Cutting.{CutterLeft, HasAtLeast, IsOver, TakesRows, left_over}
-use Rattle.oim_pieces.specs.PiecesLeft.{FewerSteps, GivesBlocks, KeepsStream, steps_for, steps_left}
+use Rattle.oim_pieces.specs.PiecesLeft.{FewerSteps, GivesBlocks, KeepsStream, NoMoreSteps, steps_for, steps_left}
 use Rattle.oim_pieces.specs.state.PiecesUnderWay.{AreChained, PieceRowsLeft, GivesJoined, IsEndOfTable, IsFront, IsPieceAnswer, ReadsJoined, fault_or_left, first_row_of, head_pieces, next_row, rows_in, rows_left, steps_in, stream_in}
 use Rattle.oim_pieces.specs.declared.decoded.Asked.{Asked}
 use Rattle.oim_pieces.specs.declared.piece_under_way.ComingAnswer.TheVariants.{Here, Awaited}
