@@ -9,7 +9,6 @@ pub(crate) mod frame_decimals;
 pub(crate) mod frame_maker;
 pub(crate) mod frame_text;
 pub(crate) mod frames;
-pub(crate) mod hash_index;
 pub(crate) mod part;
 pub(crate) mod parts;
 pub(crate) mod same_kind;

@@ -17,7 +17,7 @@
 //! `bench/growth.py`. A shape that is not named feels less than 0.5 %. `ids` is `positions` with
 //! `--row-ids`.
 //!
-//! Not proved: which good rows are left; what `HashIndex`, the hashes and the counted sizes hold.
+//! Not proved: which good rows are left; what `Hints`, the hashes and the counted sizes hold.
 //!
 //! A call, which returns the texts of the facts of a table's first row, each with a comma before
 //! it, or None if that row goes the plain way:

@@ -12,7 +12,8 @@ ghost use Rattle.oim_row.specs.Groups.{IsGroupCell, IsSaid, Says, level_chosen};
 ghost use Rattle.oim_row.specs.References.{Grows};
 ghost use Rattle.oim_row.specs.Rows.{column_in, columns_in};
 
-use crate::group_hints::GroupHints;
+use crate::hashes::hash_of_text;
+use crate::hints::Hints;
 use crate::table_row::TableRow;
 use crate::words::is_same;
 use oim_cells::{CellMeaning, meaning};
@@ -49,7 +50,8 @@ pub struct GroupCells<'a> {
     /// The index in the list of each column of the template. Each is a guess that is tested.
     /// Without it: `properties_from` of 1,000 columns +14 %, and it grows as their square.
     places: Vec<u32>,
-    hints: GroupHints,
+    /// The index of the group with a name. Without it: `datapoints` +9.5 %.
+    hints: Hints,
 }
 
 /// The most groups that are searched one by one.
@@ -83,13 +85,22 @@ fn place_of(groups: &[(Text, Level)], name: &str) -> Choice
     }
 }
 
-/// Records the index of the group that a name names, if the guess was wrong and there are many
-/// groups.
+/// Returns the guessed index of the group that a name names.
 #[inline(always)]
-fn note_found(hints: &mut GroupHints, name: &str, guess: usize, cell: &GroupCell<'_>) {
+fn guess_of(hints: &Hints, name: &str) -> usize {
+    if hints.is_empty() {
+        return usize::MAX;
+    }
+    hints.guess(hash_of_text(name.as_bytes()))
+}
+
+/// Records the index of the group that a name names, if the guess was wrong and there are many
+/// groups. If memory runs out, it records nothing.
+#[inline(always)]
+fn note_found(hints: &mut Hints, name: &str, guess: usize, cell: &GroupCell<'_>) {
     if let Choice::Group(place) = cell.choice {
         if place != guess && cell.groups.len() > FEW {
-            hints.note(name, place, cell.groups.len());
+            let _ = hints.add(hash_of_text(name.as_bytes()), place);
         }
     }
 }
@@ -138,7 +149,7 @@ impl<'a> GroupCells<'a> {
         GroupCells {
             list: Vec::new(alloc),
             places: Vec::new(alloc),
-            hints: GroupHints::new(alloc),
+            hints: Hints::new(alloc),
         }
     }
 
@@ -207,7 +218,7 @@ impl<'a> GroupCells<'a> {
     {
         for i in 0..self.list.len() {
             let name = row.text_at(self.list[i].place);
-            let guess = self.hints.guess(name);
+            let guess = guess_of(&self.hints, name);
             let cell = &mut self.list[i];
             cell.choice = cell.choice_in(row, guess);
             note_found(&mut self.hints, name, guess, cell);

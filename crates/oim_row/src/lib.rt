@@ -36,18 +36,21 @@
 mod answer;
 mod cached_answer;
 mod group_cells;
-mod group_hints;
+mod hashes;
+mod hints;
+mod misses;
 mod purpose;
 mod reference_target;
 mod references;
 mod row_reference;
 mod table_row;
-mod text_places;
 mod wanted;
 mod words;
 
 pub use answer::{Answer, put_decimals};
 pub use group_cells::{Choice, GroupCell, GroupCells};
+pub use hashes::{hash_of_text, hash_with};
+pub use hints::Hints;
 pub use purpose::{Purpose, is_same_side};
 pub use reference_target::{ReferenceTarget, source_of, source_of_decimals};
 pub use references::References;

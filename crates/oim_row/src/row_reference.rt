@@ -10,10 +10,12 @@ ghost use Rattle.oim_row.specs.Sources.{seen_source, source_text};
 
 use crate::answer::Answer;
 use crate::cached_answer::CachedAnswer;
+use crate::hashes::hash_of_text;
+use crate::hints::Hints;
+use crate::misses::Misses;
 use crate::purpose::Purpose;
 use crate::reference_target::ReferenceTarget;
 use crate::table_row::TableRow;
-use crate::text_places::{TextPlaces, hash_of_text};
 use ghost_value::{Denotes, GhostValue};
 use itoa::Buffer;
 use oim_names::Text;
@@ -38,7 +40,8 @@ pub(crate) struct RowReference<'a> {
     answers: Vec<CachedAnswer>,
     /// The index of the answer to the text of the current row.
     current: usize,
-    places: TextPlaces,
+    places: Hints,
+    misses: Misses,
     text: GhostValue<Text>,
 }
 
@@ -106,7 +109,7 @@ fn add_places(
 fn widen(
     alloc: Global,
     answers: &mut Vec<CachedAnswer>,
-    places: &mut TextPlaces,
+    places: &mut Hints,
 ) -> Result<(), AllocError>
     ensures { AddsPlaces answers.old.items answers.new.items }
 {
@@ -125,7 +128,8 @@ fn read_text(
     report: &Report,
     purpose: Purpose,
     answers: &mut Vec<CachedAnswer>,
-    places: &mut TextPlaces,
+    places: &mut Hints,
+    misses: &mut Misses,
     text: &str,
 ) -> (usize, Result<(), AllocError>)
     requires some { 0 < length answers.old.items }
@@ -134,11 +138,11 @@ fn read_text(
 {
     let count = answers.len();
     let hash = hash_of_text(text.as_bytes());
-    let place = places.free(hash, count);
+    let place = places.slot_for(hash, count);
     let kept = &mut answers[place];
     let read = kept.read(alloc, report, purpose, text);
-    places.note(if kept.is_kept { hash } else { 0 }, place);
-    let are_few = places.count(hash, count);
+    places.note(place, if kept.is_kept { hash } else { 0 }, 0);
+    let are_few = misses.count(hash, count);
     if read.is_err() || !are_few || count < FEWEST {
         return (place, read);
     }
@@ -152,18 +156,19 @@ fn find_text(
     report: &Report,
     purpose: Purpose,
     answers: &mut Vec<CachedAnswer>,
-    places: &mut TextPlaces,
+    places: &mut Hints,
+    misses: &mut Misses,
     text: &str,
 ) -> (usize, Result<(), AllocError>)
     requires some { 0 < length answers.old.items }
     requires cached { All (IsCached report.now purpose) answers.old.items }
     ensures { IsKept report.now purpose text.now result.0 answers.new.items }
 {
-    let place = places.likely(hash_of_text(text.as_bytes()), answers.len());
+    let place = places.slot_for(hash_of_text(text.as_bytes()), answers.len());
     if answers[place].is_of(text) {
         return (place, Ok(()));
     }
-    read_text(alloc, report, purpose, answers, places, text)
+    read_text(alloc, report, purpose, answers, places, misses, text)
 }
 
 impl<'a> RowReference<'a> {
@@ -179,7 +184,7 @@ impl<'a> RowReference<'a> {
         let places = places_for(purpose);
         let mut answers = Vec::with_capacity(alloc, places)?;
         add_places(alloc, &mut answers, places)?;
-        let mut known = TextPlaces::new(alloc);
+        let mut known = Hints::new(alloc);
         known.widen(places)?;
         Ok(RowReference {
             report,
@@ -188,6 +193,7 @@ impl<'a> RowReference<'a> {
             answers,
             current: 0,
             places: known,
+            misses: Misses::new(),
             text: GhostValue::of(&TextNote { text: "" }),
         })
     }
@@ -224,6 +230,7 @@ impl<'a> RowReference<'a> {
             self.purpose,
             &mut self.answers,
             &mut self.places,
+            &mut self.misses,
             text,
         );
         self.current = place;
@@ -278,6 +285,7 @@ impl<'a> RowReference<'a> {
             self.purpose,
             &mut self.answers,
             &mut self.places,
+            &mut self.misses,
             text,
         );
         self.current = place;

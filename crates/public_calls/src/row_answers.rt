@@ -6,8 +6,8 @@ use oim_meta::{Report, Side, Written, WrittenDecimals};
 use oim_records::RecordReader;
 use oim_resolve::Role;
 use oim_row::{
-    Answer, Choice, GroupCell, GroupCells, Purpose, ReferenceTarget, References, TableRow,
-    is_same_side, put_decimals, source_of, source_of_decimals,
+    Answer, Choice, GroupCell, GroupCells, Hints, Purpose, ReferenceTarget, References, TableRow,
+    hash_of_text, hash_with, is_same_side, put_decimals, source_of, source_of_decimals,
 };
 use oim_rows::TableHeader;
 use oim_text::TextBuffer;
@@ -82,11 +82,21 @@ fn first_choice(alloc: Global, row: &TableRow<'_, '_>) -> Result<Option<Choice>,
     }
 }
 
+/// Returns whether a number is guessed until it is removed.
+fn guesses(alloc: Global) -> bool {
+    let mut hints = Hints::new(alloc);
+    let hash = hash_of_text(b"eg".as_slice());
+    let is_guessed = hints.add(hash, 3).is_ok() && hints.guess(hash) == 3;
+    hints.clear();
+    is_guessed && hints.guess(hash) != 3 && hash_with(0, 1) != 0
+}
+
 /// Returns whether a row answers as it must. Its first column is not one of property groups, so it
 /// has no choice there.
 fn answers(alloc: Global, row: &TableRow<'_, '_>) -> bool {
     states_decimals(alloc, row)
         && puts_decimals(alloc)
+        && guesses(alloc)
         && refers(row.header())
         && matches!(bytes_of_number(alloc, row), Ok(4))
         && matches!(first_choice(alloc, row), Ok(Some(Choice::Unknown)))

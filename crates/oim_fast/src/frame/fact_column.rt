@@ -11,10 +11,9 @@ ghost use Rattle.oim_fast.specs.state.ChosenGroups.{choices_in};
 ghost use Rattle.oim_row.specs.References.{Grows};
 ghost use Rattle.oim_row.specs.Rows.{columns_in};
 
-use crate::frame::hash_index::hash_with;
 use oim_cells::NumberKind;
 use oim_report::{Column, Kind, Level};
-use oim_row::{Choice, GroupCells};
+use oim_row::{Choice, GroupCells, hash_with};
 use oim_rows::TableHeader;
 use oim_text::{TextBuffer, put_escaped};
 use std::alloc::{AllocError, Global};
@@ -165,7 +164,7 @@ impl FactColumn<'_> {
     }
 
     /// Returns a hash of the column, the groups that the current row names, and a kind.
-    pub(crate) fn hash(&self, cells: &GroupCells<'_>, kind: Option<Kind>) -> u64
+    pub(crate) fn hash(&self, cells: &GroupCells<'_>, kind: Option<Kind>) -> u32
         requires { All (λ p. p < length cells.now.list.items) self.now.groups.items }
     {
         let mut hash = hash_with(self.column as u64, kind_number(kind));
@@ -176,6 +175,6 @@ impl FactColumn<'_> {
                 Choice::Unknown => hash_with(hash, 0),
             };
         }
-        hash
+        (hash >> 32) as u32
     }
 }

@@ -16,10 +16,9 @@ use crate::frame::fact_column::{FactColumn, GUESSES};
 use crate::frame::frame::{Frame, FrameBody};
 use crate::frame::frame_maker::FrameMaker;
 use crate::frame::frame_text::FrameText;
-use crate::frame::hash_index::{HashIndex, STEPS};
 use crate::frame::same_kind::is_same_kind;
 use oim_report::Kind;
-use oim_row::{Choice, GroupCells, TableRow};
+use oim_row::{Choice, GroupCells, Hints, TableRow};
 use std::alloc::{AllocError, Global};
 
 /// About how many bytes of memory the frames of a table may take, whatever its template is.
@@ -32,7 +31,7 @@ const FOR_GROUP: usize = 1_024;
 #[derive(Drop)]
 pub(crate) struct Frames {
     pub(crate) list: Vec<Frame>,
-    by_hash: HashIndex,
+    by_hash: Hints,
     size: usize,
     // How much memory they may take. A frame beyond it removes them all.
     most: usize,
@@ -111,7 +110,7 @@ impl Frames {
     {
         Frames {
             list: Vec::new(alloc),
-            by_hash: HashIndex::new(alloc),
+            by_hash: Hints::new(alloc),
             size: 0,
             most: MOST.saturating_add(groups.saturating_mul(FOR_GROUP)),
         }
@@ -136,28 +135,6 @@ impl Frames {
         is_for(frame, column, cells, kind)
     }
 
-    /// Returns the place of the frame for this column and kind in the current row, if it is kept
-    /// and the search finds it.
-    #[inline(never)]
-    fn find(
-        &self,
-        hash: u64,
-        column: &FactColumn<'_>,
-        cells: &GroupCells<'_>,
-        kind: Option<Kind>,
-    ) -> Option<usize>
-        requires { All (λ p. p < length cells.now.list.items) column.now.groups.items }
-        ensures { IfSome result (HasFrame self.now.list.items (IsKnownFor cells.now.list.items column.now kind)) }
-    {
-        for step in 0..STEPS {
-            let place = self.by_hash.place_at(hash, step)?;
-            if self.is_at(place, column, cells, kind) {
-                return Some(place);
-            }
-        }
-        None
-    }
-
     /// Counts one more frame of this size. If the frames then take too much memory, removes them
     /// all.
     fn make_room(&mut self, size: usize)
@@ -174,14 +151,14 @@ impl Frames {
     }
 
     /// Keeps a frame, and returns its place.
-    fn keep(&mut self, alloc: Global, hash: u64, frame: Frame) -> Result<usize, AllocError>
+    fn keep(&mut self, hash: u32, frame: Frame) -> Result<usize, AllocError>
         ensures place { IfOk result (λ place. slice_get self.new.list.items place ≡ Some frame) }
         ensures frames { HoldsWith IsFrame self.old.list.items frame self.new.list.items }
     {
         self.make_room(frame.size());
         let place = self.list.len();
         self.list.push(frame)?;
-        self.by_hash.add(alloc, hash, place)?;
+        self.by_hash.add(hash, place)?;
         Ok(place)
     }
 
@@ -206,11 +183,12 @@ impl Frames {
         ensures frames { All (IsFrame row.now.header (keys_in maker.new)) self.new.list.items }
     {
         let hash = column.hash(&maker.cells, kind);
-        if let Some(place) = self.find(hash, column, &maker.cells, kind) {
-            return Ok(place);
+        let guess = self.by_hash.guess(hash);
+        if self.is_at(guess, column, &maker.cells, kind) {
+            return Ok(guess);
         }
         let frame = maker.frame(alloc, row, column, kind)?;
-        let place = self.keep(alloc, hash, frame)?;
+        let place = self.keep(hash, frame)?;
         Ok(place)
     }
 

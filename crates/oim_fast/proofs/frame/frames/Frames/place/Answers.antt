@@ -12,16 +12,16 @@ use Rattle.oim_fast.proofs.frame.frames.Frames.place.Goals as goal
 pub hash-hash-requires : goal.hash-hash-requires
 hash-hash-requires c = groups_within c.args.row.now.header c.args.maker.now.cells.list.items c.args.column.now c.requires.column
 
-pub find-requires : goal.find-requires
-find-requires c = groups_within c.args.row.now.header c.args.maker.now.cells.list.items c.args.column.now c.requires.column
+pub is_at-requires : goal.is_at-requires
+is_at-requires c = groups_within c.args.row.now.header c.args.maker.now.cells.list.items c.args.column.now c.requires.column
 
-pub returns-in-Some-clause-place : goal.returns-in-Some-clause-place
-returns-in-Some-clause-place c =
+pub returns-then-is_at-clause-place : goal.returns-then-is_at-clause-place
+returns-then-is_at-clause-place c =
     let cells = c.args.maker.now.cells.list.items in
-    some_also (IsKnownFor cells c.args.column.now c.args.kind) (IsFor cells c.args.column.now c.args.kind) (slice_get c.args.self.now.list.items c.in-Some.place) (λ (v : Frame) h. h.is) c.in-Some.ensures
+    some_also (IsKnownFor cells c.args.column.now c.args.kind) (IsFor cells c.args.column.now c.args.kind) (slice_get c.args.self.now.list.items c.guess-guess.result) (λ (v : Frame) h. h.is) (c.is_at.ensures c.if-is_at.true)
 
-pub returns-in-Some-clause-grows : goal.returns-in-Some-clause-grows
-returns-in-Some-clause-grows c = grows_none c.args.maker.now.references
+pub returns-then-is_at-clause-grows : goal.returns-then-is_at-clause-grows
+returns-then-is_at-clause-grows c = grows_none c.args.maker.now.references
 
 pub returns-in_err-frame-clause-frames : goal.returns-in_err-frame-clause-frames
 returns-in_err-frame-clause-frames c =

@@ -7,8 +7,8 @@ use Rattle.oim_row.proofs.Growth.{grows_none}
 use Rattle.oim_fast.proofs.KeyLaws.{parts_grow}
 use Rattle.oim_fast.proofs.frame.parts.FrameParts.place_for.Goals as goal
 
-pub returns-in-Some-clause-grows : goal.returns-in-Some-clause-grows
-returns-in-Some-clause-grows c = grows_none c.args.references.now
+pub returns-then-is_at-clause-grows : goal.returns-then-is_at-clause-grows
+returns-then-is_at-clause-grows c = grows_none c.args.references.now
 
 pub returns-in_err-part-clause-parts : goal.returns-in_err-part-clause-parts
 returns-in_err-part-clause-parts c = parts_grow c.args.row.now.header c.args.references.now c.new.new.references c.new.ensures.grows c.args.self.now.list.items c.requires.parts
