@@ -595,6 +595,14 @@ def waiting_copied_rows(n: int) -> Report:
     return report(columns, ["x" * n + "," + line(n // 260)] * 4)
 
 
+@kind(128, hostile=True, work=16)
+def copied_cells(n: int) -> Report:
+    """n / 32 rows with a cell of n KB that each of 200 facts of the row refers to."""
+    columns: dict[str, Any] = {"key": {}}
+    columns.update({c: counts(**{"b:Key": "$key"}) for c in names("c", 200)})
+    return report(columns, ["x" * (1_000 * n) + "," + line(200)] * (n // 32))
+
+
 @kind(250_000, hostile=True, apart=True)
 def empty_rows(n: int) -> Report:
     """n rows without facts, of two bytes, under a literal of 1,000,000 bytes."""

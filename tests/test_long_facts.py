@@ -23,6 +23,9 @@ LONG, FACTS = 160_000, 3_000
 MEMORY = 65_000
 # Facts of a row that copy a cell of this many bytes: 520 MB of texts
 COPIES, CELL = 2_000, 260_000
+# Facts of a row that is decoded in pieces, and a cell that each of them copies: 200 MB of texts, or
+# 60 MB
+FEW_COPIES, LONG_CELL, SHORTER_CELL = 200, 1_000_000, 300_000
 # Facts of a row, and dimensions of the report that each of them has: 112 MB of texts
 WIDE, DEEP = 2_000, 3_000
 # Columns of facts, and property groups of one column, of which each row names another
@@ -98,6 +101,19 @@ def copied_cell() -> LongRows:
     return LongRows({"eg:Long": "$key"}, columns, [row], LONG_TYPE)
 
 
+def copied_cells(rows: int, length: int) -> LongRows:
+    """Rows of few facts that each copy a cell of this length, after rows whose cells are short."""
+    columns: dict[str, Any] = {"key": {}, **facts_of(FEW_COPIES)}
+    facts = ",1" * FEW_COPIES
+    lines = ["k" + facts] * 100 + ["x" * length + facts] * rows
+    return LongRows({"eg:Long": "$key"}, columns, lines, LONG_TYPE)
+
+
+def four_copied_cells() -> LongRows:
+    """Four rows of few facts that each copy one of its cells."""
+    return copied_cells(4, LONG_CELL)
+
+
 def many_dimensions() -> LongRows:
     """A row whose facts each have all dimensions of the report."""
     names = [f"D{i:05}" for i in range(DEEP)]
@@ -114,8 +130,19 @@ def columns_under_groups() -> LongRows:
     return LongRows({}, {"group": {"propertyGroups": groups}, **facts}, rows, LONG_TYPE)
 
 
+def files_of(made: LongRows) -> dict[str, Any]:
+    """Returns the files of a report with such rows."""
+    dimensions = {**metadata({})["dimensions"], **made.dimensions}
+    template = {"columns": made.columns}
+    report = metadata({"t1": {}}, dimensions=dimensions, tableTemplates={"p": template})
+    lines = [",".join(made.columns), *made.rows]
+    table = "".join(f"{line}\n" for line in lines)
+    return {"t.csv": TYPES + made.types, "m.json": report, "t1.csv": table}
+
+
 LONG_ROWS = {
     "a cell that 2,000 facts copy": copied_cell,
+    "cells that 200 facts copy": four_copied_cells,
     "2,000 facts of 3,000 dimensions": many_dimensions,
     "700 columns under 700 groups": columns_under_groups,
 }
@@ -131,16 +158,35 @@ class TestLongRows(CaseTest):
 
     def check(self, name: str, workers: str) -> None:
         """Converts a report with this many workers."""
-        made = LONG_ROWS[name]()
-        dimensions = {**metadata({})["dimensions"], **made.dimensions}
-        template = {"columns": made.columns}
-        report = metadata({"t1": {}}, dimensions=dimensions, tableTemplates={"p": template})
-        lines = [",".join(made.columns), *made.rows]
-        table = "".join(f"{line}\n" for line in lines)
-        self.write({"t.csv": TYPES + made.types, "m.json": report, "t1.csv": table})
+        self.write(files_of(LONG_ROWS[name]()))
         most = memory(self.folder, workers)
         self.assertGreater(most, 0)
         self.assertLess(most, MEMORY)
+
+
+class TestCopiedCells(TestCase):
+    """Converts rows whose facts copy long cells, after rows whose facts do not."""
+
+    def test_many_rows(self) -> None:
+        """Takes no more memory for forty such rows."""
+        self.write(files_of(copied_cells(40, SHORTER_CELL)))
+        most = memory(self.folder, WORKERS)
+        self.assertGreater(most, 0)
+        self.assertLess(most, MEMORY)
+
+    def test_same_bytes(self) -> None:
+        """Writes what one worker writes."""
+        self.write(files_of(copied_cells(4, SHORTER_CELL)))
+        alone, several = (self.written(workers) for workers in ("1", WORKERS))
+        self.assertGreater(len(alone), 4 * FEW_COPIES * SHORTER_CELL)
+        self.assertTrue(alone == several)
+
+    def written(self, workers: str) -> bytes:
+        """Returns the document from this many workers."""
+        null = subprocess.DEVNULL
+        return subprocess.run(
+            [*WORDS, workers], cwd=self.folder, stdin=null, stdout=subprocess.PIPE, check=True
+        ).stdout
 
 
 class TestManyTables(TestCase):

@@ -2,7 +2,7 @@
 
 ghost use Rattle.std.specs.Prelude.{◌≤◌};
 
-use oim_convert::{ConvertFault, Run, convert, convert_serial};
+use oim_convert::{ConvertFault, Run, convert, convert_here};
 use oim_json::{Layout, Marked};
 use oim_merge::MergeEnd;
 use oim_meta::{Limits, Report};
@@ -72,7 +72,7 @@ pub(crate) fn ends_so<R: Read + Drop + Send, W: Write>(
     is_end(&answer, end)
 }
 
-/// Returns whether a conversion on one thread does; there a failed write hides the faults.
+/// Returns whether a conversion on one thread does; a failed write hides the faults after it.
 pub(crate) fn ends_so_alone<R: Read + Drop, W: Write>(
     alloc: Global,
     report: &Report,
@@ -84,12 +84,6 @@ pub(crate) fn ends_so_alone<R: Read + Drop, W: Write>(
     requires { limits.rows ≤ 4294967294 }
 {
     let sink = &mut Marked::new(writer);
-    match convert_serial(alloc, report, readers, limits, Layout::Compact, sink) {
-        Ok(()) => end.merge == MergeEnd::Complete,
-        Err(ConvertFault::Tables(found)) => {
-            end.merge == MergeEnd::Refused && found.as_slice() == end.faults
-        }
-        Err(ConvertFault::Write(fault)) => end.merge == MergeEnd::Write(fault),
-        Err(_) => false,
-    }
+    let answer = convert_here(alloc, report, readers, limits, Layout::Compact, sink);
+    is_end(&answer, end)
 }

@@ -3,9 +3,10 @@
 use crate::readers::{AtEnd, Slow, ending};
 use crate::reports::{HEAD, file_of};
 use crate::trials::{Case, Trial, holds};
+use oim_decode::TableBlocks;
 use oim_json::{Block, Spare};
 use oim_meta::{Limits, Report};
-use oim_pieces::{AtWork, PIECE_SIZE, TablePieces, TextGrowth};
+use oim_pieces::{AtWork, PIECE_SIZE, SmallReads, TablePieces, TextGrowth};
 use oim_rows::TableFault;
 use std::alloc::{AllocError, Global};
 use std::sync::Wait;
@@ -55,6 +56,32 @@ fn keeps_rooms(rt: &(impl AllocGlobal + Wait), report: &Report, file: &[u8]) -> 
     let has_none = table.free_spares(rt).is_empty();
     mem::drop(table);
     needs_none && has_one && has_none
+}
+
+/// Returns whether the first pieces of a table are cut ahead, and its rest is not given to one
+/// worker, since no facts are far longer than their rows.
+fn keeps_pieces<'s, E, T: Threads + Wait + Sync + 's>(
+    scope: &Scope<'s, E>,
+    at_work: &'s AtWork,
+    rt: &'s T,
+    alloc: Global,
+    report: &'s Report,
+    file: &'s [u8],
+) -> bool {
+    if report.tables() == 0 {
+        return false;
+    }
+    let (growth, limits) = (TextGrowth::none(), Limits::profile());
+    let Ok(mut table) = TablePieces::open(alloc, at_work, growth, report, 0, file, limits) else {
+        return false;
+    };
+    table.cut_ahead(scope, rt);
+    if table.is_long() {
+        return false;
+    }
+    let rest: Result<TableBlocks<'s, SmallReads<&[u8]>>, TablePieces<'s, &[u8]>> =
+        table.into_rest();
+    rest.is_err()
 }
 
 /// Appends the texts of blocks to a document's prefix.
@@ -208,7 +235,7 @@ fn pieces_of_each_size(rt: HostRuntime) {
     assert!(rt; holds(&rt, &ROWS));
 }
 
-/// Returns whether the first piece of a table has one block.
+/// Returns whether the first piece of a table has one block, and its pieces are kept.
 fn has_a_block(
     rt: &(impl AllocGlobal + Threads + Wait + Sync),
     at_work: &AtWork,
@@ -219,7 +246,10 @@ fn has_a_block(
     let given = thread::scope(thread::scope_env(), rt, move |scope| {
         first_piece(scope, at_work, rt, alloc, report, file)
     });
-    given == Ok(1)
+    let keeps = thread::scope(thread::scope_env(), rt, move |scope| {
+        keeps_pieces(scope, at_work, rt, alloc, report, file)
+    });
+    given == Ok(1) && keeps
 }
 
 /// Returns whether the calls over a report answer as they must.

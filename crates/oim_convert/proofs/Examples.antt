@@ -5,7 +5,7 @@ use Rattle.std.specs.Global.{Vec}
 use Rattle.std.specs.List.{IsDistinct}
 use Rattle.oim_json.specs.Document.{members, tail_text, text_after}
 use Rattle.oim_json.specs.JsonText.{decimals_text, dimension_text, escaped_byte, head_text, member_text, quoted, value_text}
-use Rattle.oim_json.specs.Sinks.{SinkView, Wrote}
+use Rattle.oim_json.specs.Sinks.{Broke, SinkView, Wrote}
 use Rattle.oim_json.specs.declared.layout.Layout.{Layout}
 use Rattle.oim_json.specs.declared.layout.Layout.TheVariants.{Compact, Lines}
 use Rattle.oim_json.specs.declared.mark.WriteFault.TheVariants as write
@@ -30,10 +30,13 @@ use Rattle.oim_convert.specs.Identifiers.{WriteOwnIds}
 use Rattle.oim_convert.specs.Runs.{AreStreams, IsCut, early_fault}
 use Rattle.oim_convert.specs.state.Tasks.{Gives, placed}
 use Rattle.oim_convert.specs.ReadAlone.{AreRead, IsRead}
-use Rattle.oim_convert.specs.Serial.{AreBelow, Leaves, WritesAlone}
+use Rattle.oim_convert.specs.Serial.{AreBelow, Leaves, LeavesAlone, WritesAlone, WritesHere}
 use Rattle.oim_convert.specs.Served.{IsServed}
 use Rattle.oim_convert.specs.Tasks.{IsKept}
+use Rattle.oim_convert.specs.WrittenHistories.{WritesUntil}
+use Rattle.oim_convert.specs.state.Serial.{answer_at, answer_of}
 use Rattle.oim_convert.specs.declared.fault.ConvertFault.TheVariants as fault
+use Rattle.oim_convert.specs.declared.run.Run.{Run}
 use Rattle.oim_convert.specs.declared.table_task.TableTask.{TableTask}
 use Rattle.oim_convert.specs.declared.table_task.TaskResult.{TaskResult}
 use Rattle.oim_convert.proofs.RunHistories.{same_end}
@@ -351,6 +354,51 @@ module _ (l : Layout) (old new : SinkView) (faults : Vec TableFault) where
 
   never_lost_alone : WritesAlone silent l three_tables 10 [] old new (Err fault.Lost) → ⊥
   never_lost_alone writes = writes
+
+  -- The same as a run, which has no drains.
+  two_refused_here : (run : Run) → run.drains.items ≡ [] → run.faults.items ≡ file_fault 0 kind.NoFile ∷ ragged ∷ [] → run.end ≡ end.Refused
+      → Wrote old new (text_after l (head_text three_tables) [] ++ []) → WritesHere silent l three_tables 10 (None ∷ Some 7 ∷ []) old new (Ok run)
+  two_refused_here run none are is wrote =
+      let some : ¬ (run.faults.items ≡ []) = λ nothing. (let e : file_fault 0 kind.NoFile ∷ ragged ∷ [] ≡ [] = sym are ∙ nothing in cc) in (
+        none,
+        subst (λ e. WritesUntil (AreRead silent three_tables 10 0 (None ∷ Some 7 ∷ [])) l three_tables old new run.faults.items e) (sym is)
+            (record {
+              histories = (Ending (Refused (file_fault 0 kind.NoFile)) ∷ []) ∷ (Block (third ∷ []) ∷ Ending (Refused ragged) ∷ []) ∷ [];
+              are = two_read;
+              merged = (are, (some, wrote));
+            }),
+      )
+
+  drains_on_one_thread : (run : Run) (drain : _) → run.drains.items ≡ drain ∷ [] → WritesHere silent l three_tables 10 [] old new (Ok run) → ⊥
+  drains_on_one_thread run drain some writes = let e : drain ∷ [] ≡ [] = sym some ∙ writes.0 in cc
+
+  never_lost_here : WritesHere silent l three_tables 10 [] old new (Err fault.Lost) → ⊥
+  never_lost_here writes = writes
+
+  -- After a failed write the fault of the second table is not found.
+  fault_before_a_failed_write : Broke old new (text_after l (head_text three_tables) [] ++ []) write.Zero
+      → WritesUntil (AreRead silent three_tables 10 0 (None ∷ Some 7 ∷ [])) l three_tables old new (file_fault 0 kind.NoFile ∷ []) (end.Write write.Zero)
+  fault_before_a_failed_write broke = (
+    file_fault 0 kind.NoFile ∷ ragged ∷ [],
+    (ragged ∷ [], refl),
+    record {
+      histories = (Ending (Refused (file_fault 0 kind.NoFile)) ∷ []) ∷ (Block (third ∷ []) ∷ Ending (Refused ragged) ∷ []) ∷ [];
+      are = two_read;
+      merged = (refl, broke);
+    },
+  )
+
+  refused_without_a_fault : LeavesAlone old new [] end.Refused → ⊥
+  refused_without_a_fault leaves = leaves.1 refl
+
+-- The answers that have the ends of runs as faults.
+
+module _ (faults : Vec TableFault) where
+  ends_as_answers : map (answer_at faults) (end.Complete ∷ end.Refused ∷ end.Write write.Zero ∷ []) ≡ Ok tt ∷ Err (fault.Tables faults) ∷ Err (fault.Write write.Zero) ∷ []
+  ends_as_answers = refl
+
+faults_stay : map (λ f. answer_of (Err f)) (fault.WrongReaders ∷ fault.Memory ∷ []) ≡ Err fault.WrongReaders ∷ Err fault.Memory ∷ []
+faults_stay = refl
 
 -- Tables and results.
 

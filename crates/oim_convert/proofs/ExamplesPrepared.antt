@@ -47,7 +47,7 @@ module _ (faults : Vec TableFault) where
 
 -- Every other answer has no fault of a table.
 others_have_none : AreFew 0 (Ok tt) × AreFew 0 (Err (fault.Write write.Zero)) × AreFew 0 (Err fault.WrongReaders) × AreFew 0 (Err fault.Memory)
-others_have_none = (tt, tt, tt, tt)
+others_have_none = (omega arith, ([], omega arith), tt, tt)
 
 -- Runs: the only fault of a conversion that ran is Lost.
 ran_or_lost : HasRun (Err fault.Lost)

@@ -19,6 +19,8 @@ use Rattle.oim_rows.specs.declared.fault.TableKind.TheVariants as kind
 use Rattle.oim_convert.specs.Answer.{ending_of}
 use Rattle.oim_records.specs.Reads.{IsFileOf}
 use Rattle.oim_convert.specs.Histories.{IsDecoded, IsGiven, facts_in}
+pub use Rattle.oim_convert.specs.state.Reading.{IsReading}
+use Rattle.oim_pieces.specs.PiecesLeft.{KeepsStream}
 use Rattle.oim_convert.proofs.TableFiles.{has_file, has_no_file, refused_header}
 
 -- Blocks.
@@ -68,15 +70,24 @@ reads_on table whole mid rows (m ∷ more) (Some rest) (inr (some, e, outside, o
 
 -- The blocks of a table.
 
--- The facts of the rows read so far are those given and those pending, and this stream is left.
-pub record IsReading (table : ℕ) (whole : Stream) (given pending : List Fact) (left : Option Stream) : Type 0 where
-  pub rows : List (List Fact)
-  pub reads : ReadsRows table whole rows left
-  pub holds : given ++ pending ≡ facts_of_rows rows
-
 pub reading_begins : (table : ℕ) (left : Option Stream) (given pending : List Fact) → given ≡ [] → pending ≡ [] → IfSome left (λ whole. IsReading table whole given pending left)
 reading_begins table None given pending none waits = tt
 reading_begins table (Some s) given pending none waits = record { rows = []; reads = inl (refl, refl); holds = ap (λ l. l ++ pending) none ∙ waits }
+
+-- The stream that is left is the same.
+pub reading_kept : (table : ℕ) (whole : Stream) (given pending : List Fact) (left left' : Option Stream) → IsReading table whole given pending left → KeepsStream left left'
+    → IsReading table whole given pending left'
+reading_kept table whole given pending None left' r kept = absurd r.reads
+reading_kept table whole given pending (Some s) left' r kept = subst (IsReading table whole given pending) (sym kept) r
+
+-- One worker sends the rest of a table.
+pub rest_given : (table opened : ℕ) (whole : Stream) (given given' pending : List Fact) (left left' : Option Stream) (e : Endings.Ending) → opened ≡ table → pending ≡ []
+    → KeepsStream left left' → IsReading table whole given [] left → (IsReading opened whole given pending left' → IsGiven opened whole given' e) → IsGiven table whole given' e
+rest_given table opened whole given given' pending left left' e same none kept r sent =
+    let now : IsReading table whole given [] left' = reading_kept table whole given [] left left' r kept in
+    let of_rest : IsReading opened whole given pending left' =
+    subst (λ t. IsReading t whole given pending left') (sym same) (subst (λ p. IsReading table whole given p left') (sym none) now) in
+    subst (λ t. IsGiven t whole given' e) same (sent of_rest)
 
 -- All rows read, after one more answer.
 record HasRead (table : ℕ) (whole : Stream) (given : List Fact) (result : Result (Option (List Fact)) TableFault) (pending : List Fact) (left : Option Stream) : Type 0 where

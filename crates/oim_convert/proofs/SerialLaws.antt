@@ -1,6 +1,8 @@
 -- The answer of a conversion on one thread, by the histories of its tables.
-use Rattle.std.specs.Prelude.{◌≡◌, ℕ, ◌+◌, false, ◌≤◌, List, [], ◌∷◌, ◌++◌, Option, Result, Ok, Err, length}
+use Rattle.std.specs.Prelude.{⊤, ◌≡◌, ◌≢◌, ◌↔◌, ℕ, ◌+◌, Bool, true, false, ◌==◌, if◌then◌else◌, ◌≤◌, List, [], ◌∷◌, ◌++◌, Option, Some, None, Result, Ok, Err, length}
+use Rattle.std.specs.Global.{Vec}
 use Rattle.std.proofs.Common.{refl, sym, ap, ◌∙◌, subst, append_assoc, append-nil, arith, inl, inr}
+use Rattle.std.proofs.lemmas.Bool.{eq-eqb, eqb-true}
 use Rattle.std.proofs.lemmas.List.{length-append}
 use mathlib.Core.List.{IsPrefix}
 use Rattle.oim_json.proofs.Members.{members_more}
@@ -8,10 +10,11 @@ use Rattle.oim_json.proofs.Writes.{broke_before}
 use Rattle.oim_json.specs.Document.{members, more_members}
 use Rattle.oim_json.specs.state.Writing.{has_any}
 use Rattle.oim_json.specs.JsonText.{head_text}
-use Rattle.oim_json.specs.Sinks.{SinkView, Broke}
+use Rattle.oim_json.specs.Sinks.{SinkView, Broke, Unwritten}
 use Rattle.oim_json.specs.declared.layout.Layout.{Layout}
 use Rattle.oim_json.specs.declared.mark.WriteFault.{WriteFault}
 use Rattle.oim_merge.specs.Histories.{all_of, document, facts_before, refusals, tail_for, unfinished}
+use Rattle.oim_merge.specs.declared.progress.MergeEnd.{MergeEnd}
 use Rattle.oim_merge.specs.declared.progress.MergeEnd.TheVariants as end
 use Rattle.oim_report.specs.ReportValue.{ReportValue}
 use Rattle.oim_resolve.specs.FactParts.{FactParts as Fact}
@@ -25,9 +28,13 @@ use Rattle.oim_convert.specs.Answer.{answer_text, ending_of, histories_of, strea
 use Rattle.oim_convert.specs.Files.{AreFilesOf}
 use Rattle.oim_convert.specs.Histories.{AreDecoded, IsEndingOf, IsGiven}
 use Rattle.oim_convert.specs.ReadAlone.{AreRead}
-use Rattle.oim_convert.specs.Serial.{AreBelow, AreFew, Converts, IsOfTables, Leaves, WritesAlone}
+use Rattle.oim_convert.specs.Runs.{AnswersFault, early_fault}
+use Rattle.oim_convert.specs.Serial.{AnswersBy, AreBelow, AreFew, Converts, EndsAlone, IsOfTables, Leaves, LeavesAlone, WritesAlone, WritesHere}
+use Rattle.oim_convert.specs.WrittenHistories.{WritesHistories, WritesUntil}
+use Rattle.oim_convert.specs.state.Serial.{answer_at, answer_of}
 use Rattle.oim_convert.specs.declared.fault.ConvertFault.{ConvertFault}
 use Rattle.oim_convert.specs.declared.fault.ConvertFault.TheVariants as fault
+use Rattle.oim_convert.specs.declared.run.Run.{Run}
 use Rattle.oim_convert.proofs.FaultTables.{ending_below, one_at_most}
 use Rattle.oim_convert.proofs.StreamHistories.{facts_with, open_streams, refusals_with, streams_answer, streams_text}
 use Rattle.oim_convert.proofs.WrittenIds.{behind_table, first_rows, no_facts, refused_table}
@@ -93,7 +100,7 @@ broke_first a b text whole w (rest, is) broke = subst (λ (t : List ℕ). Broke 
 -- The answer.
 
 module _ {R : Type 0} (told : R → Option (List ℕ)) (report : ReportValue) (limit : ℕ) where
-  read_decoded : (i : ℕ) (readers : List (Option R)) (files : List (Option (List ℕ))) (hs : List (List Item)) → AreFilesOf told readers files → AreRead told report limit i readers hs
+  pub read_decoded : (i : ℕ) (readers : List (Option R)) (files : List (Option (List ℕ))) (hs : List (List Item)) → AreFilesOf told readers files → AreRead told report limit i readers hs
       → AreDecoded i (streams_from report limit i files) hs
   read_decoded i [] [] [] are read = tt
   read_decoded i [] [] (h ∷ hs) are read = absurd read
@@ -102,7 +109,7 @@ module _ {R : Type 0} (told : R → Option (List ℕ)) (report : ReportValue) (l
   read_decoded i (r ∷ rs) (f ∷ fs) [] are read = absurd read
   read_decoded i (r ∷ rs) (f ∷ fs) (h ∷ hs) are read = (read.0.kept f are.0, read_decoded (i + 1) rs fs hs are.1 read.1)
 
-  read_few : (i : ℕ) (readers : List (Option R)) (hs : List (List Item)) → AreRead told report limit i readers hs → length (refusals (all_of hs)) ≤ length readers
+  pub read_few : (i : ℕ) (readers : List (Option R)) (hs : List (List Item)) → AreRead told report limit i readers hs → length (refusals (all_of hs)) ≤ length readers
   read_few i [] [] read = omega arith
   read_few i [] (h ∷ hs) read = absurd read
   read_few i (r ∷ rs) [] read = absurd read
@@ -124,55 +131,91 @@ module _ {R : Type 0} (told : R → Option (List ℕ)) (report : ReportValue) (l
       (λ x is. let own : x.table ≡ i = subst (λ (e : Endings.Ending). IsEndingOf i e) is d.own in omega (arith, own, at))
       (read_below (i + 1) tables rs hs (omega (arith, at)) read.1))
 
-  module _ (l : Layout) (readers : List (Option R)) (old new : SinkView) where
-    abbrev Writes : Result (Unit {0}) ConvertFault → Type 0
-    Writes answer = WritesAlone told l report limit readers old new answer
+-- A fault of the conversion.
 
-    pub alone_converts : (files : List (Option (List ℕ))) (answer : Result (Unit {0}) ConvertFault) → AreFilesOf told readers files → Writes answer
-        → Converts l report (streams report limit files) old new answer
-    alone_converts files (Ok u) are w =
-        let ss = streams report limit files in
-        let decoded = read_decoded 0 readers files w.histories are w.are in
-        streams_answer l report ss w.histories old new [] end.Complete (open_streams 0 ss w.histories decoded (sym w.merged.0)) w.merged
-    alone_converts files (Err (fault.Tables faults)) are w = record { histories = w.histories; are = read_decoded 0 readers files w.histories are w.are; merged = w.merged }
-    alone_converts files (Err (fault.Write x)) are w =
-        let ss = streams report limit files in let hs = w.1.histories in
-        broke_first old new (document l (head_text report) hs) (answer_text l report ss) x (document_first l report ss hs (read_decoded 0 readers files hs are w.1.are)) w.1.merged.1
-    alone_converts files (Err fault.WrongReaders) are w = w
-    alone_converts files (Err fault.Memory) are w = w
-    alone_converts files (Err fault.BadWorkers) are w = absurd w
-    alone_converts files (Err fault.BadSize) are w = absurd w
-    alone_converts files (Err fault.Lost) are w = absurd w
+not_wrong : (faults : Vec TableFault) (e : MergeEnd) → answer_at faults e ≡ Err fault.WrongReaders → ⊥
+not_wrong faults end.Complete is = cc
+not_wrong faults end.Refused is = cc
+not_wrong faults (end.Write x) is = cc
 
-    pub alone_leaves : (answer : Result (Unit {0}) ConvertFault) → Writes answer → Leaves old new answer
-    alone_leaves (Ok u) w = w.merged.1.1.0
-    alone_leaves (Err (fault.Tables faults)) w = (w.merged.1.1.0, w.merged.1.0)
-    alone_leaves (Err (fault.Write x)) w = w.1.merged.1.0
-    alone_leaves (Err fault.WrongReaders) w = w
-    alone_leaves (Err fault.Memory) w = w
-    alone_leaves (Err fault.BadWorkers) w = absurd w
-    alone_leaves (Err fault.BadSize) w = absurd w
-    alone_leaves (Err fault.Lost) w = absurd w
+none_wrong : (run : Result Run ConvertFault) → AnswersFault None run → answer_of run ≡ Err fault.WrongReaders → ⊥
+none_wrong (Ok run) found is = not_wrong run.faults run.end is
+none_wrong (Err f) found is = let same : f ≡ fault.WrongReaders = cc in subst (λ (g : ConvertFault). AnswersFault None (Err g)) same found
 
-    module _ (tables : ℕ) (count : length readers ≡ tables) where
-      pub alone_few : (answer : Result (Unit {0}) ConvertFault) → Writes answer → AreFew tables answer
-      alone_few (Ok u) w = tt
-      alone_few (Err (fault.Tables faults)) w =
-          let few = read_few 0 readers w.histories w.are in let all = ap length w.merged.0 in omega (arith, few, all, count)
-      alone_few (Err (fault.Write x)) w = tt
-      alone_few (Err fault.WrongReaders) w = tt
-      alone_few (Err fault.Memory) w = tt
-      alone_few (Err fault.BadWorkers) w = tt
-      alone_few (Err fault.BadSize) w = tt
-      alone_few (Err fault.Lost) w = tt
+wrong_by : (many tables : ℕ) (run : Result Run ConvertFault) (same : Bool) → (many == tables) ≡ same → AnswersFault (if same then None else Some fault.WrongReaders) run
+    → (answer_of run ≡ Err fault.WrongReaders) ↔ (many ≢ tables)
+wrong_by many tables run true is found = (λ wrong. absurd (none_wrong run found wrong), λ differ. absurd (differ (eqb-true many tables is)))
+wrong_by many tables run false is found = (λ wrong same. let both : true ≡ false = sym (eq-eqb many tables same) ∙ is in cc, λ differ. ap answer_of found)
 
-      pub alone_of_tables : (answer : Result (Unit {0}) ConvertFault) → Writes answer → IsOfTables tables answer
-      alone_of_tables (Ok u) w = tt
-      alone_of_tables (Err (fault.Tables faults)) w =
-          subst (λ (fs : List TableFault). AreBelow tables fs) (sym w.merged.0) (read_below 0 tables readers w.histories (omega (arith, count)) w.are)
-      alone_of_tables (Err (fault.Write x)) w = tt
-      alone_of_tables (Err fault.WrongReaders) w = tt
-      alone_of_tables (Err fault.Memory) w = tt
-      alone_of_tables (Err fault.BadWorkers) w = tt
-      alone_of_tables (Err fault.BadSize) w = tt
-      alone_of_tables (Err fault.Lost) w = tt
+-- The answer, by the run.
+
+module _ {R : Type 0} (told : R → Option (List ℕ)) (l : Layout) (report : ReportValue) (limit : ℕ) (readers : List (Option R)) (old new : SinkView) where
+  abbrev Written : List TableFault → MergeEnd → Type 0
+  Written faults e = WritesHistories (AreRead told report limit 0 readers) l report old new faults e
+
+  module _ (Ends : List TableFault → MergeEnd → Type 0) (Early : Type 0) (run_ends : (faults : List TableFault) (e : MergeEnd) → length readers ≡ length report.tables → Written faults e → Ends faults e)
+      (early : Unwritten old new → Early) where
+    ended : length readers ≡ length report.tables → (faults : Vec TableFault) (e : MergeEnd) → WritesUntil (AreRead told report limit 0 readers) l report old new faults.items e
+        → AnswersBy Ends Early (answer_at faults e)
+    ended count faults end.Complete w = run_ends [] end.Complete count (subst (λ (fs : List TableFault). Written fs end.Complete) w.merged.1.0 w)
+    ended count faults end.Refused w = run_ends faults.items end.Refused count w
+    ended count faults (end.Write x) w = (w.0, run_ends w.0 (end.Write x) count w.2)
+
+    answered : (same : Bool) → (length readers == length report.tables) ≡ same → (run : Result Run ConvertFault) → AnswersFault (if same then None else Some fault.WrongReaders) run
+        → WritesHere told l report limit readers old new run → AnswersBy Ends Early (answer_of run)
+    answered true is (Ok run) found w = ended (eqb-true (length readers) (length report.tables) is) run.faults run.end w.1
+    answered false is (Ok run) found w = absurd (cc)
+    answered same is (Err fault.WrongReaders) found w = early w
+    answered same is (Err fault.Memory) found w = early w
+    answered true is (Err fault.BadWorkers) found w = found
+    answered false is (Err fault.BadWorkers) found w = absurd (cc)
+    answered true is (Err fault.BadSize) found w = found
+    answered false is (Err fault.BadSize) found w = absurd (cc)
+    answered same is (Err fault.Lost) found w = w
+    answered same is (Err (fault.Tables faults)) found w = absurd w
+    answered same is (Err (fault.Write x)) found w = absurd w
+
+  converts_at : (files : List (Option (List ℕ))) → AreFilesOf told readers files → (faults : List TableFault) (e : MergeEnd) → Written faults e
+      → EndsAlone l report (streams report limit files) old new faults e
+  converts_at files are faults end.Complete w =
+      let ss = streams report limit files in
+      let decoded = read_decoded told report limit 0 readers files w.histories are w.are in
+      streams_answer l report ss w.histories old new faults end.Complete (open_streams 0 ss w.histories decoded (sym w.merged.0 ∙ w.merged.1.0)) w.merged
+  converts_at files are faults end.Refused w = record { histories = w.histories; are = read_decoded told report limit 0 readers files w.histories are w.are; merged = w.merged }
+  converts_at files are faults (end.Write x) w =
+      let ss = streams report limit files in let hs = w.histories in
+      broke_first old new (document l (head_text report) hs) (answer_text l report ss) x (document_first l report ss hs (read_decoded told report limit 0 readers files hs are w.are)) w.merged.1
+
+  leaves_at : (faults : List TableFault) (e : MergeEnd) → Written faults e → LeavesAlone old new faults e
+  leaves_at faults end.Complete w = w.merged.1.1.0
+  leaves_at faults end.Refused w = (w.merged.1.1.0, w.merged.1.0)
+  leaves_at faults (end.Write x) w = w.merged.1.0
+
+  module _ (run : Result Run ConvertFault) (answer : Result (Unit {0}) ConvertFault) (is : answer ≡ answer_of run)
+      (found : AnswersFault (early_fault 1 1 (length readers) (length report.tables)) run) (writes : WritesHere told l report limit readers old new run) where
+    answers : (Ends : List TableFault → MergeEnd → Type 0) (Early : Type 0) → ((faults : List TableFault) (e : MergeEnd) → length readers ≡ length report.tables → Written faults e → Ends faults e)
+        → (Unwritten old new → Early) → AnswersBy Ends Early answer
+    answers Ends Early ends early = subst (AnswersBy Ends Early) (sym is) (answered Ends Early ends early (length readers == length report.tables) refl run found writes)
+
+    pub alone_writes : WritesAlone told l report limit readers old new answer
+    alone_writes = answers Written (Unwritten old new) (λ faults e count w. w) (λ none. none)
+
+    pub alone_converts : (files : List (Option (List ℕ))) → AreFilesOf told readers files → Converts l report (streams report limit files) old new answer
+    alone_converts files are = answers (EndsAlone l report (streams report limit files) old new) (Unwritten old new) (λ faults e count w. converts_at files are faults e w) (λ none. none)
+
+    pub alone_leaves : Leaves old new answer
+    alone_leaves = answers (LeavesAlone old new) (Unwritten old new) (λ faults e count w. leaves_at faults e w) (λ none. none)
+
+    pub alone_few : AreFew (length report.tables) answer
+    alone_few = answers (λ faults e. length faults ≤ length report.tables) ⊤
+        (λ faults e count w. let few = read_few told report limit 0 readers w.histories w.are in let all = ap length w.merged.0 in omega (arith, few, all, count)) (λ none. tt)
+
+    pub alone_of_tables : IsOfTables (length report.tables) answer
+    alone_of_tables = answers (λ faults e. AreBelow (length report.tables) faults) ⊤
+        (λ faults e count w. subst (λ (fs : List TableFault). AreBelow (length report.tables) fs) (sym w.merged.0)
+        (read_below told report limit 0 (length report.tables) readers w.histories (omega (arith, count)) w.are)) (λ none. tt)
+
+    pub alone_wrong : (answer ≡ Err fault.WrongReaders) ↔ (length readers ≢ length report.tables)
+    alone_wrong =
+        subst (λ (a : Result (Unit {0}) ConvertFault). (a ≡ Err fault.WrongReaders) ↔ (length readers ≢ length report.tables)) (sym is)
+        (wrong_by (length readers) (length report.tables) run (length readers == length report.tables) refl found)

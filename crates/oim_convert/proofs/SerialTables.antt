@@ -6,6 +6,7 @@ use mathlib.Core.List.{IsPrefix}
 use Rattle.oim_json.proofs.Writes.{broke_before}
 use Rattle.oim_json.specs.JsonText.{head_text}
 use Rattle.oim_json.specs.Sinks.{SinkView, Broke}
+use Rattle.oim_json.specs.declared.layout.Layout.{Layout}
 use Rattle.oim_json.specs.declared.mark.WriteFault.{WriteFault}
 use Rattle.oim_merge.proofs.Writing.{all_refusals, blocks_refusals, given_more, given_nothing, unfinished_extends}
 use Rattle.oim_merge.specs.Histories.{all_of, document, refusals, tail_for, unfinished}
@@ -29,10 +30,8 @@ use Rattle.oim_rows.specs.declared.fault.TableFault.{TableFault}
 use Rattle.oim_rows.specs.declared.fault.TableKind.TheVariants as kind
 use Rattle.oim_convert.specs.Histories.{IsEndingOf, IsGiven, IsHistory, facts_in}
 use Rattle.oim_convert.specs.ReadAlone.{AreRead, IsRead}
-use Rattle.oim_convert.specs.Serial.{WritesAlone}
-use Rattle.oim_convert.specs.WrittenHistories.{WritesHistories}
-use Rattle.oim_convert.specs.declared.fault.ConvertFault.TheVariants as fault
-use Rattle.oim_convert.specs.state.Steps.{AreItemsOf, GaveTable, ReadsTables, TookBlocks}
+use Rattle.oim_convert.specs.WrittenHistories.{WritesHistories, WritesUntil}
+use Rattle.oim_convert.specs.state.Steps.{GaveTable, TookBlocks}
 use Rattle.oim_convert.proofs.FaultTables.{given_own}
 use Rattle.oim_convert.proofs.OwnFaults.{own_table}
 use Rattle.oim_convert.proofs.SentFacts.{facts_push}
@@ -71,6 +70,23 @@ took_refusals v u Holds faults took first =
     let none : [] ≡ refusals took.blocks = sym (ap refusals (sym (append-nil took.blocks)) ∙ blocks_refusals took.blocks [] took.only) in
     sym (append-nil faults) ∙ refusals_more v v u took.blocks u.sink took.is faults [] first none
 
+-- The faults up to a failed write.
+
+pub until_of : {Are : List (List Item) → Type 0} (layout : Layout) (report : ReportValue) (old new : SinkView) (faults : List TableFault) (e : MergeEnd)
+    → WritesHistories Are layout report old new faults e → WritesUntil Are layout report old new faults e
+until_of layout report old new faults end.Complete w = w
+until_of layout report old new faults end.Refused w = w
+until_of layout report old new faults (end.Write x) w = (faults, ([], append-nil faults), w)
+
+module _ {Are Be : List (List Item) → Type 0} (f : (hs : List (List Item)) → Are hs → Be hs) (layout : Layout) (report : ReportValue) (old new : SinkView) where
+  histories_as : (faults : List TableFault) (e : MergeEnd) → WritesHistories Are layout report old new faults e → WritesHistories Be layout report old new faults e
+  histories_as faults e w = record { histories = w.histories; are = f w.histories w.are; merged = w.merged }
+
+  pub until_as : (faults : List TableFault) (e : MergeEnd) → WritesUntil Are layout report old new faults e → WritesUntil Be layout report old new faults e
+  until_as faults end.Complete w = histories_as faults end.Complete w
+  until_as faults end.Refused w = histories_as faults end.Refused w
+  until_as faults (end.Write x) w = (w.0, w.1, histories_as w.0 (end.Write x) w.2)
+
 -- Histories one after another.
 
 all_append : (hs js : List (List Item)) → all_of (hs ++ js) ≡ all_of hs ++ all_of js
@@ -84,6 +100,15 @@ unread table = Ending (Refused (file_fault table kind.Memory)) ∷ []
 abbrev all_unread : {R : Type 0} → ℕ → List (Option R) → List (List Item)
 all_unread i [] = []
 all_unread i (r ∷ rs) = unread i ∷ all_unread (i + 1) rs
+
+-- The items are those of the histories of these readers' tables, or the first of them.
+pub record AreItemsOf {R : Type 0} (told : R → Option (List ℕ)) (report : ReportValue) (limit : ℕ) (readers : List (Option R)) (items : List Item) : Type 0 where
+  pub histories : List (List Item)
+  pub read : AreRead told report limit 0 readers histories
+  pub are : items ≡ all_of histories
+
+abbrev pub ReadsFirst : {R : Type 0} → (R → Option (List ℕ)) → ReportValue → ℕ → List (Option R) → List Item → Type 0
+ReadsFirst told report limit readers items = (more : List Item) × AreItemsOf told report limit readers (items ++ more)
 
 -- The readers that are left, and what was read of the tables before.
 pub record HasRead {R : Type 0} (told : R → Option (List ℕ)) (report : ReportValue) (limit table : ℕ) (items : List Item) (readers left : List (Option R)) : Type 0 where
@@ -145,7 +170,7 @@ module _ {R : Type 0} (told : R → Option (List ℕ)) (report : ReportValue) (l
         }
 
     -- A write failed at one of its blocks.
-    pub next_broke : (w : WriteFault) → TookBlocks v u (λ facts. GaveTable told report table limit reader facts (Err w)) → ReadsTables told report limit readers u.items (Err w)
+    pub next_broke : (w : WriteFault) → TookBlocks v u (λ facts. GaveTable told report table limit reader facts (Err w)) → ReadsFirst told report limit readers u.items
     next_broke w took =
         let blocks = took.blocks in let last = blocks ++ unread table in let later = all_unread (table + 1) left in let hs = h.read.histories in
         let more = unread table ++ all_of later in (
@@ -161,8 +186,8 @@ module _ {R : Type 0} (told : R → Option (List ℕ)) (report : ReportValue) (l
         )
 
   -- A write failed before a table was read.
-  pub none_read : (w : WriteFault) (items : List Item) (readers : List (Option R)) → items ≡ [] → ReadsTables told report limit readers items (Err w)
-  none_read w items readers none =
+  pub none_read : (items : List Item) (readers : List (Option R)) → items ≡ [] → ReadsFirst told report limit readers items
+  none_read items readers none =
       let hs = all_unread 0 readers in (all_of hs, record { histories = hs; read = unread_read 0 readers; are = ap (λ xs. xs ++ all_of hs) none })
 
   pub read_end : (table : ℕ) (items : List Item) (readers : List (Option R)) → HasRead told report limit table items readers [] → AreItemsOf told report limit readers items
@@ -170,9 +195,11 @@ module _ {R : Type 0} (told : R → Option (List ℕ)) (report : ReportValue) (l
 
   -- The document.
 
-  module _ (readers : List (Option R)) (v w : WriterView) (now : SinkView) (head : v.head ≡ head_text report) (continues : Continues v w) where
-    pub broken_tables : (x : WriteFault) → w.sink ≡ now → ReadsTables told report limit readers w.items (Err x) → IsBroken w x
-        → WritesAlone told v.layout report limit readers v.before now (Err (fault.Write x))
+  module _ (readers : List (Option R)) (v w : WriterView) (now : SinkView) (head : v.head ≡ head_text report) (continues : Continues v w) (faults : List TableFault) (found : faults ≡ refusals w.items) where
+    abbrev Until : MergeEnd → Type 0
+    Until e = WritesUntil (AreRead told report limit 0 readers) v.layout report v.before now faults e
+
+    pub broken_tables : (x : WriteFault) → w.sink ≡ now → ReadsFirst told report limit readers w.items → IsBroken w x → Until (end.Write x)
     broken_tables x left (more, items) broke =
         let hs = items.histories in
         let text = unfinished v.layout (head_text report) w.items in
@@ -184,32 +211,20 @@ module _ {R : Type 0} (told : R → Option (List ℕ)) (report : ReportValue) (l
         subst (λ h. Broke v.before now (unfinished v.layout h w.items) x) head
         (subst (λ (s : SinkView). Broke v.before s (unfinished v.layout v.head w.items) x) left (subst (λ (z : WriterView). IsBroken z x) continues broke)) in (
           refusals (all_of hs),
+          (refusals more, ap (λ fs. fs ++ refusals more) found ∙ (sym (all_refusals w.items more) ∙ ap refusals items.are)),
           record { histories = hs; are = items.read; merged = (refl, subst (λ t. Broke v.before now t x) (sym whole) (broke_before v.before now text (longer.0 ++ tail) x here)) },
         )
 
-    ended_tables : (e : MergeEnd) (read : AreItemsOf told report limit readers w.items) → EndsWith w.before now (whole_text w) (refusals w.items) e
-        → EndsWith v.before now (document v.layout (head_text report) read.histories) (refusals (all_of read.histories)) e
-    ended_tables e read ends =
-        subst (λ is. EndsWith v.before now (unfinished v.layout (head_text report) is ++ tail_for v.layout (refusals is)) (refusals is) e) read.are
-        (subst (λ h. EndsWith v.before now (unfinished v.layout h w.items ++ tail_for v.layout (refusals w.items)) (refusals w.items) e) head
-        (subst (λ (x : WriterView). EndsWith x.before now (whole_text x) (refusals x.items) e) continues ends))
-
     module _ (read : AreItemsOf told report limit readers w.items) where
-      pub whole_tables : EndsWith w.before now (whole_text w) (refusals w.items) end.Complete → WritesAlone told v.layout report limit readers v.before now (Ok tt)
-      whole_tables ends =
-          let it = ended_tables end.Complete read ends in record { histories = read.histories; are = read.read; merged = (sym it.0, (refl, it.1)) }
-
-      pub refused_tables : (faults : List TableFault) → faults ≡ refusals w.items → EndsWith w.before now (whole_text w) (refusals w.items) end.Refused
-          → WritesHistories (AreRead told report limit 0 readers) v.layout report v.before now faults end.Refused
-      refused_tables faults are ends =
-          let all : faults ≡ refusals (all_of read.histories) = are ∙ ap refusals read.are in
-          record {
-            histories = read.histories;
-            are = read.read;
-            merged = (all, subst (λ fs. EndsWith v.before now (document v.layout (head_text report) read.histories) fs end.Refused) (sym all) (ended_tables end.Refused read ends));
-          }
-
-      pub unwritten_tables : (x : WriteFault) → EndsWith w.before now (whole_text w) (refusals w.items) (end.Write x)
-          → WritesAlone told v.layout report limit readers v.before now (Err (fault.Write x))
-      unwritten_tables x ends =
-          (refusals (all_of read.histories), record { histories = read.histories; are = read.read; merged = (refl, ended_tables (end.Write x) read ends) })
+      pub ended_tables : (e : MergeEnd) → EndsWith w.before now (whole_text w) (refusals w.items) e → Until e
+      ended_tables e ends = until_of v.layout report v.before now faults e (record {
+        histories = read.histories;
+        are = read.read;
+        merged = (
+          found ∙ ap refusals read.are,
+          subst (λ fs. EndsWith v.before now (document v.layout (head_text report) read.histories) fs e) (sym found)
+              (subst (λ is. EndsWith v.before now (unfinished v.layout (head_text report) is ++ tail_for v.layout (refusals is)) (refusals w.items) e) read.are
+              (subst (λ h. EndsWith v.before now (unfinished v.layout h w.items ++ tail_for v.layout (refusals w.items)) (refusals w.items) e) head
+              (subst (λ (x : WriterView). EndsWith x.before now (whole_text x) (refusals x.items) e) continues ends))),
+        );
+      })

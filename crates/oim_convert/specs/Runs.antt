@@ -1,6 +1,6 @@
 -- The answer of a conversion on threads. Sources: xBRL-CSV 1.0 (a report is the facts of its
 -- tables), xBRL-JSON 1.0 (the document).
-use Rattle.std.specs.Prelude.{◌≡◌, ◌⊎◌, ⊤, ℕ, ◌||◌, ◌==◌, nat_lt, if◌then◌else◌, List, [], ◌∷◌, ◌++◌, Option, Some, None, Result, Ok, Err, length}
+use Rattle.std.specs.Prelude.{◌≡◌, ◌⊎◌, ⊤, ℕ, ◌||◌, ◌==◌, nat_lt, if◌then◌else◌, List, [], ◌∷◌, ◌++◌, Option, Some, None, Result, Ok, Err, MatchResult, length}
 use Rattle.oim_json.specs.JsonText.{head_text}
 use Rattle.oim_json.specs.Sinks.{SinkView, Unwritten}
 use Rattle.oim_json.specs.declared.layout.Layout.{Layout}
@@ -36,11 +36,7 @@ AnswersFault (Some f) result = result ≡ Err f
 AnswersFault None (Ok run) = ⊤
 AnswersFault None (Err fault.Memory) = ⊤
 AnswersFault None (Err fault.Lost) = ⊤
-AnswersFault None (Err fault.BadWorkers) = ⊥
-AnswersFault None (Err fault.BadSize) = ⊥
-AnswersFault None (Err fault.WrongReaders) = ⊥
-AnswersFault None (Err (fault.Tables faults)) = ⊥
-AnswersFault None (Err (fault.Write w)) = ⊥
+AnswersFault None result = ⊥
 
 -- The histories of a report's tables: each table was decoded, or none was because no thread could
 -- be made.
@@ -98,14 +94,15 @@ pub record IsRun (layout : Layout) (report : ReportValue) (tables : ℕ) (old ne
   pub ended : EndEach run.drains.items
   pub merged : Merges layout old new (head_text report) run.drains.items run.faults.items run.end
 
+-- A conversion that gave no run: a token was lost, and `Loss` holds; or nothing is written. The
+-- faults Tables and Write are not given.
+abbrev pub BreaksOff : (Loss : Type 0) → SinkView → SinkView → ConvertFault → Type 0
+BreaksOff Loss old new fault.Lost = Loss
+BreaksOff Loss old new (fault.Tables faults) = ⊥
+BreaksOff Loss old new (fault.Write w) = ⊥
+BreaksOff Loss old new f = Unwritten old new
+
 -- The text written: the document of the run's histories up to its end. With a fault other than
 -- Lost, nothing.
 abbrev pub Writes : Layout → ReportValue → ℕ → SinkView → SinkView → Result Run ConvertFault → Type 0
-Writes layout report tables old new (Ok run) = IsRun layout report tables old new run
-Writes layout report tables old new (Err fault.Lost) = IsLost layout report tables old new
-Writes layout report tables old new (Err fault.Memory) = Unwritten old new
-Writes layout report tables old new (Err fault.BadWorkers) = Unwritten old new
-Writes layout report tables old new (Err fault.BadSize) = Unwritten old new
-Writes layout report tables old new (Err fault.WrongReaders) = Unwritten old new
-Writes layout report tables old new (Err (fault.Tables faults)) = ⊥
-Writes layout report tables old new (Err (fault.Write w)) = ⊥
+Writes layout report tables old new result = MatchResult result (IsRun layout report tables old new) (BreaksOff (IsLost layout report tables old new) old new)

@@ -1,8 +1,10 @@
 //! Decoding a table into its ring on one thread, a few facts at a time.
 
-ghost use Rattle.std.specs.Prelude.{◌≡◌, [], IfSome};
+ghost use Rattle.std.specs.Prelude.{◌≡◌, []};
 ghost use Rattle.oim_convert.specs.Histories.{IsGiven, facts_in};
+ghost use Rattle.oim_convert.specs.state.Reading.{IsReading};
 ghost use Rattle.oim_convert.specs.state.TableFiles.{IsSentOfFile, IsTableFile};
+ghost use Rattle.oim_rows.specs.Streams.{Stream};
 
 use crate::sending::put_waiting;
 use crate::table_file::TableFile;
@@ -40,18 +42,17 @@ pub(crate) fn send_alone<R: Read + Drop, T: Wait>(
     }
 }
 
-/// Sends the blocks that are left, and returns the table's ending.
-fn send_blocks<R: Read + Drop, T: Wait>(
+/// Sends the blocks that are left, after the facts that were sent, and returns the table's ending.
+pub(crate) fn send_blocks<R: Read + Drop, T: Wait>(
     rt: &T,
     alloc: Global,
     blocks: &mut TableBlocks<'_, R>,
     at_work: &AtWork,
     feed: &mut Feed,
 ) -> Ending
-    requires begun { blocks.old.pending ≡ [] }
-    requires fresh { feed.old.sent ≡ [] }
     ensures ring { feed.new.ring ≡ feed.old.ring }
-    ensures given { IfSome blocks.old.left (λ s. IsGiven blocks.old.table s (facts_in feed.new.sent) result) }
+    ensures given { (whole : Stream) → IsReading blocks.old.table whole (facts_in feed.old.sent) blocks.old.pending blocks.old.left
+        → IsGiven blocks.old.table whole (facts_in feed.new.sent) result }
 {
     for _ in rt.forever() {
         match blocks.next_block(spare_of(rt, alloc, feed)) {

@@ -12,6 +12,8 @@
 //! - `WrongReaders` is returned exactly if the number of readers is not the number of tables. With
 //!   it and with `Memory` nothing is written. It has no other end: `Lost` is impossible here.
 //!
+//! `convert_here` is the same with the answer of `convert`.
+//!
 //! Over any readers there is one history for each, in table order, with one ending, which is that
 //! table's own. If contracts see the bytes of a table's reader, its history is decoded from these
 //! (`specs/ReadAlone.antt`). The faults, the end and the text are those of these histories.
@@ -33,7 +35,7 @@
 //!   applies. With them and with `Memory` nothing is written;
 //! - `Lost` (54), a fault of the program itself, is the one remaining end. Then the document of
 //!   some histories, one for each table, or a prefix of it, was written. No clause ties them to the
-//!   tables. `run` of `oim_run` calls `convert_serial` for one worker, which excludes this end.
+//!   tables. `run` of `oim_run` calls `convert_here` for one worker, which excludes this end.
 //!
 //! A run is returned only after its claims were closed with all their seats, so the workers gave
 //! one result for each table (`finish` in `src/returning.rt`).
@@ -101,5 +103,5 @@ pub use oim_crew::{Claims, Seat};
 pub use oim_json::Layout;
 pub use oim_ring::LARGEST_RING;
 pub use run::Run;
-pub use serial::convert_serial;
+pub use serial::{convert_here, convert_serial};
 pub use threaded::{convert, convert_with_starts};

@@ -1,17 +1,19 @@
 //! Decoding the pieces of a table into its ring, on more than one thread.
 
-ghost use Rattle.std.specs.Prelude.{◌≡◌, ◌++◌, [], IfSome};
+ghost use Rattle.std.specs.Prelude.{◌≡◌, ◌++◌, [], IfErr, IfOk, IfSome};
 ghost use Rattle.oim_convert.specs.Histories.{IsGiven, facts_in};
 ghost use Rattle.oim_convert.specs.state.TableFiles.{IsSentOfFile, IsTableFile};
+ghost use Rattle.oim_pieces.specs.PiecesLeft.{KeepsStream};
 ghost use Rattle.oim_rows.specs.Streams.{facts_of_rows};
 
-use crate::alone::send_alone;
+use crate::alone::{send_alone, send_blocks};
 use crate::leave::Leave;
 use crate::lent::take_back;
 use crate::sending::put_waiting;
 use crate::table_file::TableFile;
+use oim_decode::TableBlocks;
 use oim_json::Block;
-use oim_pieces::{AtWork, TablePieces, TextGrowth};
+use oim_pieces::{AtWork, SmallReads, TablePieces, TextGrowth};
 use oim_ring::{Ending, Feed};
 use std::alloc::Global;
 use std::io::Read;
@@ -101,16 +103,17 @@ fn send_pieces<'s, E, R: Read + Drop, T: Threads + Wait + Sync + 's>(
         limits,
     } = file;
     match TablePieces::open(alloc, at_work, growth, report, table, reader, limits) {
-        Ok(pieces) => send_opened(scope, rt, pieces, at_work, feed),
+        Ok(pieces) => send_opened(scope, rt, alloc, pieces, at_work, feed),
         Err(fault) => Ending::Refused(fault),
     }
 }
 
-/// Sends the pieces of an opened table with spares, leaves the table's memory to others, and
-/// returns its ending.
+/// Sends the pieces of an opened table with spares, and returns its ending. If the facts of a piece
+/// are far longer than its rows, no other thread helps with the rest of the table.
 fn send_opened<'s, E, R: Read + Drop, T: Threads + Wait + Sync + 's>(
     scope: &Scope<'s, E>,
     rt: &'s T,
+    alloc: Global,
     pieces: TablePieces<'s, R>,
     at_work: &AtWork,
     feed: &mut Feed,
@@ -120,7 +123,53 @@ fn send_opened<'s, E, R: Read + Drop, T: Threads + Wait + Sync + 's>(
     ensures given { IfSome pieces.entry.left (λ s. IsGiven pieces.entry.table s (facts_in feed.new.sent) result) }
 {
     let mut pieces = pieces;
-    let ending = send_left(scope, rt, &mut pieces, at_work, feed);
+    for _ in rt.forever() {
+        match rest_of(scope, rt, pieces, feed) {
+            Ok(mut rest) => return send_blocks(rt, alloc, &mut rest, at_work, feed),
+            Err(back) => pieces = back,
+        }
+        match pieces.next_blocks(scope, rt) {
+            Ok(Some(blocks)) => {
+                put_all(rt, at_work, feed, blocks);
+                make_ready(rt, &mut pieces, feed);
+            }
+            Ok(None) => return leave(rt, pieces, feed, Ending::Closed),
+            Err(fault) => return leave(rt, pieces, feed, Ending::Refused(fault)),
+        }
+    }
+    unreachable!()
+}
+
+/// Cuts ahead. If the next piece is then one whose facts are far longer than its rows, gives the
+/// table's spares back and returns the rest of the table, else the pieces.
+fn rest_of<'s, E, R: Read + Drop, T: Threads + Wait + Sync + 's>(
+    scope: &Scope<'s, E>,
+    rt: &'s T,
+    pieces: TablePieces<'s, R>,
+    feed: &Feed,
+) -> Result<TableBlocks<'s, SmallReads<R>>, TablePieces<'s, R>>
+    ensures rest { IfOk result (λ rest. (rest.table ≡ pieces.entry.table) × (rest.pending ≡ []) × KeepsStream pieces.entry.left rest.left) }
+    ensures pieces { IfErr result (λ back. (back.table ≡ pieces.entry.table) × KeepsStream pieces.entry.left back.left) }
+{
+    let mut pieces = pieces;
+    pieces.cut_ahead(scope, rt);
+    if !pieces.is_long() {
+        return Err(pieces);
+    }
+    give_back_spares(rt, &mut pieces, feed);
+    pieces.into_rest()
+}
+
+/// Gives back the spares of a table, leaves its memory to others, and returns its ending.
+fn leave<R: Read + Drop, T: Wait>(
+    rt: &T,
+    pieces: TablePieces<'_, R>,
+    feed: &Feed,
+    ending: Ending,
+) -> Ending
+    ensures { result ≡ ending }
+{
+    let mut pieces = pieces;
     give_back_spares(rt, &mut pieces, feed);
     pieces.leave();
     ending
@@ -145,35 +194,12 @@ fn make_ready<R: Read + Drop, T: Wait>(rt: &T, pieces: &mut TablePieces<'_, R>, 
 }
 
 /// Gives back the spares that a table kept for texts, if the rings keep them for others.
-fn give_back_spares<R: Read + Drop, T: Wait>(rt: &T, pieces: &mut TablePieces<'_, R>, feed: &Feed) {
+fn give_back_spares<R: Read + Drop, T: Wait>(rt: &T, pieces: &mut TablePieces<'_, R>, feed: &Feed)
+    ensures { pieces.new ≡ pieces.old }
+{
     for spare in pieces.free_spares(rt) {
         feed.give_back(rt, spare);
     }
-}
-
-/// Sends the pieces that are left, and returns the table's ending.
-fn send_left<'s, E, R: Read + Drop, T: Threads + Wait + Sync + 's>(
-    scope: &Scope<'s, E>,
-    rt: &'s T,
-    pieces: &mut TablePieces<'s, R>,
-    at_work: &AtWork,
-    feed: &mut Feed,
-) -> Ending
-    requires fresh { feed.old.sent ≡ [] }
-    ensures ring { feed.new.ring ≡ feed.old.ring }
-    ensures given { IfSome pieces.old.left (λ s. IsGiven pieces.old.table s (facts_in feed.new.sent) result) }
-{
-    for _ in rt.forever() {
-        match pieces.next_blocks(scope, rt) {
-            Ok(Some(blocks)) => {
-                put_all(rt, at_work, feed, blocks);
-                make_ready(rt, pieces, feed);
-            }
-            Ok(None) => return Ending::Closed,
-            Err(fault) => return Ending::Refused(fault),
-        }
-    }
-    unreachable!()
 }
 
 /// Sends blocks, one after another.

@@ -1,4 +1,4 @@
-//! The result of a conversion on threads.
+//! The result of a conversion.
 
 use oim_merge::MergeEnd;
 use oim_ring::Drained;
@@ -9,7 +9,8 @@ use oim_rows::TableFault;
 /// followed by one ending.
 #[derive(Drop)]
 pub struct Run {
-    /// The drains of the tables, in table order, which have taken everything that was sent.
+    /// The drains of the tables, in table order, which have taken everything that was sent. A
+    /// conversion on one thread has none.
     pub drains: Vec<Drained>,
     /// The fault of each refused table, in table order.
     pub faults: Vec<TableFault>,

@@ -1,19 +1,22 @@
 //! The conversion on one thread.
 
-ghost use Rattle.std.specs.Prelude.{◌≡◌, ◌≢◌, ◌↔◌, ◌≤◌, ◌<◌, ℕ, List, [], Option, Err, IfErr, IfSome, OnOk, length, vec_capacity};
+ghost use Rattle.std.specs.Prelude.{◌≡◌, ◌≢◌, ◌↔◌, ◌≤◌, ◌<◌, ℕ, List, [], Option, Err, IfErr, IfSome, length, vec_capacity};
 ghost use Rattle.oim_json.specs.JsonText.{head_text};
-ghost use Rattle.oim_merge.specs.Histories.{refusals};
 ghost use Rattle.oim_merge.specs.Writers.{IsBroken};
-ghost use Rattle.oim_merge.specs.state.Writers.{Continues};
 ghost use Rattle.oim_convert.specs.Answer.{streams};
 ghost use Rattle.oim_convert.specs.Files.{AreFilesOf};
-ghost use Rattle.oim_convert.specs.Serial.{AreFew, Converts, IsOfTables, Leaves, WritesAlone};
-ghost use Rattle.oim_convert.specs.state.Serial.{HasBegun};
-ghost use Rattle.oim_convert.specs.state.Steps.{Gave, GaveFile, GaveTable, ReadsTables, TookBlocks};
+ghost use Rattle.oim_convert.specs.ReadAlone.{AreRead};
+ghost use Rattle.oim_convert.specs.Runs.{AnswersFault, early_fault};
+ghost use Rattle.oim_convert.specs.Serial.{AreFew, Converts, IsOfTables, Leaves, WritesAlone, WritesHere};
+ghost use Rattle.oim_convert.specs.WrittenHistories.{WritesUntil};
+ghost use Rattle.oim_convert.specs.state.Serial as spec;
+ghost use Rattle.oim_convert.specs.state.Steps.{Gave, GaveFile, GaveTable, TookBlocks};
 ghost use Rattle.oim_convert.specs.declared.fault.ConvertFault.TheVariants as fault;
 
 use crate::decode::{numbered, refused, without_file};
 use crate::fault::ConvertFault;
+use crate::run::Run;
+use crate::threaded::fault_before;
 use oim_decode::TableBlocks;
 use oim_json::{Layout, Sink, Spare, WriteFault, head};
 use oim_merge::{DocumentWriter, MergeEnd};
@@ -105,78 +108,86 @@ fn convert_table<R: Read + Drop, W: Sink>(
     }
 }
 
-/// Reads all tables to their ends, gives them to the writer, and appends the fault of each refused
-/// table to `faults`. Stops at a failed write.
+/// Reads all tables to their ends, gives them to a writer that has only begun, and ends the
+/// document. Appends the fault of each refused table to `faults`, which must be empty and have room
+/// for one of each. Stops at a failed write.
 fn convert_tables<R: Read + Drop, W: Sink>(
     alloc: Global,
     report: &Report,
     readers: Vec<Option<R>>,
     limits: Limits,
     faults: &mut Vec<TableFault>,
-    writer: &mut DocumentWriter,
+    mut writer: DocumentWriter,
     sink: &mut W,
-) -> Result<(), WriteFault>
+) -> MergeEnd
+    requires head { writer.head ≡ head_text report.now }
     requires count { length readers.items ≡ length report.now.tables }
     requires rows { limits.rows ≤ 4294967294 }
     requires empty { faults.old.items ≡ [] }
     requires room { length readers.items ≤ vec_capacity faults.old }
-    requires begun { writer.old.items ≡ [] }
-    requires sink { writer.old.sink ≡ W.seen sink.old }
-    ensures sink { writer.new.sink ≡ W.seen sink.new }
-    ensures continues { Continues writer.old writer.new }
-    ensures broken { IfErr result (λ fault. IsBroken writer.new fault) }
-    ensures faults { OnOk result (faults.new.items ≡ refusals writer.new.items) }
-    ensures reads { ReadsTables R.remaining report.now limits.rows readers.items writer.new.items result }
+    requires begun { writer.items ≡ [] }
+    requires sink { writer.sink ≡ W.seen sink.old }
+    ensures { WritesUntil (AreRead R.remaining report.now limits.rows 0 readers.items) writer.layout report.now writer.before (W.seen sink.new) faults.new.items result }
 {
     if let Some(fault) = writer.fault() {
-        return Err(fault);
+        return MergeEnd::Write(fault);
     }
     let mut table = 0;
     for reader in readers {
-        match convert_table(alloc, report, table, reader, limits, writer, sink) {
+        match convert_table(alloc, report, table, reader, limits, &mut writer, sink) {
             Ok(ending) => writer.end_table(numbered(table, ending), faults),
-            Err(fault) => return Err(fault),
+            Err(fault) => return MergeEnd::Write(fault),
         }
         table += 1;
     }
-    Ok(())
+    writer.finish(sink)
 }
 
-/// Gives all tables to a writer that has only begun, and ends the document. `faults` must be empty
-/// and have room for one fault of each table.
-fn write_tables<R: Read + Drop, W: Sink>(
+/// Converts a report on one thread as [`convert_serial`] does, and answers as
+/// [`convert`](crate::convert) does: with a run, which has no drains, or with `WrongReaders` or
+/// `Memory`. After a failed write nothing more is read, and the run has the faults of the tables
+/// before it. `limits.rows` is at most 4,294,967,294.
+pub fn convert_here<R: Read + Drop, W: Sink>(
     alloc: Global,
     report: &Report,
     readers: Vec<Option<R>>,
     limits: Limits,
-    mut faults: Vec<TableFault>,
-    mut writer: DocumentWriter,
+    layout: Layout,
     sink: &mut W,
-) -> Result<(), ConvertFault>
-    requires head { writer.head ≡ head_text report.now }
-    requires count { length readers.items ≡ length report.now.tables }
-    requires rows { limits.rows ≤ 4294967294 }
-    requires empty { faults.items ≡ [] }
-    requires room { length readers.items ≤ vec_capacity faults }
-    requires begun { writer.items ≡ [] }
-    requires sink { writer.sink ≡ W.seen sink.old }
-    ensures writes { WritesAlone R.remaining writer.layout report.now limits.rows readers.items writer.before (W.seen sink.new) result }
-    ensures begun { HasBegun result }
+) -> Result<Run, ConvertFault>
+    requires { limits.rows ≤ 4294967294 }
+
+    // The fault is that of one worker and rings of one block.
+    ensures faults { AnswersFault (early_fault 1 1 (length readers.items) (length report.now.tables)) result }
+    ensures writes { WritesHere R.remaining layout report.now limits.rows readers.items (W.seen sink.old) (W.seen sink.new) result }
 {
-    if let Err(fault) = convert_tables(
-        alloc,
-        report,
-        readers,
-        limits,
-        &mut faults,
-        &mut writer,
-        sink,
-    ) {
-        return Err(ConvertFault::Write(fault));
+    if let Some(fault) = fault_before(1, 1, readers.len(), report.tables()) {
+        return Err(fault);
     }
-    match writer.finish(sink) {
+    let Ok(head) = head(alloc, report) else {
+        return Err(ConvertFault::Memory);
+    };
+    let Ok(mut faults) = Vec::with_capacity(alloc, readers.len()) else {
+        return Err(ConvertFault::Memory);
+    };
+    let drains = Vec::new(alloc);
+    let writer = DocumentWriter::begin(layout, head.as_slice(), sink);
+    let end = convert_tables(alloc, report, readers, limits, &mut faults, writer, sink);
+    Ok(Run {
+        drains,
+        faults,
+        end,
+    })
+}
+
+/// Returns the answer of a conversion on one thread, by its run.
+fn answer_of(run: Result<Run, ConvertFault>) -> Result<(), ConvertFault>
+    ensures { result ≡ spec.answer_of run }
+{
+    let run = run?;
+    match run.end {
         MergeEnd::Complete => Ok(()),
-        MergeEnd::Refused => Err(ConvertFault::Tables(faults)),
+        MergeEnd::Refused => Err(ConvertFault::Tables(run.faults)),
         MergeEnd::Write(fault) => Err(ConvertFault::Write(fault)),
     }
 }
@@ -217,15 +228,5 @@ pub fn convert_serial<R: Read + Drop, W: Sink>(
     ensures leaves { Leaves (W.seen sink.old) (W.seen sink.new) result }
     ensures few { AreFew (length report.now.tables) result }
 {
-    if readers.len() != report.tables() {
-        return Err(ConvertFault::WrongReaders);
-    }
-    let Ok(head) = head(alloc, report) else {
-        return Err(ConvertFault::Memory);
-    };
-    let Ok(faults) = Vec::with_capacity(alloc, readers.len()) else {
-        return Err(ConvertFault::Memory);
-    };
-    let writer = DocumentWriter::begin(layout, head.as_slice(), sink);
-    write_tables(alloc, report, readers, limits, faults, writer, sink)
+    answer_of(convert_here(alloc, report, readers, limits, layout, sink))
 }

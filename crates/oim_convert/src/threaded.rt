@@ -29,7 +29,12 @@ use std::sync::Wait;
 use std::thread::Threads;
 
 /// Returns the fault that is found before anything is prepared.
-fn fault_before(workers: usize, size: usize, readers: usize, tables: usize) -> Option<ConvertFault>
+pub(crate) fn fault_before(
+    workers: usize,
+    size: usize,
+    readers: usize,
+    tables: usize,
+) -> Option<ConvertFault>
     ensures fault { result ≡ early_fault workers size readers tables }
     ensures fine { IfNone result (IsWorkerCount workers × IsRingSize size × (readers ≡ tables)) }
 {

@@ -6,4 +6,4 @@ mod plain_rows;
 mod row_rest;
 pub(crate) mod row_texts;
 pub(crate) mod table_blocks;
-mod text_rows;
+pub(crate) mod text_rows;

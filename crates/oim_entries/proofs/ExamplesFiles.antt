@@ -1,6 +1,7 @@
 -- Parameters files, types tables and the bytes of a metadata on worked cases, at their limits. The
 -- results are from xBRL-CSV 1.0, RFC 4180 and this project's own formats.
 use Rattle.std.proofs.Common.{◌≡◌, ℕ, List, [], ◌∷◌, Option, Some, None, Ok, Err, refl, codes, map}
+use Rattle.std.specs.Result.{result_err}
 use Rattle.std.specs.Str.{chars, is_utf8}
 use lib.Utf8.{encode}
 use Rattle.oim_cells.specs.declared.cells.NumberKind.TheVariants.{Integer, Decimal, Double}
@@ -9,9 +10,10 @@ use Rattle.csv.specs.Machine.{next_record}
 use Rattle.csv.specs.Reading.{records_from, strip_bom}
 use Rattle.csv.specs.Records.{field_at}
 use Rattle.csv.specs.declared.error.ErrorKind.TheVariants as kind
-use Rattle.oim_entries.specs.BadEntries.{BadRecord, entries_of, file_entries}
+use Rattle.oim_entries.specs.BadEntries.{BadRecord, entries_of, file_entries, refusal_fault}
 use Rattle.oim_entries.specs.EntryFaults.{in_cell, meta_fault, of_whole}
 use Rattle.oim_entries.specs.declared.entry_fault.EntryProblem.{EntryProblem}
+use Rattle.oim_entries.specs.declared.entry_fault.EntryRefusal.TheVariants.{Bad, Unread}
 use Rattle.oim_entries.specs.declared.entry_fault.EntryProblem.TheVariants.{NoHeader, BadHeader, TooMany, CellCount, NotUtf8, BadName, RepeatedName, UnknownType, UnknownPeriod, UnknownValues}
 use Rattle.oim_entries.specs.CsvFiles.{EntryFile, all_of, fault_of_read, file_result, text_field}
 use Rattle.oim_records.specs.state.ReadFaults.{fault_of_kind}
@@ -20,12 +22,12 @@ use Rattle.oim_records.specs.declared.read_fault.ReadFault.TheVariants as read
 use Rattle.oim_entries.specs.declared.type_words.TypeWords.TheVariants.{Plain, Wider}
 use Rattle.oim_entries.specs.FaultNames.{fault_number, fault_name}
 use Rattle.oim_records.specs.Grids.{Record, grid, records_left}
-use Rattle.oim_entries.specs.ParametersFile.{bad_parameter, parameters_file, parameters_result}
+use Rattle.oim_entries.specs.ParametersFile.{parameters_entries, parameters_file, parameters_result}
 use Rattle.oim_names.specs.Lookup.{value_at}
 use Rattle.oim_entries.specs.KindWords.{Words}
 use Rattle.oim_entries.specs.TypeWords.{by_type, kind_given, plain_words, table_chosen, wider_words}
 use Rattle.oim_entries.specs.state.Held.{table_in}
-use Rattle.oim_entries.specs.TypesFile.{bad_type, types_file, types_result}
+use Rattle.oim_entries.specs.TypesFile.{types_entries, types_file, types_result}
 use Rattle.oim_report.specs.Named.{value_under}
 use Rattle.oim_report.specs.Types.{kind_in}
 use Rattle.oim_entries.specs.declared.fault.MetaFault.TheVariants.{Syntax, NotReport, BadNamespaces, BadTaxonomy, Unsupported, BadIdentifier, BadTemplate, ColumnKinds, UnknownTemplate}
@@ -212,6 +214,12 @@ earliest = refl
 abbrev bad_at : ℕ → Option ℕ → EntryProblem → Record → Option BadRecord
 bad_at n column problem r = Some (in_cell n column problem, r)
 
+abbrev bad_parameter : List Record → Option BadRecord
+bad_parameter rs = result_err (parameters_entries rs)
+
+abbrev bad_type : List Record → Option BadRecord
+bad_type rs = result_err (types_entries rs)
+
 -- The header is the first to be bad. A cell that is not UTF-8 is bad before the name.
 bad_parameters_found :
     (bad_parameter [] ≡ bad_at 0 None NoHeader [])
@@ -256,6 +264,12 @@ published_faults :
     map (meta_fault BadTypes) (NoHeader ∷ BadHeader ∷ TooMany ∷ CellCount ∷ NotUtf8 ∷ BadName ∷ RepeatedName ∷ UnknownType ∷ UnknownPeriod ∷ UnknownValues ∷ [])
     ≡ BadTypes ∷ BadTypes ∷ TooLarge ∷ BadTypes ∷ BadTypes ∷ BadTypes ∷ BadTypes ∷ BadTypes ∷ BadTypes ∷ BadTypes ∷ []
 published_faults = refl
+
+-- The published fault of a refusal: that of its bad record, or of its read.
+published_refusals :
+    map (refusal_fault BadTypes) (Bad (of_whole 1 TooMany, []) ∷ Bad (in_cell 2 (Some 1) BadName, name_value) ∷ Unread read.Read ∷ Unread read.Memory ∷ [])
+    ≡ TooLarge ∷ BadTypes ∷ Read ∷ Memory ∷ []
+published_refusals = refl
 
 -- THE FAULTS: this project's numbers and names.
 numbers :

@@ -1,6 +1,7 @@
 -- The types table under `type3` on worked cases: every word, and each refusal. The results are from
 -- this project's format.
 use Rattle.std.proofs.Common.{◌≡◌, ℕ, List, [], ◌∷◌, Option, Some, None, Result, Ok, Err, refl, codes, map}
+use Rattle.std.specs.Result.{result_err}
 use Rattle.std.specs.Str.{chars, is_utf8}
 use lib.Utf8.{encode}
 use Rattle.oim_cells.specs.declared.cells.NumberKind.TheVariants as number
@@ -22,7 +23,7 @@ use Rattle.oim_entries.specs.BadEntries.{BadRecord, entries_of}
 use Rattle.oim_entries.specs.CsvFiles.{all_of}
 use Rattle.oim_entries.specs.EntryFaults.{in_cell}
 use Rattle.oim_entries.specs.TypeWords.{by_three, kind_given, table_chosen}
-use Rattle.oim_entries.specs.TypesFile.{bad_type, types_file, types_result}
+use Rattle.oim_entries.specs.TypesFile.{types_entries, types_file, types_result}
 use Rattle.oim_entries.specs.WholeFile.{kind_said}
 use Rattle.oim_entries.specs.declared.entry_fault.EntryProblem.{EntryProblem}
 use Rattle.oim_entries.specs.declared.entry_fault.EntryProblem.TheVariants.{CellCount, NotUtf8, BadName, RepeatedName, UnknownType, UnknownPeriod, UnknownValues}
@@ -176,6 +177,9 @@ types = (refl, refl, refl, refl)
 -- THE FIRST BAD RECORD: its number, where the header is 0, its cell, from 0, and its fields.
 abbrev bad_at : ℕ → Option ℕ → EntryProblem → Record → Option BadRecord
 bad_at n column problem r = Some (in_cell n column problem, r)
+
+abbrev bad_type : List Record → Option BadRecord
+bad_type rs = result_err (types_entries rs)
 
 -- A cell that is not UTF-8 is bad before the name, and the name before the cells after it.
 bad_types :

@@ -4,7 +4,7 @@ use Rattle.std.proofs.lemmas.Option.{IfSome_then}
 use Rattle.std.specs.Prelude.{nat_eq, length}
 use Rattle.oim_names.specs.Names.{is_identifier, is_ncname}
 use Rattle.oim_records.specs.Grids.{Field, Record, grid}
-use Rattle.oim_entries.specs.BadEntries.{BadRecord, entries_of, file_entries, one_entry, published, unless_found}
+use Rattle.oim_entries.specs.BadEntries.{BadRecord, GivesEntries, entries_of, file_entries, one_entry, published, refusal_fault, unless_found}
 use Rattle.oim_entries.specs.CsvFiles.{EntryFile, OrOutside, all_of, file_result, one_more, two_texts, unless_bad}
 use Rattle.oim_entries.specs.EntryFaults.{meta_fault, not_texts}
 use Rattle.oim_entries.specs.ParametersFile.{parameters_chosen, parameters_entries, parameters_file, parameters_result, is_parameters_header, wrong_parameter}
@@ -15,10 +15,9 @@ use Rattle.oim_entries.specs.KindWords.{kind_words, with_period, with_values}
 use Rattle.oim_entries.specs.TypeWords.{Table, TypeTexts, by_three, by_type, field_count, kind_by_period, kind_by_values, kind_given, table_chosen, texts_in}
 use Rattle.oim_entries.specs.declared.entry_fault.EntryProblem.{EntryProblem}
 use Rattle.oim_report.specs.declared.kind.Kind.{Kind}
-use Rattle.oim_entries.specs.state.Held.{AnswersWith, refused_fault}
 use Rattle.oim_report.specs.Types.{kind_in}
-use Rattle.oim_entries.specs.declared.entry_fault.Refused.{Refused}
-use Rattle.oim_entries.specs.declared.entry_fault.Refused.TheVariants.{Bad, Unread}
+use Rattle.oim_entries.specs.declared.entry_fault.EntryRefusal.{EntryRefusal}
+use Rattle.oim_entries.specs.declared.entry_fault.EntryRefusal.TheVariants.{Bad, Unread}
 use Rattle.oim_entries.specs.declared.fault.MetaFault.{MetaFault}
 use Rattle.oim_entries.specs.declared.fault.MetaFault.TheVariants as fault
 use Rattle.oim_records.specs.declared.read_fault.ReadFault.TheVariants as read
@@ -153,18 +152,18 @@ pub types_published : (rs : List Record) → types_result rs ≡ published fault
 types_published rs = file_published fault.BadTypes types_chosen types_choice rs
 
 -- What a caller gets for what was read.
-abbrev pub as_published : {S : Type 0} → MetaFault → Result S Refused → Result S MetaFault
+abbrev pub as_published : {S : Type 0} → MetaFault → Result S EntryRefusal → Result S MetaFault
 as_published bad (Ok s) = Ok s
-as_published bad (Err e) = Err (refused_fault bad e)
+as_published bad (Err e) = Err (refusal_fault bad e)
 
-one_told : {S : Type 0} (bad : MetaFault) (row : Record) (o : Result S Refused) (answer : Result S BadRecord) (all : Result S MetaFault)
-    → all ≡ published bad answer → AnswersWith row o answer → OrOutside (as_published bad o) all
-one_told bad row (Ok s) answer all law h = inr (inr (sym (law ∙ rw h refl)))
-one_told bad row (Err (Bad e)) answer all law h = inr (inr (sym (law ∙ rw h refl)))
-one_told bad row (Err (Unread read.Read)) answer all law h = inl refl
-one_told bad row (Err (Unread read.Memory)) answer all law h = inr (inl refl)
+one_told : {S : Type 0} (bad : MetaFault) (o : Result S EntryRefusal) (answer : Result S BadRecord) (all : Result S MetaFault)
+    → all ≡ published bad answer → GivesEntries o answer → OrOutside (as_published bad o) all
+one_told bad (Ok s) answer all law h = inr (inr (sym (law ∙ rw h refl)))
+one_told bad (Err (Bad b)) answer all law h = inr (inr (sym (law ∙ rw h refl)))
+one_told bad (Err (Unread read.Read)) answer all law h = inl refl
+one_told bad (Err (Unread read.Memory)) answer all law h = inr (inl refl)
 
-pub told : {S : Type 0} (bad : MetaFault) (row : Record) (o : Result S Refused) (entries : List Record → Result S BadRecord) (all : List Record → Result S MetaFault)
+pub told : {S : Type 0} (bad : MetaFault) (o : Result S EntryRefusal) (entries : List Record → Result S BadRecord) (all : List Record → Result S MetaFault)
     → ((rs : List Record) → all rs ≡ published bad (entries rs)) → (text : Option (List ℕ))
-    → IfSome text (λ bytes. AnswersWith row o (entries (grid bytes))) → IfSome text (λ bytes. OrOutside (as_published bad o) (all (grid bytes)))
-told bad row o entries all law text given = IfSome_then text given (λ bytes h. one_told bad row o (entries (grid bytes)) (all (grid bytes)) (law (grid bytes)) h)
+    → IfSome text (λ bytes. GivesEntries o (entries (grid bytes))) → IfSome text (λ bytes. OrOutside (as_published bad o) (all (grid bytes)))
+told bad o entries all law text given = IfSome_then text given (λ bytes h. one_told bad o (entries (grid bytes)) (all (grid bytes)) (law (grid bytes)) h)

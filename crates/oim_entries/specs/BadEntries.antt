@@ -1,12 +1,12 @@
 -- The first bad record of a CSV file (RFC 4180) of entries, and what is wrong with it.
-use Rattle.std.specs.Prelude.{ℕ, ◌+◌, List, [], ◌∷◌, Option, Result, Ok, Err, if◌then◌else◌, nat_le}
+use Rattle.std.specs.Prelude.{⊤, ◌≡◌, ℕ, ◌+◌, List, [], ◌∷◌, Option, Result, Ok, Err, if◌then◌else◌, nat_le}
 use Rattle.std.specs.Option.{ok_or, option_map_or}
-use Rattle.csv.specs.Records.{fields_of}
-use Rattle.oim_entries.specs.CsvFiles.{EntryFile}
+use Rattle.oim_entries.specs.CsvFiles.{EntryFile, fault_of_read}
 use Rattle.oim_entries.specs.EntryFaults.{meta_fault, of_whole}
 use Rattle.oim_records.specs.Grids.{Record}
-use Rattle.oim_entries.specs.declared.entry_fault.BadEntry.{BadEntry}
 use Rattle.oim_entries.specs.declared.entry_fault.EntryFault.{EntryFault}
+use Rattle.oim_entries.specs.declared.entry_fault.EntryRefusal.{EntryRefusal}
+use Rattle.oim_entries.specs.declared.entry_fault.EntryRefusal.TheVariants.{Bad, Unread}
 use Rattle.oim_entries.specs.declared.entry_fault.EntryProblem.TheVariants.{BadHeader, NoHeader, TooMany}
 use Rattle.oim_entries.specs.declared.fault.MetaFault.{MetaFault}
 
@@ -43,9 +43,16 @@ abbrev pub file_entries : {S : Type 0} → (Record → Option (EntryFile S)) →
 file_entries chosen [] = Err (of_whole 0 NoHeader, [])
 file_entries chosen (r ∷ rs) = option_map_or (λ f. entries_of f 0 f.start rs) (chosen r) (Err (of_whole 0 BadHeader, r))
 
--- A bad record, as the program gives it.
-abbrev pub bad_entry : BadEntry → BadRecord
-bad_entry b = (b.fault, fields_of b.row)
+-- What is read of a file: its value, or its first bad record. Reading may end early.
+abbrev pub GivesEntries : {S : Type 0} → Result S EntryRefusal → Result S BadRecord → Type 0
+GivesEntries (Ok s) answer = answer ≡ Ok s
+GivesEntries (Err (Bad b)) answer = answer ≡ Err b
+GivesEntries (Err (Unread fault)) answer = ⊤
+
+-- The published fault of a file whose bad records have this one.
+abbrev pub refusal_fault : MetaFault → EntryRefusal → MetaFault
+refusal_fault bad (Bad b) = meta_fault bad b.0.problem
+refusal_fault bad (Unread fault) = fault_of_read fault
 
 -- The published answer of a file whose bad records have this fault.
 abbrev pub published : {S : Type 0} → MetaFault → Result S BadRecord → Result S MetaFault

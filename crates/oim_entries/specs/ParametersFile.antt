@@ -4,7 +4,6 @@ use Rattle.std.specs.Option.{option_and_then, option_map_or}
 use Rattle.std.specs.Str.{bytes_eq}
 use Rattle.oim_names.specs.Lookup.{value_at}
 use Rattle.oim_names.specs.Names.{is_identifier}
-use Rattle.std.specs.Result.{result_err}
 use Rattle.oim_entries.specs.BadEntries.{BadRecord, file_entries}
 use Rattle.oim_entries.specs.CsvFiles.{EntryFile, file_result, two_texts}
 use Rattle.oim_entries.specs.EntryFaults.{in_cell, not_texts}
@@ -48,6 +47,3 @@ parameters_result = file_result fault.BadParameter parameters_chosen
 -- The parameters of a file, or its first bad record.
 abbrev pub parameters_entries : List Record → Result ParametersValue BadRecord
 parameters_entries = file_entries parameters_chosen
-
-abbrev pub bad_parameter : List Record → Option BadRecord
-bad_parameter rs = result_err (parameters_entries rs)

@@ -58,6 +58,3 @@ types_result = file_result fault.BadTypes types_chosen
 -- The types of a file, or its first bad record.
 abbrev pub types_entries : List Record → Result TypesValue BadRecord
 types_entries = file_entries types_chosen
-
-abbrev pub bad_type : List Record → Option BadRecord
-bad_type rs = result_err (types_entries rs)

@@ -1,17 +1,16 @@
-//! The first fault of a types table or a parameters file, with its place.
+//! The first fault of a types table or a parameters file, with its place and its record.
 
-ghost use Rattle.std.specs.Prelude.{◌≡◌, Result, Some, IfOk};
-ghost use Rattle.std.specs.Option.{option_map};
-ghost use Rattle.std.specs.Result.{result_err};
+ghost use Rattle.std.specs.Prelude.{◌≡◌, Result, Some};
 ghost use Rattle.csv.specs.Records.{fields_of};
-ghost use Rattle.oim_entries.specs.BadEntries.{BadRecord, bad_entry};
+ghost use Rattle.oim_entries.specs.BadEntries.{BadRecord, GivesEntries, refusal_fault};
 ghost use Rattle.oim_entries.specs.EntryFaults.{in_cell, meta_fault, of_whole};
-ghost use Rattle.oim_entries.specs.state.Held.{AnswersWith, refused_fault};
+ghost use Rattle.oim_entries.specs.state.Held.{AnswersWith};
 
 use crate::fault::MetaFault;
 use csv::ByteRecord;
 use oim_records::ReadFault;
 use std::alloc::AllocError;
+use std::marker::Model;
 
 /// What is wrong with a types table or a parameters file.
 #[derive(Clone, Copy, Debug, PartialEq, Eq)]
@@ -93,13 +92,59 @@ impl EntryFault {
     }
 }
 
-/// The first fault of a types table or a parameters file, and the record that has it.
+/// The first bad record of a types table or a parameters file. Contracts see what is wrong with it,
+/// and its fields.
 #[derive(Drop)]
 pub struct BadEntry {
-    /// What is wrong, and where.
-    pub fault: EntryFault,
-    /// The record, which is empty if the file has no record.
-    pub row: ByteRecord,
+    fault: EntryFault,
+    row: ByteRecord,
+}
+
+impl Model for BadEntry {
+    ghost use Rattle.std.specs.Prelude.{List, ℕ};
+    ghost use Rattle.csv.specs.Records.{fields_of};
+    ghost use Rattle.oim_entries.specs.declared.entry_fault.EntryFault.{EntryFault as FaultValue};
+
+    ghost Value = { FaultValue × List (List ℕ) };
+
+    ghost view = { λ b. (b.fault, fields_of b.row) };
+}
+
+impl BadEntry {
+    /// Returns what is wrong, and where.
+    pub fn fault(&self) -> EntryFault
+        ensures { result ≡ (self.now).0 }
+    {
+        self.fault
+    }
+
+    /// Returns the record, which is empty if the file has no record.
+    pub fn row(&self) -> &ByteRecord
+        ensures { fields_of result.now ≡ (self.now).1 }
+    {
+        &self.row
+    }
+}
+
+/// Why a types table or a parameters file gives no value.
+#[derive(Drop)]
+pub enum EntryRefusal {
+    /// The file has a fault. This is its first bad record.
+    Bad(BadEntry),
+    /// Reading ended early.
+    Unread(ReadFault),
+}
+
+impl EntryRefusal {
+    /// Returns the published fault of a file whose bad records have this one.
+    pub fn fault(&self, bad: MetaFault) -> MetaFault
+        ensures { result ≡ refusal_fault bad self.now }
+    {
+        match self {
+            EntryRefusal::Bad(entry) => entry.fault().problem.fault(bad),
+            EntryRefusal::Unread(fault) => MetaFault::from(*fault),
+        }
+    }
 }
 
 /// Why a file of entries gives no value.
@@ -109,18 +154,6 @@ pub(crate) enum Refused {
     Unread(ReadFault),
     /// The file has this fault.
     Bad(EntryFault),
-}
-
-impl Refused {
-    /// Returns the published fault of a file whose bad records have this one.
-    pub(crate) fn fault(self, bad: MetaFault) -> MetaFault
-        ensures { result ≡ refused_fault bad self }
-    {
-        match self {
-            Refused::Unread(fault) => MetaFault::from(fault),
-            Refused::Bad(fault) => fault.problem.fault(bad),
-        }
-    }
 }
 
 impl From<ReadFault> for Refused {
@@ -144,16 +177,16 @@ impl From<AllocError> for Refused {
     }
 }
 
-/// Returns the fault because of which a file gives no value, with the record that has it.
-pub(crate) fn bad_entry_in<T: Drop>(
+/// Returns the value of a file, or why it gives none. The last record that was read is `row`.
+pub(crate) fn with_row<T: Drop>(
     read: Result<T, Refused>,
     row: ByteRecord,
-) -> Result<Option<BadEntry>, ReadFault>
-    ensures { (answer : Result T BadRecord) → AnswersWith (fields_of row) read answer → IfOk result (λ found. option_map bad_entry found ≡ result_err answer) }
+) -> Result<T, EntryRefusal>
+    ensures { (answer : Result T BadRecord) → AnswersWith (fields_of row) read answer → GivesEntries result answer }
 {
     match read {
-        Ok(_) => Ok(None),
-        Err(Refused::Bad(fault)) => Ok(Some(BadEntry { fault, row })),
-        Err(Refused::Unread(fault)) => Err(fault),
+        Ok(value) => Ok(value),
+        Err(Refused::Bad(fault)) => Err(EntryRefusal::Bad(BadEntry { fault, row })),
+        Err(Refused::Unread(fault)) => Err(EntryRefusal::Unread(fault)),
     }
 }

@@ -29,8 +29,8 @@ pub fn types_are_of_all_records()
         → (u n : List ℕ) → kind_in types u n ≡ kind_said t rs u n }
 {}
 
-/// Proves that the value and the fault that `read_parameters` and `read_types` return are those of
-/// the first bad record, which `first_bad_parameter` and `first_bad_type` return.
+/// Proves that the value that `read_parameters` and `read_types` return is that of
+/// `read_parameters_at` and `read_types_at`, and that the fault is that of their bad record.
 pub fn fault_is_of_first_bad_record()
     ensures parameters { (rs : List Record) → parameters_result rs ≡ published BadParameter (parameters_entries rs) }
     ensures types { (rs : List Record) → types_result rs ≡ published BadTypes (types_entries rs) }

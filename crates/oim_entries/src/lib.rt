@@ -7,8 +7,8 @@
 //!   fault of its header or of its earliest bad record (`specs/ParametersFile.antt`,
 //!   `specs/TypesFile.antt`, `specs/CsvFiles.antt`). This holds for readers whose bytes are known.
 //!   Running out of memory and a failed read are the only exceptions.
-//! - `first_bad_parameter` and `first_bad_type` return the first bad record, what is wrong with it,
-//!   its number and which of its cells is bad, or `None` exactly if the file has no fault
+//! - `read_parameters_at` and `read_types_at` return the same value, or else the first bad record
+//!   itself, what is wrong with it, its number and which of its cells is bad
 //!   (`specs/BadEntries.antt`, `specs/EntryFaults.antt`). The fault that the calls above return is
 //!   that record's (`fault_is_of_first_bad_record`).
 //! - Laws about all records after the header (`fault_is_of_earliest_record`,
@@ -38,10 +38,10 @@ mod parameters;
 mod type_words;
 mod types;
 
-pub use entry_fault::{BadEntry, EntryFault, EntryProblem};
+pub use entry_fault::{BadEntry, EntryFault, EntryProblem, EntryRefusal};
 pub use fault::MetaFault;
 pub use file_laws::{
     fault_is_of_earliest_record, fault_is_of_first_bad_record, types_are_of_all_records,
 };
-pub use parameters::{first_bad_parameter, read_parameters};
-pub use types::{first_bad_type, read_types};
+pub use parameters::{read_parameters, read_parameters_at};
+pub use types::{read_types, read_types_at};

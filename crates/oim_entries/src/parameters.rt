@@ -1,19 +1,18 @@
 //! The parameters file.
 
-ghost use Rattle.std.specs.Prelude.{◌≡◌, IfOk, IfSome};
+ghost use Rattle.std.specs.Prelude.{◌≡◌, IfSome};
 ghost use Rattle.std.specs.Option.{option_map};
 ghost use Rattle.oim_entries.specs.CsvFiles.{OrOutside};
 ghost use Rattle.oim_records.specs.Grids.{grid};
-ghost use Rattle.oim_entries.specs.ParametersFile.{bad_parameter, parameters_result};
-ghost use Rattle.oim_entries.specs.BadEntries.{bad_entry};
+ghost use Rattle.oim_entries.specs.ParametersFile.{parameters_entries, parameters_result};
+ghost use Rattle.oim_entries.specs.BadEntries.{GivesEntries};
 
 use crate::entries::{Entries, read_file};
-use crate::entry_fault::{BadEntry, EntryFault, EntryProblem, Refused, bad_entry_in};
+use crate::entry_fault::{EntryFault, EntryProblem, EntryRefusal, Refused, with_row};
 use crate::fault::MetaFault;
 use crate::fields::texts_of_two;
 use csv::ByteRecord;
 use oim_names::is_identifier;
-use oim_records::ReadFault;
 use oim_report::Parameters;
 use std::alloc::Global;
 use std::io::Read;
@@ -72,6 +71,26 @@ impl Entries for NamesWithValues {
     }
 }
 
+/// Reads a parameters file, as `read_parameters` does, and returns its parameters, or why it gives
+/// none.
+///
+/// # Errors
+///
+/// - `Bad`: the file has a fault. It is that of the header or of the earliest bad record. The first
+///   bad cell of a record is the first that is not UTF-8, or else the name. The whole record is bad
+///   if it has another number of cells, if it is the header or if it is past the limit.
+/// - `Unread`: the reader failed, or memory ran out.
+pub fn read_parameters_at<R: Read + Drop>(
+    alloc: Global,
+    reader: R,
+) -> Result<Parameters, EntryRefusal>
+    ensures { IfSome (R.remaining reader) (λ bytes. GivesEntries result (parameters_entries (grid bytes))) }
+{
+    let mut row = ByteRecord::new(alloc);
+    let read = read_file::<NamesWithValues, R>(alloc, reader, &mut row);
+    with_row(read, row)
+}
+
 /// Reads a parameters file, a CSV file (RFC 4180) whose header is `name,value` and whose records
 /// each give a parameter (xBRL-CSV 1.0, parameters).
 ///
@@ -87,33 +106,13 @@ impl Entries for NamesWithValues {
 /// - `TooLarge`: there is a record after the 65,536th data record, whatever it has.
 /// - `Memory`: memory ran out.
 /// - `Read`: the reader failed.
+///
+/// `read_parameters_at` also returns the bad record.
 pub fn read_parameters<R: Read + Drop>(alloc: Global, reader: R) -> Result<Parameters, MetaFault>
     ensures { IfSome (R.remaining reader) (λ bytes. OrOutside result (parameters_result (grid bytes))) }
 {
-    let mut row = ByteRecord::new(alloc);
-    match read_file::<NamesWithValues, R>(alloc, reader, &mut row) {
+    match read_parameters_at(alloc, reader) {
         Ok(parameters) => Ok(parameters),
-        Err(refused) => Err(refused.fault(MetaFault::BadParameter)),
+        Err(refusal) => Err(refusal.fault(MetaFault::BadParameter)),
     }
-}
-
-/// Reads a parameters file and returns its first bad record, or `None` if it has no fault.
-///
-/// The file and its faults are those of `read_parameters`. The first bad cell of a record is the
-/// first that is not UTF-8, or else the name. The whole record is bad if it has another number of
-/// cells, if it is the header or if it is past the limit.
-///
-/// # Errors
-///
-/// The fault that ended the reading.
-pub fn first_bad_parameter<R: Read + Drop>(
-    alloc: Global,
-    reader: R,
-) -> Result<Option<BadEntry>, ReadFault>
-    ensures { IfSome (R.remaining reader)
-        (λ bytes. IfOk result (λ found. option_map bad_entry found ≡ bad_parameter (grid bytes))) }
-{
-    let mut row = ByteRecord::new(alloc);
-    let read = read_file::<NamesWithValues, R>(alloc, reader, &mut row);
-    bad_entry_in(read, row)
 }

@@ -1,19 +1,18 @@
 //! The types table.
 
-ghost use Rattle.std.specs.Prelude.{◌≡◌, IfOk, IfSome};
+ghost use Rattle.std.specs.Prelude.{◌≡◌, IfSome};
 ghost use Rattle.std.specs.Option.{option_map};
 ghost use Rattle.oim_entries.specs.CsvFiles.{OrOutside};
 ghost use Rattle.oim_records.specs.Grids.{grid};
-ghost use Rattle.oim_entries.specs.TypesFile.{bad_type, types_result};
-ghost use Rattle.oim_entries.specs.BadEntries.{bad_entry};
+ghost use Rattle.oim_entries.specs.TypesFile.{types_entries, types_result};
+ghost use Rattle.oim_entries.specs.BadEntries.{GivesEntries};
 
 use crate::entries::{Entries, read_file};
-use crate::entry_fault::{BadEntry, EntryFault, EntryProblem, Refused, bad_entry_in};
+use crate::entry_fault::{EntryFault, EntryProblem, EntryRefusal, Refused, with_row};
 use crate::fault::MetaFault;
 use crate::type_words::TypeWords;
 use csv::ByteRecord;
 use oim_names::is_ncname;
-use oim_records::ReadFault;
 use oim_report::Types;
 use std::alloc::Global;
 use std::io::Read;
@@ -72,6 +71,23 @@ impl Entries for TypeWords {
     }
 }
 
+/// Reads a types table, as `read_types` does, and returns its types, or why it gives none.
+///
+/// # Errors
+///
+/// - `Bad`: the file has a fault. It is that of the header or of the earliest bad record. The first
+///   bad cell of a record is the first that is not UTF-8, or else the name, the type name, the
+///   period or the values, in this order. The whole record is bad if it has another number of
+///   cells, if it is the header or if it is past the limit.
+/// - `Unread`: the reader failed, or memory ran out.
+pub fn read_types_at<R: Read + Drop>(alloc: Global, reader: R) -> Result<Types, EntryRefusal>
+    ensures { IfSome (R.remaining reader) (λ bytes. GivesEntries result (types_entries (grid bytes))) }
+{
+    let mut row = ByteRecord::new(alloc);
+    let read = read_file::<TypeWords, R>(alloc, reader, &mut row);
+    with_row(read, row)
+}
+
 /// Reads a types table, a CSV file (RFC 4180) whose records each give the kind of a concept, of a
 /// dimension or of a member.
 ///
@@ -101,34 +117,13 @@ impl Entries for TypeWords {
 /// - `TooLarge`: there is a record after the 1,048,576th data record, whatever it has.
 /// - `Memory`: memory ran out.
 /// - `Read`: the reader failed.
+///
+/// `read_types_at` also returns the bad record.
 pub fn read_types<R: Read + Drop>(alloc: Global, reader: R) -> Result<Types, MetaFault>
     ensures { IfSome (R.remaining reader) (λ bytes. OrOutside result (types_result (grid bytes))) }
 {
-    let mut row = ByteRecord::new(alloc);
-    match read_file::<TypeWords, R>(alloc, reader, &mut row) {
+    match read_types_at(alloc, reader) {
         Ok(types) => Ok(types),
-        Err(refused) => Err(refused.fault(MetaFault::BadTypes)),
+        Err(refusal) => Err(refusal.fault(MetaFault::BadTypes)),
     }
-}
-
-/// Reads a types table and returns its first bad record, or `None` if it has no fault.
-///
-/// The file and its faults are those of `read_types`. The first bad cell of a record is the first
-/// that is not UTF-8, or else the name, the type name, the period or the values, in this order. The
-/// whole record is bad if it has another number of cells, if it is the header or if it is past the
-/// limit.
-///
-/// # Errors
-///
-/// The fault that ended the reading.
-pub fn first_bad_type<R: Read + Drop>(
-    alloc: Global,
-    reader: R,
-) -> Result<Option<BadEntry>, ReadFault>
-    ensures { IfSome (R.remaining reader)
-        (λ bytes. IfOk result (λ found. option_map bad_entry found ≡ bad_type (grid bytes))) }
-{
-    let mut row = ByteRecord::new(alloc);
-    let read = read_file::<TypeWords, R>(alloc, reader, &mut row);
-    bad_entry_in(read, row)
 }

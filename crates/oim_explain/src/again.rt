@@ -2,13 +2,13 @@
 //!
 //! Not proved: what `report_explanation` and `explain_report` return. Tests cover it.
 
-use crate::entries::{EntryFile, bad_record, entry_found, wrong_entry};
+use crate::entries::{entry_found, wrong_entry};
 use crate::explanation::{Explanation, explanation_text};
-use crate::files::{changed, of_file, unread};
+use crate::files::{of_file, unread};
 use crate::metadata::explain_metadata;
 use crate::quotes::{UNCLOSED, unclosed_quote};
 use oim_entries::{BadEntry, EntryProblem};
-use oim_files::{Folder, Source, folder_of, metadata_at, path_in, url_in};
+use oim_files::{FileFault, Folder, Source, metadata_at};
 use oim_meta::{Finding, MetaFault};
 use oim_names::{Items, Text};
 use oim_places::{line_again, place_in_file};
@@ -28,17 +28,17 @@ fn of_metadata<R: Read + Drop, F: Folder<R>>(
     }
 }
 
-/// Returns the explanation of a bad record of the file at this path.
+/// Returns the explanation of a bad record of the file at this path, whose line is counted there.
 fn of_record<R: Read + Drop, F: Folder<R>>(
     alloc: Global,
     folder: &mut F,
     path: &str,
-    file: EntryFile,
+    source: Source,
     bad: &BadEntry,
 ) -> Result<Explanation, AllocError> {
-    let fault = bad.fault;
+    let (fault, row) = (bad.fault(), bad.row());
     let line = line_again(alloc, folder, path, fault.number);
-    let mut cause = wrong_entry(file, &fault, &bad.row);
+    let mut cause = wrong_entry(source, &fault, row);
     let mut advice = Items::new(alloc);
     if fault.problem == EntryProblem::CellCount {
         if let Some(opened) = unclosed_quote(alloc, folder, path, line)? {
@@ -48,7 +48,7 @@ fn of_record<R: Read + Drop, F: Folder<R>>(
     }
     Ok(Explanation {
         place: Text::new(place_in_file(alloc, path, line, fault.column)?),
-        found: Text::new(entry_found(alloc, &fault, &bad.row)?),
+        found: Text::new(entry_found(alloc, &fault, row)?),
         source: None,
         cause,
         advice,
@@ -56,109 +56,36 @@ fn of_record<R: Read + Drop, F: Folder<R>>(
     })
 }
 
-/// Returns the explanation of a fault of the types table or the parameters file at this path.
-fn of_entries<R: Read + Drop, F: Folder<R>>(
-    alloc: Global,
-    folder: &mut F,
-    path: &str,
-    file: EntryFile,
-) -> Result<Explanation, AllocError> {
-    let Some(reader) = folder.open(path) else {
-        return of_file(alloc, path, "the file cannot be opened again");
-    };
-    match &bad_record(alloc, file, reader)? {
-        Some(bad) => of_record(alloc, folder, path, file, bad),
-        None => changed(alloc, path),
-    }
-}
-
-/// Returns the name of the parameters file in the metadata at this path. Returns `None` if it has
-/// none or cannot be read again.
-fn url_again<R: Read + Drop, F: Folder<R>>(
-    alloc: Global,
-    folder: &mut F,
-    meta: &str,
-) -> Option<Text> {
-    match metadata_at(alloc, folder, meta) {
-        Ok(bytes) => url_in(alloc, bytes.as_slice()).unwrap_or(None),
-        Err(_) => None,
-    }
-}
-
-/// Returns the path of the parameters file that the metadata at this path names. Returns `None` if
-/// it names none or cannot be read again.
-fn parameters_path<R: Read + Drop, F: Folder<R>>(
-    alloc: Global,
-    folder: &mut F,
-    meta: &str,
-) -> Result<Option<String>, AllocError> {
-    match url_again(alloc, folder, meta) {
-        Some(url) => Ok(Some(path_in(alloc, folder_of(meta), url.as_str())?)),
-        None => Ok(None),
-    }
-}
-
-/// Returns the explanation of a fault of the parameters file of the metadata at this path.
-fn of_parameters<R: Read + Drop, F: Folder<R>>(
-    alloc: Global,
-    folder: &mut F,
-    meta: &str,
-) -> Result<Explanation, AllocError> {
-    match parameters_path(alloc, folder, meta)? {
-        Some(path) => of_entries(alloc, folder, path.as_str(), EntryFile::Parameters),
-        None => changed(alloc, meta),
-    }
-}
-
-/// Returns an explanation at the parameters file of the metadata at this path, or at the metadata
-/// if that names none.
-fn of_parameters_file<R: Read + Drop, F: Folder<R>>(
-    alloc: Global,
-    folder: &mut F,
-    meta: &str,
-    said: &'static str,
-) -> Result<Explanation, AllocError> {
-    match parameters_path(alloc, folder, meta)? {
-        Some(path) => of_file(alloc, path.as_str(), said),
-        None => of_file(alloc, meta, said),
-    }
-}
-
-/// Returns an explanation at a file as a whole, whatever is in it.
-fn of_whole<R: Read + Drop, F: Folder<R>>(
-    alloc: Global,
-    meta: &str,
-    types: &str,
-    folder: &mut F,
-    source: Source,
-    said: &'static str,
-) -> Result<Explanation, AllocError> {
-    match source {
-        Source::Report => of_file(alloc, meta, said),
-        Source::Types => of_file(alloc, types, said),
-        Source::Parameters => of_parameters_file(alloc, folder, meta, said),
+/// Returns the path of the file that has a fault.
+fn path_of<'p>(meta: &'p str, types: &'p str, source: Source, fault: &'p FileFault) -> &'p str {
+    match (source, &fault.path) {
+        (Source::Types, _) => types,
+        (Source::Parameters, Some(path)) => path.as_str(),
+        _ => meta,
     }
 }
 
 /// Returns the explanation of a fault of the metadata and the types table at these paths, or of the
-/// parameters file, as a run found it. The file that has the fault is read again. If it cannot be
-/// read again, or a fault of an entry is no longer there, the explanation is about that.
+/// parameters file, as a run found it.
+///
+/// The metadata is read again for what is at the fault's place, and a file of entries for the line
+/// of its bad record. If the metadata cannot be read again, the explanation is about that.
 pub fn report_explanation<R: Read + Drop, F: Folder<R>>(
     alloc: Global,
     meta: &str,
     types: &str,
     folder: &mut F,
     source: Source,
-    finding: &Finding,
+    fault: &FileFault,
 ) -> Result<Explanation, AllocError> {
-    if matches!(finding.fault, MetaFault::Memory | MetaFault::Read) {
-        let said = finding.fault.explanation();
-        return of_whole(alloc, meta, types, folder, source, said);
+    let path = path_of(meta, types, source, fault);
+    if let Some(bad) = &fault.entry {
+        return of_record(alloc, folder, path, source, bad);
     }
-    match source {
-        Source::Report => of_metadata(alloc, meta, folder, finding),
-        Source::Types => of_entries(alloc, folder, types, EntryFile::Types),
-        Source::Parameters => of_parameters(alloc, folder, meta),
+    let finding = &fault.finding;
+    match finding.fault {
+        MetaFault::Memory | MetaFault::Read => of_file(alloc, path, finding.fault.explanation()),
+        _ => of_metadata(alloc, path, folder, finding),
     }
 }
 
@@ -170,8 +97,8 @@ pub fn explain_report<R: Read + Drop, F: Folder<R>>(
     types: &str,
     folder: &mut F,
     source: Source,
-    finding: &Finding,
+    fault: &FileFault,
 ) -> Result<String, AllocError> {
-    let explanation = report_explanation(alloc, meta, types, folder, source, finding)?;
+    let explanation = report_explanation(alloc, meta, types, folder, source, fault)?;
     explanation_text(alloc, &explanation)
 }

@@ -2,37 +2,10 @@
 
 use crate::headers::wrong_header;
 use csv::ByteRecord;
-use oim_entries::{BadEntry, EntryFault, EntryProblem, first_bad_parameter, first_bad_type};
-use oim_meta::ReadFault;
+use oim_entries::{EntryFault, EntryProblem};
+use oim_files::Source;
 use oim_places::{cell_shown, excerpt, record_shown, text_at};
 use std::alloc::{AllocError, Global};
-use std::io::Read;
-
-/// A file of entries.
-#[derive(Clone, Copy)]
-pub(crate) enum EntryFile {
-    /// A types table.
-    Types,
-    /// A parameters file.
-    Parameters,
-}
-
-/// Returns the first bad record of a file. Returns `None` if it has none or was not read to it.
-pub(crate) fn bad_record<R: Read + Drop>(
-    alloc: Global,
-    file: EntryFile,
-    reader: R,
-) -> Result<Option<BadEntry>, AllocError> {
-    let bad = match file {
-        EntryFile::Types => first_bad_type(alloc, reader),
-        EntryFile::Parameters => first_bad_parameter(alloc, reader),
-    };
-    match bad {
-        Ok(bad) => Ok(bad),
-        Err(ReadFault::Read) => Ok(None),
-        Err(ReadFault::Memory) => Err(AllocError),
-    }
-}
 
 /// Returns what is wrong with a types table.
 fn types_cause(problem: EntryProblem) -> &'static str {
@@ -55,21 +28,21 @@ fn types_cause(problem: EntryProblem) -> &'static str {
 }
 
 /// Returns what is wrong with a file.
-fn entry_cause(file: EntryFile, problem: EntryProblem) -> &'static str {
-    match (file, problem) {
-        (EntryFile::Parameters, EntryProblem::BadHeader) => "the header is not name,value",
-        (EntryFile::Parameters, EntryProblem::TooMany) => {
+fn entry_cause(source: Source, problem: EntryProblem) -> &'static str {
+    match (source, problem) {
+        (Source::Parameters, EntryProblem::BadHeader) => "the header is not name,value",
+        (Source::Parameters, EntryProblem::TooMany) => {
             "there are more than 65,536 records behind the header"
         }
-        (EntryFile::Parameters, EntryProblem::BadName) => "this name is not an identifier",
-        (EntryFile::Parameters, EntryProblem::RepeatedName) => "an earlier record has this name",
+        (Source::Parameters, EntryProblem::BadName) => "this name is not an identifier",
+        (Source::Parameters, EntryProblem::RepeatedName) => "an earlier record has this name",
         _ => types_cause(problem),
     }
 }
 
 /// Returns what is wrong with a file whose first bad record is this one.
-pub(crate) fn wrong_entry(file: EntryFile, fault: &EntryFault, row: &ByteRecord) -> &'static str {
-    let cause = entry_cause(file, fault.problem);
+pub(crate) fn wrong_entry(source: Source, fault: &EntryFault, row: &ByteRecord) -> &'static str {
+    let cause = entry_cause(source, fault.problem);
     if fault.number == 0 {
         wrong_header(row).unwrap_or(cause)
     } else {

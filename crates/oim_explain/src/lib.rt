@@ -1,5 +1,5 @@
 //! Explanations of faults for a person: where a fault is, what is there, and what is wrong with it.
-//! The files of a run that ended with a fault are read again for it.
+//! The files of a run that ended with a fault are read again for what the run does not keep.
 //!
 //! What is proved:
 //!
@@ -30,9 +30,9 @@
 //! fn explains_the_key(
 //!     alloc: Global,
 //!     folder: &mut Texts<'_>,
-//!     finding: &Finding,
+//!     fault: &FileFault,
 //! ) -> Result<bool, AllocError> {
-//!     let text = explain_report(alloc, "m.json", "t.csv", folder, Source::Report, finding)?;
+//!     let text = explain_report(alloc, "m.json", "t.csv", folder, Source::Report, fault)?;
 //!     let place = "    /documentInfo/documentType\n";
 //!     Ok(text.as_str().starts_with(place))
 //! }

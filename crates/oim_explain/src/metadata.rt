@@ -5,11 +5,11 @@ ghost use Rattle.oim_explain.specs.Explanations.{place_shown};
 
 use crate::causes::cause;
 use crate::explanation::Explanation;
-use crate::filings::of_filing;
+use crate::filings::{of_filing, of_no_json};
 use crate::namespaces::with_one_uri;
 use oim_meta::{Finding, MetaFault};
 use oim_names::{Items, Text};
-use oim_places::{part_at, pointer, shown, standing};
+use oim_places::{after_mark, pointer, shown, standing};
 use serde_json::Value;
 use std::alloc::{AllocError, Global};
 
@@ -40,56 +40,59 @@ fn found_there(
     standing(alloc, there)
 }
 
-/// Returns what is at a place of a metadata that is JSON, and what is wrong with it.
+/// Returns the value to which keys lead, if it exists.
+fn value_at<'v>(metadata: &'v Value, keys: &[Text]) -> Option<&'v Value> {
+    let mut here = metadata;
+    for key in keys {
+        here = match here.get(key.as_str()) {
+            Some(next) => next,
+            None => return None,
+        };
+    }
+    Some(here)
+}
+
+/// Returns what is at the place of a finding in a metadata that is JSON, and what is wrong with it.
 fn in_value(
     alloc: Global,
-    there: Option<&Value>,
+    metadata: &Value,
     finding: &Finding,
 ) -> Result<(String, &'static str), AllocError> {
     let keys = finding.place.as_slice();
+    let there = value_at(metadata, keys);
     let found = found_there(alloc, there, finding)?;
-    Ok((found, cause(finding.fault, keys, there)))
+    let cause = cause(finding.fault, keys, there);
+    Ok((found, of_filing(metadata, finding.fault).unwrap_or(cause)))
 }
 
-/// Returns where a metadata stops being JSON.
+/// Returns where a metadata stops being JSON, and what is wrong with it.
 fn in_text(
     alloc: Global,
+    bytes: &[u8],
     error: &serde_json::Error,
     finding: &Finding,
 ) -> Result<(String, &'static str), AllocError> {
     let line = error.line();
     let column = error.column();
     let there = format!(in alloc; "line {line}, column {column}")?;
-    Ok((there, cause(finding.fault, &[], None)))
+    let cause = cause(finding.fault, &[], None);
+    Ok((there, of_no_json(bytes).unwrap_or(cause)))
 }
 
-/// Returns what this part of a metadata is, and what is wrong with it.
-fn in_part(
-    alloc: Global,
-    part: &[u8],
-    finding: &Finding,
-) -> Result<(String, &'static str), AllocError> {
-    match Value::from_slice(alloc, part) {
-        Ok(value) => in_value(alloc, Some(&value), finding),
-        Err(error) => in_text(alloc, &error, finding),
-    }
-}
-
-/// Returns what is at the place of a finding, and what is wrong with it. Only that part of the JSON
-/// is read again, and the names on the way.
+/// Returns what is at the place of a finding, and what is wrong with it. The JSON is read again.
 fn told(
     alloc: Global,
     bytes: &[u8],
     finding: &Finding,
 ) -> Result<(String, &'static str), AllocError> {
-    let keys = finding.place.as_slice();
-    if keys.is_empty() && finding.fault == MetaFault::TooLarge {
+    if finding.place.as_slice().is_empty() && finding.fault == MetaFault::TooLarge {
         let there = String::from_str(alloc, "(more bytes)")?;
         return Ok((there, cause(finding.fault, &[], None)));
     }
-    match part_at(alloc, bytes, keys)? {
-        Some(part) => in_part(alloc, part, finding),
-        None => in_value(alloc, None, finding),
+    match Value::from_slice(alloc, after_mark(bytes)) {
+        Ok(metadata) => in_value(alloc, &metadata, finding),
+        Err(error) if error.is_memory() => Err(AllocError),
+        Err(error) => in_text(alloc, bytes, &error, finding),
     }
 }
 
@@ -105,7 +108,6 @@ pub fn explain_metadata(
 {
     let place = place(alloc, path, finding.place.as_slice())?;
     let (found, cause) = told(alloc, bytes, finding)?;
-    let cause = of_filing(alloc, bytes, finding)?.unwrap_or(cause);
     Ok(Explanation {
         place,
         found: Text::new(found),

@@ -1,5 +1,5 @@
 -- What is prepared for the cells of a table's rows, and what is written of a cell.
-use Rattle.std.proofs.Common.{◌≡◌, ◌⊎◌, inl, inr, ◌<◌, ◌^◌, ℕ, Bool, true, false, List, ◌++◌, length, map, set, take, get_or, Option, Some, None, IfSome, Result, Ok, Err, sym, ap, subst, ◌∙◌, arith, append-nil, append_assoc}
+use Rattle.std.proofs.Common.{◌≡◌, ◌⊎◌, inl, inr, ◌<◌, ◌^◌, ℕ, Bool, true, false, List, ◌++◌, length, map, set, take, get_or, Option, Some, None, IfSome, Result, Ok, Err, sym, ap, subst, ◌∙◌, arith, append-nil}
 use Rattle.std.specs.List.{All, list_all, slice_get}
 use Rattle.std.proofs.lemmas.List.{get_or-map, length-map}
 use Rattle.std.proofs.lemmas.Option.{slice_get_within}
@@ -20,7 +20,6 @@ use Rattle.oim_fast.specs.state.Columns.{AreFactColumns, IsFactColumn}
 use Rattle.oim_fast.specs.state.FactTexts.{AddsFact, IsOfReferences, IsWithin, PutsFact, object_text, value_of}
 use Rattle.oim_fast.specs.state.Facts.{WritesFact, fact_text, start_text}
 use Rattle.oim_resolve.specs.FactParts.{FactParts as Fact}
-use mathlib.Core.List.{IsPrefix}
 use Rattle.oim_fast.specs.declared.table.cell_writer.CellWriter.{CellWriter}
 use Rattle.oim_fast.proofs.MakerLaws.{ready_again}
 use Rattle.oim_fast.specs.state.FrameTexts.{FrameValue, Segment}
@@ -151,12 +150,6 @@ cell_left x c old new (Err f) b h e k = h
 pub cell_failed : {E : Type 0} (x : RowValue) (c : ℕ) (old new : List ℕ) (r : Result Bool E) (e : E) → PutsCell x c old new r → r ≡ Err e → new ≡ old
 cell_failed x c old new (Ok b) e h is = absurd (cc is)
 cell_failed x c old new (Err f) e h is = h
-
-pub behind : {A : Type 0} (xs ys zs : List A) → IsPrefix xs ys → IsPrefix ys zs → IsPrefix xs zs
-behind xs ys zs p q = (p.0 ++ q.0, sym (append_assoc xs p.0 q.0) ∙ ap (λ t. t ++ q.0) p.1 ∙ q.1)
-
-pub wrote_behind : {E : Type 0} {answer : Result (Option Fact) E} {old new : List ℕ} → WritesFact answer old new → IsPrefix old new
-wrote_behind g = (fact_text g.fact, sym g.text)
 
 -- What was written of a cell is taken back.
 pub taken_back : {E : Type 0} {answer : Result (Option Fact) E} (old new : List ℕ) (n : ℕ) → n ≡ length old → WritesFact answer old new → take n new ≡ old

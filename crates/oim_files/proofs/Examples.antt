@@ -1,5 +1,5 @@
 -- The definitions on worked cases. The rules are this project's order of steps and its limits.
-use Rattle.std.proofs.Common.{◌≡◌, ◌++◌, ◌∷◌, [], ℕ, List, Some, None, Ok, Err, codes, inl, inr, map, refl, take, if◌then◌else◌}
+use Rattle.std.proofs.Common.{◌≡◌, ◌++◌, ◌∷◌, [], ℕ, List, Option, Some, None, Ok, Err, codes, inl, inr, map, refl, take, if◌then◌else◌}
 use Rattle.std.specs.Borrow.{Bor}
 use Rattle.std.specs.Str.{bytes_eq, chars, is_utf8}
 use lib.Utf8.{encode}
@@ -11,9 +11,14 @@ use Rattle.oim_meta.specs.Faults.{has_no_report}
 use Rattle.oim_names.specs.PlainPath.{is_plain_path}
 use Rattle.oim_meta.specs.Findings.{finding}
 use Rattle.oim_meta.specs.declared.findings.Finding.{Finding}
+use Rattle.oim_entries.specs.BadEntries.{BadRecord}
+use Rattle.oim_entries.specs.EntryFaults.{in_cell, of_whole as entry_as_whole}
+use Rattle.oim_entries.specs.declared.entry_fault.EntryProblem.TheVariants.{BadName, NoHeader, TooMany}
+use Rattle.oim_entries.specs.declared.entry_fault.EntryRefusal.TheVariants.{Bad, Unread}
 use Rattle.oim_entries.specs.declared.fault.MetaFault.{MetaFault}
 use Rattle.oim_entries.specs.declared.fault.MetaFault.TheVariants as refused
 use Rattle.oim_records.specs.Grids.{records_left}
+use Rattle.oim_records.specs.declared.read_fault.ReadFault.TheVariants as unread
 use Rattle.oim_report.specs.ReportValue.{ReportValue}
 use Rattle.oim_report.specs.declared.limits.Limits.{Limits}
 use Rattle.oim_files.specs.Folders.{Files, first_at}
@@ -21,10 +26,12 @@ use Rattle.oim_meta.specs.Walk.{in_dimensions, in_level, in_templates}
 use Rattle.oim_meta.specs.WalkReport.{in_document, in_info_in, in_metadata, in_parts}
 use Rattle.oim_meta.specs.WalkTables.{in_own_parameters, in_parameters, in_tables}
 use Rattle.oim_files.specs.Metadata.{front_within, json_of, of_whole, profile, read_as, report_in, url_in, url_place}
-use Rattle.oim_files.specs.Steps.{Stops, in_whole, looking, metadata_steps, opening, parameters_steps, reading, step, steps, types_steps, value_or}
+use Rattle.oim_files.specs.Steps.{Stops, looking, metadata_steps, opening, parameters_steps, reading, step, steps, types_steps, value_or}
 use Rattle.oim_files.specs.declared.early_fault.EarlyFault.{EarlyFault}
 use Rattle.oim_files.specs.declared.early_fault.EarlyFault.TheVariants as early
+use Rattle.oim_files.specs.declared.early_fault.FileFault.{FileFault}
 use Rattle.oim_files.specs.declared.early_fault.Source.TheVariants as source
+use Rattle.oim_files.specs.state.Refusals.{of_refusal}
 
 -- A text at any address in memory.
 abbrev word : List ℕ → Bor (List ℕ)
@@ -93,9 +100,15 @@ report_place = refl
 
 -- THE FILES
 
--- A fault of the types table, which has no place in a metadata.
+-- A file as a whole, which has no place in a metadata. The path is that of the parameters file.
+abbrev as_whole : Option (List ℕ) → MetaFault → FileFault
+as_whole path f = record { finding = finding f []; path = path; entry = None }
+
 abbrev of_types : MetaFault → EarlyFault
-of_types f = early.Report source.Types (finding f [])
+of_types f = early.Report source.Types (as_whole None f)
+
+abbrev of_metadata_file : Finding → EarlyFault
+of_metadata_file x = early.Report source.Report (record { finding = x; path = None; entry = None })
 
 abbrev at_the_url : Finding
 at_the_url = finding refused.BadParameter (codes "parameterURL" ∷ [])
@@ -117,11 +130,30 @@ missing_metadata = refl
 missing_types : map (λ s. s.fault) (metadata_steps held (codes "f/m.json") ++ opening held (codes "x.csv") ∷ []) ≡ None ∷ None ∷ Some (early.CannotRead (codes "x.csv")) ∷ []
 missing_types = refl
 
-wrong_types : reading {A = ReportValue} source.Types (in_whole (Err refused.BadTypes)) ≡ step (Some (of_types refused.BadTypes)) (of_types refused.Read ∷ of_types refused.Memory ∷ [])
+-- A bad record keeps its place and its cells. A record past the limit has its own published fault.
+abbrev bad_name : BadRecord
+bad_name = (in_cell 2 (Some 1) BadName, codes "u" ∷ codes "a:b" ∷ codes "text" ∷ [])
+
+abbrev past_limit : BadRecord
+past_limit = (entry_as_whole 65537 TooMany, codes "p" ∷ [])
+
+wrong_types : reading {A = ReportValue} source.Types None refused.BadTypes (Err bad_name)
+    ≡ step (Some (early.Report source.Types (record { finding = finding refused.BadTypes []; path = None; entry = Some bad_name })))
+    (of_types refused.Read ∷ of_types refused.Memory ∷ [])
 wrong_types = refl
 
-right_types : map (in_whole {A = ℕ}) (Ok 1 ∷ Err refused.BadTypes ∷ []) ≡ Ok 1 ∷ Err (finding refused.BadTypes []) ∷ []
+wrong_parameters : (reading {A = ReportValue} source.Parameters (Some (codes "f/p.csv")) refused.BadParameter (Err past_limit)).fault
+    ≡ Some (early.Report source.Parameters (record { finding = finding refused.TooLarge []; path = Some (codes "f/p.csv"); entry = Some past_limit }))
+wrong_parameters = refl
+
+right_types : (reading {A = ℕ} source.Types None refused.BadTypes (Ok 1)).fault ≡ None
 right_types = refl
+
+-- What a reader answers of a file without a value.
+refusals_of_files : map (of_refusal (Some (codes "p")) refused.BadParameter) (Bad bad_name ∷ Unread unread.Read ∷ Unread unread.Memory ∷ [])
+    ≡ record { finding = finding refused.BadParameter []; path = Some (codes "p"); entry = Some bad_name }
+    ∷ as_whole (Some (codes "p")) refused.Read ∷ as_whole (Some (codes "p")) refused.Memory ∷ []
+refusals_of_files = refl
 
 -- The types table is opened and read, and then the parameters file.
 unread_types : map (λ s. s.refusals) (types_steps held (codes "f/types.csv"))
@@ -129,10 +161,10 @@ unread_types : map (λ s. s.refusals) (types_steps held (codes "f/types.csv"))
 unread_types = refl
 
 unread_parameters : map (λ s. s.refusals) (parameters_steps held (codes "f/") (Some (codes "p.csv")))
-    ≡ (early.Memory ∷ []) ∷ (early.Report source.Parameters (finding refused.Read []) ∷ early.Report source.Parameters (finding refused.Memory []) ∷ []) ∷ []
+    ≡ (early.Memory ∷ []) ∷ (early.Report source.Parameters (as_whole (Some (codes "f/p.csv")) refused.Read) ∷ early.Report source.Parameters (as_whole (Some (codes "f/p.csv")) refused.Memory) ∷ []) ∷ []
 unread_parameters = refl
 
-wrong_url : looking {A = ℕ} (Err at_the_url) ≡ step (Some (early.Report source.Report at_the_url)) (early.Report source.Report (finding refused.Memory []) ∷ [])
+wrong_url : looking {A = ℕ} (Err at_the_url) ≡ step (Some (of_metadata_file at_the_url)) (of_metadata_file (finding refused.Memory []) ∷ [])
 wrong_url = refl
 
 values : map (value_or []) (Ok (codes "p") ∷ Err (of_whole refused.Syntax) ∷ []) ≡ codes "p" ∷ [] ∷ []
@@ -144,7 +176,7 @@ no_parameters = refl
 missing_parameters : map (λ s. s.fault) (take 1 (parameters_steps held (codes "f/") (Some (codes "p.csv")))) ≡ Some (early.CannotRead (codes "f/p.csv")) ∷ []
 missing_parameters = refl
 
-unread_metadata : map (λ s. s.refusals) (metadata_steps held (codes "f/m.json")) ≡ (early.Memory ∷ []) ∷ (early.Report source.Report (finding refused.Read []) ∷ early.Memory ∷ []) ∷ []
+unread_metadata : map (λ s. s.refusals) (metadata_steps held (codes "f/m.json")) ≡ (early.Memory ∷ []) ∷ (of_metadata_file (finding refused.Read []) ∷ early.Memory ∷ []) ∷ []
 unread_metadata = refl
 
 -- A run ends at the first file that is missing, or at a file that exists because memory runs out.
@@ -161,10 +193,13 @@ stops_without_memory = record { before = []; here = opening held (codes "f/m.jso
 abbrev no_text : Files
 no_text path = if bytes_eq path (codes "f/m.json") then Some (255 ∷ []) else None
 
+abbrev no_header : BadRecord
+no_header = (entry_as_whole 0 NoHeader, [])
+
 -- The metadata is opened and read, then the types table. Then the metadata is tested, for the name
 -- of the parameters file and as a whole.
 faults_in_order : map (λ s. s.fault) (steps no_text (codes "f/") (codes "f/m.json") (codes "x.csv"))
-    ≡ None ∷ None ∷ Some (early.CannotRead (codes "x.csv")) ∷ Some (of_types refused.BadTypes)
-    ∷ Some (early.Report source.Report (finding refused.Syntax [])) ∷ Some (early.Report source.Report (finding refused.Syntax [])) ∷ []
+    ≡ None ∷ None ∷ Some (early.CannotRead (codes "x.csv")) ∷ Some (early.Report source.Types (record { finding = finding refused.BadTypes []; path = None; entry = Some no_header }))
+    ∷ Some (of_metadata_file (finding refused.Syntax [])) ∷ Some (of_metadata_file (finding refused.Syntax [])) ∷ []
 unfolding records_left records_from strip_bom next_record is_utf8 chars encode
 faults_in_order = refl

@@ -30,23 +30,28 @@ use Rattle.std.proofs.Common.{
   append_assoc,
 }
 use Rattle.oim_records.specs.Reads.{IsFileOf}
-use Rattle.oim_entries.specs.CsvFiles.{OrOutside}
+use Rattle.oim_records.specs.declared.read_fault.ReadFault.TheVariants as read_fault
+use Rattle.oim_entries.specs.BadEntries.{BadRecord, GivesEntries}
 use Rattle.oim_records.specs.Grids.{grid}
 use Rattle.oim_report.specs.Parameters.{ParametersValue}
-use Rattle.oim_entries.specs.ParametersFile.{parameters_result}
+use Rattle.oim_entries.specs.ParametersFile.{parameters_entries}
 use Rattle.oim_report.specs.ReportValue.{ReportValue}
 use Rattle.oim_report.specs.Types.{TypesValue}
+use Rattle.oim_entries.specs.declared.entry_fault.EntryRefusal.{EntryRefusal}
+use Rattle.oim_entries.specs.declared.entry_fault.EntryRefusal.TheVariants.{Bad, Unread}
 use Rattle.oim_entries.specs.declared.fault.MetaFault.{MetaFault}
 use Rattle.oim_entries.specs.declared.fault.MetaFault.TheVariants as refused
 use Rattle.oim_meta.specs.declared.findings.Finding.{Finding}
 use Rattle.oim_files.proofs.MetadataFacts.{report_taken, url_taken}
+use Rattle.oim_files.specs.FileFaults.{of_entry, of_metadata}
 use Rattle.oim_files.specs.Folders.{Files}
 use Rattle.oim_files.specs.Metadata.{front_within, of_whole, profile, report_result, url_finding, url_result}
-use Rattle.oim_files.specs.Steps.{GivesReport, GivesRest, HasRead, IsAmong, IsParameters, Passes, Step, Stops, Takes, TakesTo, bytes_at, front_at, in_whole, looking, metadata_steps, missing, opening, parameters_at, parameters_of, parameters_steps, reading, report_at, step, types_at, types_steps, url_at, value_or, whole, wrong}
+use Rattle.oim_files.specs.Steps.{GivesReport, GivesRest, HasRead, IsAmong, IsParameters, Passes, Step, Stops, Takes, TakesTo, bytes_at, front_at, looking, metadata_steps, missing, opening, parameters_at, parameters_of, parameters_steps, reading, report_at, step, types_at, types_steps, url_at, value_or, whole, whole_at, wrong}
 use Rattle.oim_files.specs.declared.early_fault.EarlyFault.{EarlyFault}
 use Rattle.oim_files.specs.declared.early_fault.EarlyFault.TheVariants as early
 use Rattle.oim_files.specs.declared.early_fault.Source.{Source}
 use Rattle.oim_files.specs.declared.early_fault.Source.TheVariants as source
+use Rattle.oim_files.specs.state.Refusals.{of_refusal}
 
 -- LISTS OF STEPS
 
@@ -123,43 +128,42 @@ err_same a b e = cc
 abbrev pub IsOpened : {R : Type 0} → (R → Option (List ℕ)) → R → Files → List ℕ → Type 0
 IsOpened told r files path = Passes (opening files path ∷ []) × (told r ≡ Some (bytes_at files path))
 
-module _ {R A : Type 0} (told : R → Option (List ℕ)) (r : R) (s : Source) (read : List ℕ → Result A MetaFault) where
+module _ {R A : Type 0} (told : R → Option (List ℕ)) (r : R) (s : Source) (named : Option (List ℕ)) (bad : MetaFault) (read : List ℕ → Result A BadRecord) where
+  abbrev step_at : Files → List ℕ → Step
+  step_at files path = reading s named bad (read (bytes_at files path))
+
   abbrev Read : Files → List ℕ → Result A EarlyFault → Type 0
-  Read files path result = TakesTo {X = A} (opening files path ∷ reading s (in_whole (read (bytes_at files path))) ∷ []) (in_whole (read (bytes_at files path))) result
+  Read files path result = TakesTo {X = A} (opening files path ∷ step_at files path ∷ []) (read (bytes_at files path)) result
 
-  value_read : (a : A) (answer : Result A MetaFault) → OrOutside (Ok a) answer → in_whole answer ≡ Ok a
-  value_read a answer (inl e) = absurd (ok_no_err a refused.Read e)
-  value_read a answer (inr (inl e)) = absurd (ok_no_err a refused.Memory e)
-  value_read a answer (inr (inr e)) = ap in_whole (sym e)
-
-  fault_read : (f : MetaFault) (answer : Result A MetaFault) → OrOutside (Err f) answer
-      → (wrong s (in_whole answer) ≡ Some (whole s f)) ⊎ IsAmong (whole s f) (whole s refused.Read ∷ whole s refused.Memory ∷ [])
-  fault_read f answer (inl e) = inr (inl (ap (whole s) (err_same {A = A} f refused.Read e)))
-  fault_read f answer (inr (inl e)) = inr (inr (inl (ap (whole s) (err_same {A = A} f refused.Memory e))))
-  fault_read f answer (inr (inr e)) = inl (ap (λ k. wrong s (in_whole k)) (sym e))
+  refusal_read : (e : EntryRefusal) (answer : Result A BadRecord) → GivesEntries (Err e) answer
+      → (wrong s (of_entry named bad) answer ≡ Some (early.Report s (of_refusal named bad e)))
+      ⊎ IsAmong (early.Report s (of_refusal named bad e)) (whole_at s named refused.Read ∷ whole_at s named refused.Memory ∷ [])
+  refusal_read (Bad b) answer is = inl (ap (wrong s (of_entry named bad)) is)
+  refusal_read (Unread read_fault.Read) answer is = inr (inl refl)
+  refusal_read (Unread read_fault.Memory) answer is = inr (inr (inl refl))
 
   pub reads_value : (known : Option Files) (path : List ℕ) (a : A) → IfSome known (λ files. IsOpened told r files path)
-      → IfSome (told r) (λ bytes. OrOutside (Ok a) (read bytes)) → IfSome known (λ files. Read files path (Ok a))
+      → IfSome (told r) (λ bytes. GivesEntries (Ok a) (read bytes)) → IfSome known (λ files. Read files path (Ok a))
   reads_value None path a is answer = tt
   reads_value (Some files) path a is answer =
-      let e = value_read a (read (bytes_at files path)) (subst (λ k. IfSome k (λ bytes. OrOutside (Ok a) (read bytes))) is.1 answer) in
-      ((is.0.0, (ap (wrong s) e, tt)), e)
+      let e : read (bytes_at files path) ≡ Ok a = subst (λ k. IfSome k (λ bytes. GivesEntries (Ok a) (read bytes))) is.1 answer in
+      ((is.0.0, (ap (wrong s (of_entry named bad)) e, tt)), e)
 
-  pub reads_fault : (known : Option Files) (path : List ℕ) (f : MetaFault) (o : EarlyFault) → o ≡ whole s f → IfSome known (λ files. IsOpened told r files path)
-      → IfSome (told r) (λ bytes. OrOutside {A = A} (Err f) (read bytes)) → IfSome known (λ files. Read files path (Err o))
-  reads_fault None path f o same is answer = tt
-  reads_fault (Some files) path f o same is answer =
-      let answers = in_whole (read (bytes_at files path)) in
+  pub reads_fault : (known : Option Files) (path : List ℕ) (e : EntryRefusal) (o : EarlyFault) → o ≡ early.Report s (of_refusal named bad e)
+      → IfSome known (λ files. IsOpened told r files path)
+      → IfSome (told r) (λ bytes. GivesEntries {S = A} (Err e) (read bytes)) → IfSome known (λ files. Read files path (Err o))
+  reads_fault None path e o same is answer = tt
+  reads_fault (Some files) path e o same is answer =
+      let given = subst (λ k. IfSome k (λ bytes. GivesEntries {S = A} (Err e) (read bytes))) is.1 answer in
       subst (λ w. Read files path (Err w)) (sym same)
-      (stops_later (opening files path ∷ []) (reading s answers ∷ []) (whole s f) is.0
-      (stops_at (reading s answers) [] (whole s f)
-      (fault_read f (read (bytes_at files path)) (subst (λ k. IfSome k (λ bytes. OrOutside {A = A} (Err f) (read bytes))) is.1 answer))))
+      (stops_later (opening files path ∷ []) (step_at files path ∷ []) (early.Report s (of_refusal named bad e)) is.0
+      (stops_at (step_at files path) [] (early.Report s (of_refusal named bad e)) (refusal_read e (read (bytes_at files path)) given)))
 
 -- A file that was not opened is not read.
-pub reads_none : {A : Type 0} (s : Source) (read : List ℕ → Result A MetaFault) (known : Option Files) (path : List ℕ) (o : EarlyFault) → IfSome known (λ files. Stops (opening files path ∷ []) o)
-    → IfSome known (λ files. Stops (opening files path ∷ reading s (in_whole (read (bytes_at files path))) ∷ []) o)
-reads_none s read None path o stop = tt
-reads_none s read (Some files) path o stop = stops_first (opening files path ∷ []) (reading s (in_whole (read (bytes_at files path))) ∷ []) o stop
+pub reads_none : (here : Files → List ℕ → Step) (known : Option Files) (path : List ℕ) (o : EarlyFault) → IfSome known (λ files. Stops (opening files path ∷ []) o)
+    → IfSome known (λ files. Stops (opening files path ∷ here files path ∷ []) o)
+reads_none here None path o stop = tt
+reads_none here (Some files) path o stop = stops_first (opening files path ∷ []) (here files path ∷ []) o stop
 
 -- THE METADATA
 
@@ -202,10 +206,10 @@ read_most told r inner limit start items same is empty h =
 
 module _ {A : Type 0} (answer : Result A Finding) where
   pub looks_value : (a : A) → answer ≡ Ok a → TakesTo {X = A} (looking answer ∷ []) answer (Ok a)
-  looks_value a e = ((ap (wrong source.Report) e, tt), e)
+  looks_value a e = ((ap (wrong source.Report of_metadata) e, tt), e)
 
-  pub looks_finding : (x : Finding) → answer ≡ Err x → TakesTo {X = A} (looking answer ∷ []) answer (Err (early.Report source.Report x))
-  looks_finding x e = stops_at (looking answer) [] (early.Report source.Report x) (inl (ap (wrong source.Report) e))
+  pub looks_finding : (x : Finding) → answer ≡ Err x → TakesTo {X = A} (looking answer ∷ []) answer (Err (early.Report source.Report (of_metadata x)))
+  looks_finding x e = stops_at (looking answer) [] (early.Report source.Report (of_metadata x)) (inl (ap (wrong source.Report of_metadata) e))
 
   pub looks_memory : TakesTo {X = A} (looking answer ∷ []) answer (Err (whole source.Report refused.Memory))
   looks_memory = stops_at (looking answer) [] (whole source.Report refused.Memory) (inr (inl refl))
@@ -214,11 +218,11 @@ module _ {A : Type 0} (answer : Result A Finding) where
   looks_whole f (inl e) = subst (λ g. TakesTo {X = A} (looking answer ∷ []) answer (Err (whole source.Report g))) (sym e) looks_memory
   looks_whole f (inr e) = looks_finding (of_whole f) e
 
-  url_looks : (f : MetaFault) → (f ≡ refused.Memory) ⊎ (answer ≡ Err (url_finding f)) → TakesTo {X = A} (looking answer ∷ []) answer (Err (early.Report source.Report (url_finding f)))
-  url_looks f (inl e) = subst (λ g. TakesTo {X = A} (looking answer ∷ []) answer (Err (early.Report source.Report (url_finding g)))) (sym e) looks_memory
+  url_looks : (f : MetaFault) → (f ≡ refused.Memory) ⊎ (answer ≡ Err (url_finding f)) → TakesTo {X = A} (looking answer ∷ []) answer (Err (early.Report source.Report (of_metadata (url_finding f))))
+  url_looks f (inl e) = subst (λ g. TakesTo {X = A} (looking answer ∷ []) answer (Err (early.Report source.Report (of_metadata (url_finding g))))) (sym e) looks_memory
   url_looks f (inr e) = looks_finding (url_finding f) e
 
-  pub looks_url : (f : MetaFault) (o : EarlyFault) → (o ≡ early.Report source.Report (url_finding f)) ⊎ (o ≡ whole source.Report refused.Memory)
+  pub looks_url : (f : MetaFault) (o : EarlyFault) → (o ≡ early.Report source.Report (of_metadata (url_finding f))) ⊎ (o ≡ whole source.Report refused.Memory)
       → (f ≡ refused.Memory) ⊎ (answer ≡ Err (url_finding f)) → TakesTo {X = A} (looking answer ∷ []) answer (Err o)
   looks_url f o (inl is) found = subst (λ p. TakesTo {X = A} (looking answer ∷ []) answer (Err p)) (sym is) (url_looks f found)
   looks_url f o (inr is) found = subst (λ p. TakesTo {X = A} (looking answer ∷ []) answer (Err p)) (sym is) looks_memory
@@ -367,11 +371,14 @@ no_parameters (Some files) base url given none is = subst (λ u. IsParameters fi
 pub no_path : (known : Option Files) (base url : List ℕ) (o : EarlyFault) → o ≡ early.Memory → IfSome known (λ files. IsParameters files base (Some url) (Err o))
 no_path None base url o is = tt
 no_path (Some files) base url o is =
-    stops_at (opening files (base ++ url)) (reading source.Parameters (parameters_at files base (Some url)) ∷ []) o (inr (inl is))
+    stops_at (opening files (base ++ url)) (reading source.Parameters (Some (base ++ url)) refused.BadParameter (parameters_at files base (Some url)) ∷ []) o (inr (inl is))
+
+abbrev parameters_in : Files → List ℕ → Result ParametersValue BadRecord
+parameters_in files path = parameters_entries (grid (bytes_at files path))
 
 abbrev ReadAt : Files → List ℕ → Result ParametersValue EarlyFault → Type 0
 ReadAt files path result =
-    TakesTo (opening files path ∷ reading source.Parameters (in_whole (parameters_result (grid (bytes_at files path)))) ∷ []) (in_whole (parameters_result (grid (bytes_at files path)))) result
+    TakesTo (opening files path ∷ reading source.Parameters (Some path) refused.BadParameter (parameters_in files path) ∷ []) (parameters_in files path) result
 
 pub at_path : (known : Option Files) (base url path : List ℕ) (result : Result ParametersValue EarlyFault) → path ≡ base ++ url → IfSome known (λ files. ReadAt files path result)
     → IfSome known (λ files. IsParameters files base (Some url) result)

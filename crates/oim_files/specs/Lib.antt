@@ -1,3 +1,5 @@
 pub mod Folders
 pub mod Metadata
+pub mod FileFaults
 pub mod Steps
+pub mod state

@@ -3,17 +3,20 @@
 use Rattle.std.specs.Prelude.{⊤, ◌≡◌, ◌⊎◌, ℕ, List, [], ◌∷◌, ◌++◌, Option, Some, None, Result, Ok, Err, unwrap_or}
 use Rattle.oim_records.specs.Grids.{grid}
 use Rattle.oim_report.specs.Parameters.{ParametersValue}
-use Rattle.oim_entries.specs.ParametersFile.{parameters_result}
+use Rattle.oim_entries.specs.BadEntries.{BadRecord}
+use Rattle.oim_entries.specs.ParametersFile.{parameters_entries}
 use Rattle.oim_report.specs.ReportValue.{ReportValue}
 use Rattle.oim_report.specs.Types.{TypesValue}
-use Rattle.oim_entries.specs.TypesFile.{types_result}
+use Rattle.oim_entries.specs.TypesFile.{types_entries}
 use Rattle.oim_entries.specs.declared.fault.MetaFault.{MetaFault}
 use Rattle.oim_entries.specs.declared.fault.MetaFault.TheVariants as refused
+use Rattle.oim_files.specs.FileFaults.{of_entry, of_file, of_metadata}
 use Rattle.oim_files.specs.Folders.{Files}
 use Rattle.oim_meta.specs.declared.findings.Finding.{Finding}
-use Rattle.oim_files.specs.Metadata.{front_within, of_whole, profile, report_result, url_result}
+use Rattle.oim_files.specs.Metadata.{front_within, profile, report_result, url_result}
 use Rattle.oim_files.specs.declared.early_fault.EarlyFault.{EarlyFault}
 use Rattle.oim_files.specs.declared.early_fault.EarlyFault.TheVariants as early
+use Rattle.oim_files.specs.declared.early_fault.FileFault.{FileFault}
 use Rattle.oim_files.specs.declared.early_fault.Source.{Source}
 use Rattle.oim_files.specs.declared.early_fault.Source.TheVariants as source
 
@@ -28,18 +31,13 @@ abbrev pub front_at : Files → List ℕ → List ℕ
 front_at files meta = front_within profile (bytes_at files meta)
 
 -- The value of a file, or an empty one if it has a fault.
-abbrev pub value_or : {A : Type 0} → A → Result A Finding → A
+abbrev pub value_or : {A E : Type 0} → A → Result A E → A
 value_or empty (Ok a) = a
 value_or empty (Err x) = empty
 
--- The value of a file whose fault is of the file as a whole.
-abbrev pub in_whole : {A : Type 0} → Result A MetaFault → Result A Finding
-in_whole (Ok a) = Ok a
-in_whole (Err f) = Err (of_whole f)
-
--- The types table.
-abbrev pub types_at : Files → List ℕ → Result TypesValue Finding
-types_at files types = in_whole (types_result (grid (bytes_at files types)))
+-- The types table, or its first bad record.
+abbrev pub types_at : Files → List ℕ → Result TypesValue BadRecord
+types_at files types = types_entries (grid (bytes_at files types))
 
 -- The URL of the parameters file, if a metadata of these bytes has one.
 abbrev pub url_of : List ℕ → Result (Option (List ℕ)) Finding
@@ -49,10 +47,10 @@ url_of bytes = url_result profile bytes
 abbrev pub url_at : Files → List ℕ → Result (Option (List ℕ)) Finding
 url_at files meta = url_of (bytes_at files meta)
 
--- The parameters; empty if no file is named.
-abbrev pub parameters_at : Files → List ℕ → Option (List ℕ) → Result ParametersValue Finding
+-- The parameters, or the first bad record of their file; empty if no file is named.
+abbrev pub parameters_at : Files → List ℕ → Option (List ℕ) → Result ParametersValue BadRecord
 parameters_at files base None = Ok []
-parameters_at files base (Some url) = in_whole (parameters_result (grid (bytes_at files (base ++ url))))
+parameters_at files base (Some url) = parameters_entries (grid (bytes_at files (base ++ url)))
 
 abbrev pub parameters_of : Files → (base meta : List ℕ) → ParametersValue
 parameters_of files base meta = value_or [] (parameters_at files base (value_or None (url_at files meta)))
@@ -78,34 +76,39 @@ abbrev pub missing : List ℕ → Option (List ℕ) → Option EarlyFault
 missing path None = Some (early.CannotRead path)
 missing path (Some bytes) = None
 
--- The file of this source has a fault, at this place.
-abbrev pub wrong : {A : Type 0} → Source → Result A Finding → Option EarlyFault
-wrong s (Ok a) = None
-wrong s (Err x) = Some (early.Report s x)
+-- The file of this source has a fault, of which this is known.
+abbrev pub wrong : {A E : Type 0} → Source → (E → FileFault) → Result A E → Option EarlyFault
+wrong s told (Ok a) = None
+wrong s told (Err x) = Some (early.Report s (told x))
 
--- The file of this source as a whole has a fault, or was not read to its end.
+-- The file of this source as a whole has a fault, or was not read to its end. The path is that of a
+-- parameters file.
+abbrev pub whole_at : Source → Option (List ℕ) → MetaFault → EarlyFault
+whole_at s path f = early.Report s (of_file path f)
+
 abbrev pub whole : Source → MetaFault → EarlyFault
-whole s f = early.Report s (of_whole f)
+whole s f = whole_at s None f
 
 abbrev pub opening : Files → List ℕ → Step
 opening files path = step (missing path (files path)) (early.Memory ∷ [])
 
-abbrev pub reading : {A : Type 0} → Source → Result A Finding → Step
-reading s answer = step (wrong s answer) (whole s refused.Read ∷ whole s refused.Memory ∷ [])
+-- A file of entries is read. `bad` is the published fault of its bad records.
+abbrev pub reading : {A : Type 0} → Source → Option (List ℕ) → MetaFault → Result A BadRecord → Step
+reading s path bad answer = step (wrong s (of_entry path bad) answer) (whole_at s path refused.Read ∷ whole_at s path refused.Memory ∷ [])
 
 -- The metadata is in memory: this step reads no file.
 abbrev pub looking : {A : Type 0} → Result A Finding → Step
-looking answer = step (wrong source.Report answer) (whole source.Report refused.Memory ∷ [])
+looking answer = step (wrong source.Report of_metadata answer) (whole source.Report refused.Memory ∷ [])
 
 abbrev pub metadata_steps : Files → List ℕ → List Step
 metadata_steps files meta = opening files meta ∷ step None (whole source.Report refused.Read ∷ early.Memory ∷ []) ∷ []
 
 abbrev pub types_steps : Files → List ℕ → List Step
-types_steps files types = opening files types ∷ reading source.Types (types_at files types) ∷ []
+types_steps files types = opening files types ∷ reading source.Types None refused.BadTypes (types_at files types) ∷ []
 
 abbrev pub parameters_steps : Files → List ℕ → Option (List ℕ) → List Step
 parameters_steps files base None = []
-parameters_steps files base (Some url) = opening files (base ++ url) ∷ reading source.Parameters (parameters_at files base (Some url)) ∷ []
+parameters_steps files base (Some url) = opening files (base ++ url) ∷ reading source.Parameters (Some (base ++ url)) refused.BadParameter (parameters_at files base (Some url)) ∷ []
 
 -- The metadata is read, then the types table. Then the parameters file's URL is looked up and that
 -- file is read. Last, the report is made from the metadata.
@@ -143,7 +146,7 @@ Takes steps right (Ok x) = Passes steps × right x
 Takes steps right (Err o) = Stops steps o
 
 -- The same, for a value that is given as a result.
-abbrev pub TakesTo : {X : Type 0} → List Step → Result X Finding → Result X EarlyFault → Type 0
+abbrev pub TakesTo : {X E : Type 0} → List Step → Result X E → Result X EarlyFault → Type 0
 TakesTo {X} steps answer result = Takes {X = X} steps (λ x. answer ≡ Ok x) result
 
 -- The types of the types table, or the step at which reading it ends.

@@ -7,8 +7,9 @@
 //!   types table and the parameters file that the metadata names. Last it makes the report of the
 //!   metadata. Only a failed read or running out of memory may end it elsewhere, at a step where
 //!   that is possible: with `Read` and the source of that step's file, or with `Memory`.
-//! - A fault of the metadata has its place: that of the first finding of the walk over it
-//!   (`specs/Metadata.antt`).
+//! - A fault has its place (`specs/FileFaults.antt`): in the metadata that of the first finding of
+//!   the walk over it (`specs/Metadata.antt`), in the types table and the parameters file the first
+//!   bad record.
 //! - `metadata_at`, `types_in`, `url_in` and `parameters_in` are its steps one by one, with the
 //!   same clauses. `report_with` is `report_of` after the first of them.
 //! - `folder_of` returns a path up to and including its last `/`, and `path_in` the path of a file
@@ -37,6 +38,6 @@ mod folder;
 mod steps;
 mod watched;
 
-pub use early_fault::{EarlyFault, Source};
+pub use early_fault::{EarlyFault, FileFault, Source};
 pub use folder::{Folder, Texts, folder_of};
 pub use steps::{metadata_at, parameters_in, path_in, report_of, report_with, types_in, url_in};

@@ -5,6 +5,7 @@ ghost use Rattle.std.specs.Prelude.{◌≡◌, ◌⊎◌, ◌++◌, [], ◌∷�
 ghost use Rattle.std.specs.Option.{option_to_list};
 ghost use Rattle.serde_json.specs.View.{view};
 ghost use Rattle.oim_meta.specs.Reading.{Reads};
+ghost use Rattle.oim_files.specs.FileFaults.{of_metadata};
 ghost use Rattle.oim_files.specs.Metadata.{front_within, profile, report_in as said_in, url_finding, url_place};
 ghost use Rattle.oim_files.specs.Steps as spec;
 ghost use Rattle.oim_files.specs.Steps.{GivesReport, GivesRest, IsAmong, IsParameters, IsTypes, Takes, TakesTo, bytes_at, front_at, looking, metadata_steps, opening, url_of};
@@ -12,12 +13,12 @@ ghost use Rattle.oim_files.specs.declared.early_fault.EarlyFault.TheVariants as 
 ghost use Rattle.oim_files.specs.declared.early_fault.Source.TheVariants as source;
 ghost use Rattle.oim_entries.specs.declared.fault.MetaFault.TheVariants as refused;
 
-use crate::early_fault::{EarlyFault, Source};
+use crate::early_fault::{EarlyFault, FileFault, Source};
 use crate::folder::Folder;
 use crate::watched::Watched;
+use oim_entries::{read_parameters_at, read_types_at};
 use oim_meta::{
     Finding, Limits, MetaFault, Metadata, Parameters, Refusal, Report, Types, parameter_url,
-    read_parameters, read_types,
 };
 use oim_names::{Items, Text};
 use std::alloc::{AllocError, Global};
@@ -62,8 +63,7 @@ fn opened<R: Read + Drop, F: Folder<R>>(
 fn whole(alloc: Global, source: Source, fault: MetaFault) -> EarlyFault
     ensures { result ≡ spec.whole source fault }
 {
-    let place = Items::new(alloc);
-    EarlyFault::Report(source, Finding { fault, place })
+    EarlyFault::Report(source, FileFault::of_whole(alloc, fault))
 }
 
 /// Returns why the metadata was not read to its end: a read has failed, or memory ran out.
@@ -122,9 +122,12 @@ pub fn types_in<R: Read + Drop, F: Folder<R>>(
         Ok(reader) => reader,
         Err(early) => return Err(early),
     };
-    match read_types(alloc, reader) {
+    match read_types_at(alloc, reader) {
         Ok(types) => Ok(types),
-        Err(fault) => Err(whole(alloc, Source::Types, fault)),
+        Err(refusal) => {
+            let fault = FileFault::of_refusal(alloc, None, MetaFault::BadTypes, refusal);
+            Err(EarlyFault::Report(Source::Types, fault))
+        }
     }
 }
 
@@ -145,9 +148,13 @@ fn parameters_of<R: Read + Drop, F: Folder<R>>(
         Ok(reader) => reader,
         Err(early) => return Err(early),
     };
-    match read_parameters(alloc, reader) {
+    match read_parameters_at(alloc, reader) {
         Ok(parameters) => Ok(parameters),
-        Err(fault) => Err(whole(alloc, Source::Parameters, fault)),
+        Err(refusal) => {
+            let path = Some(Text::new(path));
+            let fault = FileFault::of_refusal(alloc, path, MetaFault::BadParameter, refusal);
+            Err(EarlyFault::Report(Source::Parameters, fault))
+        }
     }
 }
 
@@ -203,10 +210,13 @@ fn url_place(alloc: Global, fault: MetaFault) -> Result<Items<Text>, AllocError>
 /// Returns the early fault for a fault that is tested with the name of the parameters file. It is
 /// the fault Memory if memory runs out for the place.
 fn of_url(alloc: Global, fault: MetaFault) -> EarlyFault
-    ensures { (result ≡ early.Report source.Report (url_finding fault)) ⊎ (result ≡ spec.whole source.Report refused.Memory) }
+    ensures { (result ≡ early.Report source.Report (of_metadata (url_finding fault))) ⊎ (result ≡ spec.whole source.Report refused.Memory) }
 {
     match url_place(alloc, fault) {
-        Ok(place) => EarlyFault::Report(Source::Report, Finding { fault, place }),
+        Ok(place) => {
+            let fault = FileFault::of_metadata(Finding { fault, place });
+            EarlyFault::Report(Source::Report, fault)
+        }
         Err(_) => whole(alloc, Source::Report, MetaFault::Memory),
     }
 }
@@ -247,7 +257,10 @@ fn report_in(
 {
     match metadata.report_at(alloc, parameters, types, Limits::profile()) {
         Ok(report) => Ok(report),
-        Err(Refusal::Found(finding)) => Err(EarlyFault::Report(Source::Report, finding)),
+        Err(Refusal::Found(finding)) => {
+            let fault = FileFault::of_metadata(finding);
+            Err(EarlyFault::Report(Source::Report, fault))
+        }
         Err(Refusal::Memory) => Err(whole(alloc, Source::Report, MetaFault::Memory)),
     }
 }

@@ -15,13 +15,6 @@ fn is_letter(byte: u8) -> bool
     matches!(byte, b'A'..=b'Z' | b'a'..=b'z')
 }
 
-/// Returns whether a byte is an ASCII letter or digit.
-fn is_letter_or_digit(byte: u8) -> bool
-    ensures { result ≡ letter_or_digit byte }
-{
-    is_letter(byte) || matches!(byte, b'0'..=b'9')
-}
-
 /// Returns whether a part of a tag may have this length.
 fn is_part_length(length: usize) -> bool
     ensures { result ≡ is_in_range 1 8 length }
@@ -40,7 +33,11 @@ fn is_first_part(text: &str) -> bool
 fn is_other_part(text: &str) -> bool
     ensures { result ≡ is_part letter_or_digit text.now }
 {
-    is_part_length(text.len()) && text.as_bytes().iter().all(|byte| is_letter_or_digit(*byte))
+    is_part_length(text.len())
+        && text
+            .as_bytes()
+            .iter()
+            .all(|byte| is_letter(*byte) || matches!(*byte, b'0'..=b'9'))
 }
 
 /// Returns whether a text has the form of a language tag.

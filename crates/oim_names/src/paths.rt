@@ -4,17 +4,12 @@ ghost use Rattle.std.specs.Prelude.{◌≡◌};
 ghost use Rattle.std.specs.List.{list_any};
 ghost use Rattle.oim_names.specs.PlainPath.{is_barred as barred, is_bad_segment as bad_segment, first_segment, later_segments, is_plain_path as plain_path};
 
-fn is_barred(byte: u8) -> bool
-    ensures { result ≡ barred byte }
-{
-    byte < 32 || byte == b'\\' || byte == b':' || byte == b'?' || byte == b'#' || byte == b'%'
-}
-
+/// Returns whether a path has a control character or one of `\ : ? # %`.
 fn has_barred(path: &[u8]) -> bool
     ensures { result ≡ list_any barred path.now }
 {
     for byte in path {
-        if is_barred(*byte) {
+        if *byte < 32 || matches!(*byte, b'\\' | b':' | b'?' | b'#' | b'%') {
             return true;
         }
     }

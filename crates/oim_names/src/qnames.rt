@@ -1,7 +1,7 @@
 //! Qualified names: QNames and SQNames.
 
 ghost use Rattle.std.specs.Prelude.{◌≡◌, option_map};
-ghost use Rattle.oim_names.specs.QName.{Name, IsQName, IsSQName, IsOnly, is_no_blank as no_blank, is_solid as solid, seen_name, qname_of, sqname_of};
+ghost use Rattle.oim_names.specs.QName.{Name, IsQName, IsSQName, IsOnly, is_solid as solid, seen_name, qname_of, sqname_of};
 
 use crate::{Namespaces, is_ncname};
 
@@ -25,18 +25,15 @@ pub fn qname<'a>(names: &'a Namespaces, text: &'a str) -> Option<(&'a str, &'a s
     }
 }
 
-/// Returns whether a byte is not a space, tab, carriage return or line feed.
-fn is_no_blank(byte: u8) -> bool
-    ensures { result ≡ no_blank byte }
-{
-    !matches!(byte, b' ' | b'\t' | b'\r' | b'\n')
-}
-
 /// Returns whether a text is not empty and has no space, tab, carriage return or line feed.
 fn is_solid(text: &str) -> bool
     ensures { result ≡ solid text.now }
 {
-    !text.is_empty() && text.as_bytes().iter().all(|byte| is_no_blank(*byte))
+    !text.is_empty()
+        && text
+            .as_bytes()
+            .iter()
+            .all(|byte| !matches!(*byte, b' ' | b'\t' | b'\r' | b'\n'))
 }
 
 /// Returns the URI and the local part of an SQName (xBRL-JSON 1.0, SQName).

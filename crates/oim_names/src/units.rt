@@ -22,13 +22,6 @@ fn inside(text: &str) -> &str
     }
 }
 
-/// Returns whether a text is a QName.
-fn is_measure(names: &Namespaces, text: &str) -> bool
-    ensures { result ≡ is_some (qname_of names.now text.now) }
-{
-    qname(names, text).is_some()
-}
-
 /// Returns whether a prefix is bound. `known` is a prefix that is bound, and is compared first.
 fn is_bound(names: &Namespaces, known: Option<&str>, prefix: &str) -> bool
     requires { IfSome known (λ k. is_some (uri_of names.now k.now) ≡ true) }
@@ -74,7 +67,7 @@ fn are_measures(names: &Namespaces, text: &str) -> bool
     }
     measures
         .split('*')
-        .all(|measure| is_measure(names, measure))
+        .all(|measure| qname(names, measure).is_some())
 }
 
 /// Returns whether a text is a side: QNames joined by `*`, bare or in one pair of parentheses.

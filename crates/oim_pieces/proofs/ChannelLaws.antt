@@ -8,6 +8,7 @@ use Rattle.oim_decode.specs.PieceAnswers.{refused}
 use Rattle.oim_decode.proofs.HeadLaws.{refused_decoded}
 use Rattle.oim_pieces.specs.state.PiecesUnderWay.{IsPieceAnswer}
 use Rattle.oim_pieces.specs.state.Channels.{FitsPiece, IsAnswerIn, IsLine, IsOf, IsPiece, IsReadBy}
+use Rattle.oim_pieces.specs.state.ComingAnswers.{IsKept}
 use Rattle.oim_pieces.specs.declared.decoded.Asked.{Asked}
 use Rattle.oim_pieces.specs.declared.in_channel.PieceToDecode.{PieceToDecode}
 use Rattle.oim_pieces.specs.declared.in_channel.InChannel.TheVariants.{ToDecode, Decoded}
@@ -46,6 +47,26 @@ of_reads g asked (Some a) same reads = same.0 ∙ reads
 pub of_first : (asked : Asked) (known : Option Asked) → IsOf asked known → IfSome known (λ a. a.first ≡ asked.first)
 of_first asked None same = tt
 of_first asked (Some a) same = same.1
+
+-- A PIECE THAT IS KEPT
+
+pub is_kept : (asked : Asked) (bytes : List ℕ) (g : TableHeaderValue) (n : ℕ) → asked.header.value ≡ g → asked.first ≡ n → asked.rows.value ≡ records_left state.StartRecord bytes
+    → 1 ≤ n → n ≤ g.limit + 1 → IsKept asked bytes
+is_kept asked bytes g n reads at are some may = record {
+  rows = sym are;
+  some = subst (λ k. 1 ≤ k) (sym at) some;
+  may = subst (λ k. k ≤ asked.header.value.limit + 1) (sym at) (subst (λ (x : TableHeaderValue). n ≤ x.limit + 1) (sym reads) may);
+}
+
+-- The decoder accepts it.
+pub may_kept : (asked : Asked) (bytes : List ℕ) (g : TableHeaderValue) → IsKept asked bytes → asked.header.value ≡ g → asked.first ≤ g.limit + 1
+may_kept asked bytes g kept reads = subst (λ (x : TableHeaderValue). asked.first ≤ x.limit + 1) reads kept.may
+
+-- Its answer is for the piece that was asked for.
+pub kept_answer : (asked : Asked) (bytes : List ℕ) (g : TableHeaderValue) (answer : Apart) → IsKept asked bytes → asked.header.value ≡ g
+    → IsPieceAnswer g asked.first (records_left state.StartRecord bytes) answer → IsPieceAnswer asked.header.value asked.first asked.rows.value answer
+kept_answer asked bytes g answer kept reads is =
+    answer_same asked.header.value g asked.first asked.first asked.rows.value (records_left state.StartRecord bytes) answer is (sym reads) refl kept.rows
 
 -- Memory is an answer for any piece.
 pub refused_answer : (g : TableHeaderValue) (first : ℕ) (rows : List Record) (a : Apart) → a ≡ refused g.table → first ≤ 4294967296 → IsPieceAnswer g first rows a

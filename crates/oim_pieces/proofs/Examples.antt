@@ -3,7 +3,9 @@ use Rattle.std.proofs.Common.{◌≡◌, ◌∷◌, ◌+◌, ◌≤◌, [], ℕ,
 use Rattle.std.specs.Str.{chars, is_utf8}
 use Rattle.csv.specs.Records.{field_at}
 use Rattle.oim_names.specs.Names.{is_ncname, is_name_char, is_name_start, is_plain_char, is_row_identifier}
-use Rattle.oim_records.specs.Grids.{Field, Record}
+use Rattle.csv.specs.Machine.{next_record}
+use Rattle.csv.specs.Reading.{records_from, strip_bom}
+use Rattle.oim_records.specs.Grids.{Field, Record, records_left}
 use Rattle.oim_report.specs.Readers.{no_level}
 use Rattle.oim_report.specs.ReportValue.{ReportValue}
 use Rattle.oim_report.specs.declared.data.ColumnKind.TheVariants as content
@@ -13,10 +15,10 @@ use Rattle.oim_rows.specs.Streams.{Stream, ending, stream_from}
 use Rattle.oim_rows.specs.declared.fault.TableFault.{TableFault}
 use Rattle.oim_rows.specs.declared.fault.TableKind.TheVariants as kind
 use Rattle.oim_decode.specs.Apart.{Apart, apart_from}
-use Rattle.oim_pieces.specs.state.ComingAnswers.{Comes}
+use Rattle.oim_pieces.specs.state.ComingAnswers.{Comes, IsKept}
 use Rattle.oim_pieces.specs.state.Cutting.{CutterLeft, HasAtLeast, IsOver, TakesRows, left_over}
-use Rattle.oim_pieces.specs.PiecesLeft.{FewerSteps, GivesBlocks, steps_for, steps_left}
-use Rattle.oim_pieces.specs.state.PiecesUnderWay.{AreChained, PieceRowsLeft, GivesJoined, IsEndOfTable, IsFront, IsPieceAnswer, KeepsStream, NoMoreSteps, ReadsJoined, fault_or_left, first_row_of, head_pieces, next_row, rows_in, rows_left, steps_in, stream_in}
+use Rattle.oim_pieces.specs.PiecesLeft.{FewerSteps, GivesBlocks, KeepsStream, NoMoreSteps, steps_for, steps_left}
+use Rattle.oim_pieces.specs.state.PiecesUnderWay.{AreChained, PieceRowsLeft, GivesJoined, IsEndOfTable, IsFront, IsPieceAnswer, ReadsJoined, fault_or_left, first_row_of, head_pieces, next_row, rows_in, rows_left, steps_in, stream_in}
 use Rattle.oim_pieces.specs.declared.decoded.Asked.{Asked}
 use Rattle.oim_pieces.specs.declared.piece_under_way.ComingAnswer.TheVariants.{Here, Awaited}
 
@@ -188,3 +190,12 @@ comes_here any = record { decoded = inl refl; few = omega arith }
 
 through_its_channel : (any : Asked) → Comes (asked any (c ∷ [])) (Awaited (Some (asked any (c ∷ [])))) × (Comes (asked any (c ∷ [])) (Awaited None) → ⊥)
 through_its_channel any = ((refl, refl, refl), λ h. h)
+
+-- The bytes of a piece of one row, with number 6.
+kept_here : (any : Asked) → IsKept (asked any (c ∷ [])) (codes "kkk")
+unfolding records_left records_from next_record strip_bom
+kept_here any = record { rows = refl; some = omega arith; may = omega arith }
+
+other_bytes_kept : (any : Asked) → IsKept (asked any (c ∷ [])) (codes "kk") → ⊥
+unfolding records_left records_from next_record strip_bom
+other_bytes_kept any kept = cc kept.rows

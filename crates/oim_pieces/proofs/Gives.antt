@@ -8,8 +8,8 @@ use Rattle.oim_rows.specs.declared.fault.TableKind.TheVariants as kind
 use Rattle.oim_decode.specs.Blocks.{GivesBlock, KeepsAnswer, ReadsRows}
 use Rattle.oim_decode.specs.state.Blocks.{end_or_left}
 use Rattle.oim_decode.proofs.Advances.{broken_off}
-use Rattle.oim_pieces.specs.PiecesLeft.{FewerSteps, steps_for}
-use Rattle.oim_pieces.specs.state.PiecesUnderWay.{IsEndOfTable, KeepsStream, fault_or_left}
+use Rattle.oim_pieces.specs.PiecesLeft.{FewerSteps, KeepsStream, steps_for}
+use Rattle.oim_pieces.specs.state.PiecesUnderWay.{IsEndOfTable, fault_or_left}
 
 -- The end or the fault is kept.
 pub end_kept : {A : Type 0} (r : Result (Option A) TableFault) (o : Option TableFault) → r ≡ answer_of o → KeepsAnswer r (Some o)

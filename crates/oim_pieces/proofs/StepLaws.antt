@@ -1,8 +1,8 @@
 -- How many steps of a table are left.
 use Rattle.std.proofs.Common.{◌≡◌, ◌++◌, ◌+◌, ◌≤◌, ◌<◌, ℕ, suc, List, [], ◌∷◌, length, Option, Some, None, sym, subst, arith, length-append}
-use Rattle.oim_pieces.specs.PiecesLeft.{FewerSteps, steps_for}
+use Rattle.oim_pieces.specs.PiecesLeft.{FewerSteps, NoMoreSteps, steps_for}
 use Rattle.oim_pieces.specs.state.Cutting.{HasAtLeast}
-use Rattle.oim_pieces.specs.state.PiecesUnderWay.{PieceRowsLeft, NoMoreSteps}
+use Rattle.oim_pieces.specs.state.PiecesUnderWay.{PieceRowsLeft}
 
 pub steps_same : (o : Option ℕ) → NoMoreSteps o o
 steps_same None = tt

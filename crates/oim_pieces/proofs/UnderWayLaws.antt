@@ -1,5 +1,5 @@
 -- The pieces under way, and the stream that is left with them.
-use Rattle.std.proofs.Common.{◌≡◌, ◌++◌, ◌+◌, ◌≤◌, ◌<◌, ℕ, suc, List, [], ◌∷◌, length, Bool, true, false, if◌then◌else◌, Option, Some, None, IfSome, Result, Ok, Err, inl, inr, refl, sym, ap, subst, ◌∙◌, append-nil, append_assoc, arith}
+use Rattle.std.proofs.Common.{◌≡◌, ◌++◌, ◌+◌, ◌≤◌, ◌<◌, ℕ, suc, List, [], ◌∷◌, length, Bool, true, false, if◌then◌else◌, Option, Some, None, IfSome, option_map, Result, Ok, Err, inl, inr, refl, sym, ap, subst, ◌∙◌, append-nil, append_assoc, arith}
 use Rattle.std.proofs.lemmas.Grind.{flat_map-append}
 use Rattle.csv.specs.Machine.{ends_at_end, is_end, step}
 use Rattle.csv.specs.Reading.{default_config}
@@ -7,7 +7,7 @@ use Rattle.csv.specs.declared.parser.State.{State}
 use Rattle.csv.specs.declared.parser.State.TheVariants as state
 use Rattle.oim_records.specs.Cuts.{ended, state_after}
 use Rattle.oim_records.specs.Grids.{Field, Record, records_left}
-use Rattle.oim_records.specs.Reads.{KeepsLeft}
+use Rattle.oim_records.specs.Reads.{KeepsLeft, left_known}
 use Rattle.oim_records.proofs.RecordLaws.{left-count}
 use Rattle.oim_resolve.specs.FactParts.{FactParts as Fact}
 use Rattle.oim_rows.specs.RowFacts.{TableHeaderValue, facts_from, id_place_of, row_fault, row_of}
@@ -19,7 +19,8 @@ use Rattle.oim_decode.specs.PieceAnswers.{IsJoined, IsPieceDecoded, fault_or_nex
 use Rattle.oim_decode.proofs.JoinLaws.{piece_is_read}
 use Rattle.oim_decode.proofs.PieceSteps.{within_limit}
 use Rattle.oim_pieces.specs.state.Cutting.{CutterLeft, IsOver, TakesRows}
-use Rattle.oim_pieces.specs.state.PiecesUnderWay.{AreChained, UnderWayLeft, PieceRowsLeft, IsEndOfTable, IsFront, IsPieceAnswer, KeepsStream, ReadsJoined, fault_or_left, first_row_of, next_row, rows_in, rows_left, stream_in}
+use Rattle.oim_pieces.specs.PiecesLeft.{KeepsStream}
+use Rattle.oim_pieces.specs.state.PiecesUnderWay.{AreChained, UnderWayLeft, PieceRowsLeft, IsEndOfTable, IsFront, IsPieceAnswer, ReadsJoined, fault_or_left, first_row_of, next_row, rows_in, rows_left, stream_in}
 
 -- COUNTS
 
@@ -186,3 +187,33 @@ joined_front old g g' ids ids' f all fs cutter s view is table chain front same 
     let whole = subst (λ l. IfSome (rows_left g ids l next left) (λ whole. ReadsJoined cutter.table whole s (rows_left g ids' fs next left))) (sym is) placed in
     let new = subst (λ (h : TableHeaderValue). IfSome (rows_left g ids all next left) (λ whole. ReadsJoined cutter.table whole s (rows_left h ids' fs next left))) (sym same) whole in
     subst (λ (v : UnderWayLeft). IfSome (stream_in v) (λ whole. ReadsJoined v.cutter.table whole s (rows_left g' ids' fs next left))) view new
+
+-- THE REST
+
+-- The records of a piece, and those of the text after it.
+records-behind : (g : TableHeaderValue) (n : ℕ) (ids : List Field) (rows : List Record) (text : Option (List ℕ))
+    → option_map (stream_from g n ids) (left_known rows text) ≡ option_map (λ records. stream_from g n ids (rows ++ records)) (left_known [] text)
+records-behind g n ids rows None = refl
+records-behind g n ids rows (Some xs) = refl
+
+pub rest_blocks : (g g' : TableHeaderValue) (n : ℕ) (ids : List Field) (rows : List Record) (text : Option (List ℕ)) (left cut : Option (List Record)) (stream : Option Stream)
+    → g' ≡ g → left ≡ left_known rows text → left_known [] text ≡ cut → stream ≡ option_map (stream_from g' n ids) left
+    → stream ≡ option_map (λ records. stream_from g n ids (rows ++ records)) cut
+rest_blocks g g' n ids rows text left cut stream reads of_piece after is =
+    is ∙ ap (λ o. option_map (stream_from g' n ids) o) of_piece ∙ ap (λ (x : TableHeaderValue). option_map (stream_from x n ids) (left_known rows text)) reads
+    ∙ records-behind g n ids rows text ∙ ap (λ o. option_map (λ records. stream_from g n ids (rows ++ records)) o) after
+
+-- The only piece under way was taken. Its rows and those after it are the stream.
+pub rest_stream : (old new : UnderWayLeft) (n : ℕ) (rows : List Record) (stream : Option Stream) → new ≡ record old { pieces = [] } → n ≡ next_row old → rows_in old.pieces ≡ rows
+    → stream ≡ option_map (λ records. stream_from new.header n new.ids (rows ++ records)) new.cutter.left → stream ≡ stream_in old
+rest_stream old new n rows stream taken at are is =
+    is ∙ ap (λ (v : UnderWayLeft). option_map (λ records. stream_from v.header n v.ids (rows ++ records)) v.cutter.left) taken
+    ∙ ap (λ k. option_map (λ records. stream_from old.header k old.ids (rows ++ records)) old.cutter.left) at
+    ∙ ap (λ t. option_map (λ records. stream_from old.header (next_row old) old.ids (t ++ records)) old.cutter.left) (sym are)
+
+pub only_piece : (fs rest : List PieceRowsLeft) (f : PieceRowsLeft) → fs ≡ f ∷ rest → length fs ≡ 1 → rest ≡ []
+only_piece fs [] f is one = refl
+only_piece fs (x ∷ rest) f is one = let more : length fs ≡ length (f ∷ x ∷ rest) = ap (λ (l : List PieceRowsLeft). length l) is in absurd (omega (arith, more, one))
+
+pub only_rows : (fs rest : List PieceRowsLeft) (f : PieceRowsLeft) → fs ≡ f ∷ rest → length fs ≡ 1 → rows_in fs ≡ f.rows
+only_rows fs rest f is one = ap rows_in is ∙ ap (λ l. rows_in (f ∷ l)) (only_piece fs rest f is one) ∙ append-nil f.rows

@@ -1,5 +1,5 @@
 -- What is left of a table that is read in pieces, and how many steps that takes at most.
-use Rattle.std.specs.Prelude.{◌≡◌, ◌+◌, ◌<◌, ⊤, ℕ, List, [], length, Option, Some, None, option_map, Result, Ok, Err}
+use Rattle.std.specs.Prelude.{◌≡◌, ◌+◌, ◌<◌, ◌≤◌, ⊤, ℕ, List, [], length, Option, Some, None, IfSome, option_map, Result, Ok, Err}
 use Rattle.oim_resolve.specs.FactParts.{FactParts as Fact}
 use Rattle.oim_rows.specs.Streams.{Stream, facts_of_rows}
 use Rattle.oim_rows.specs.declared.fault.TableFault.{TableFault}
@@ -36,3 +36,13 @@ abbrev pub FewerSteps : Option ℕ → Option ℕ → Type 0
 FewerSteps None new = ⊤
 FewerSteps (Some n) None = ⊥
 FewerSteps (Some n) (Some m) = m < n
+
+-- There are no more steps than before, if their number was known.
+abbrev pub NoMoreSteps : Option ℕ → Option ℕ → Type 0
+NoMoreSteps None new = ⊤
+NoMoreSteps (Some n) None = ⊥
+NoMoreSteps (Some n) (Some m) = m ≤ n
+
+-- The stream does not change, if it was known.
+abbrev pub KeepsStream : Option Stream → Option Stream → Type 0
+KeepsStream old new = IfSome old (λ s. new ≡ Some s)

@@ -35,7 +35,7 @@ const WAITING_BYTES: usize = 8_388_608;
 
 /// How often a helper thread looks for a piece again before it sleeps. Waking it would cost its
 /// worker more than that, and all others wait for the worker.
-const LOOKS: usize = 50;
+const LOOKS: usize = 10;
 
 /// How many columns, groups and dimensions of a template are looked at for each table. To open the
 /// table takes longer.
@@ -89,7 +89,8 @@ impl AtWork {
     ///
     /// Returns `None` if its facts can be far longer, or if its template is large and was not
     /// looked at, as those of other tables were. Then only one worker decodes the table, since a
-    /// piece of it could take much memory.
+    /// piece of it could take much memory. How long cells are is seen only as the table is read
+    /// (`TablePieces::is_long`).
     pub fn growth_of(&self, alloc: Global, report: &Report, table: usize) -> Option<TextGrowth>
         requires { table < length report.now.tables }
     {

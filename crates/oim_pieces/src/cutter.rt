@@ -97,7 +97,7 @@ impl<R: Read + Drop> Model for Cutter<R> {
       unread = left_over a.over (bytes_left a.pieces);
     } };
 
-    ghost invariant = { λ a. (a.limit ≤ 4294967294) × IfSome a.over (IsOver a.table (left_over a.over (left_behind [] a.pieces))) };
+    ghost invariant = { λ a. (a.limit ≤ 4294967294) × (1 ≤ a.next) × IfSome a.over (IsOver a.table (left_over a.over (left_behind [] a.pieces))) };
 }
 
 /// Returns the next piece that has a record, of about `size` bytes, or `None` at the end of the
@@ -137,7 +137,8 @@ impl<R: Read + Drop> Cutter<R> {
         next: u64,
         size: usize,
     ) -> Cutter<R>
-        requires { limit ≤ 4294967294 }
+        requires rows { limit ≤ 4294967294 }
+        requires first { 1 ≤ next }
         ensures { result ≡ record { table = table; limit = limit; next = next; left = left_behind [] pieces; over = None; unread = bytes_left pieces } }
     {
         Cutter {
@@ -165,6 +166,31 @@ impl<R: Read + Drop> Cutter<R> {
     /// pieces.
     pub(crate) fn has_memory(&self, count: usize) -> bool {
         has_memory(count, self.longest)
+    }
+
+    /// Returns whether the facts of a piece are so long that it is not decoded as a whole. The
+    /// header names these columns.
+    pub(crate) fn is_long_piece(&self, piece: &[u8], columns: &[Option<usize>]) -> bool {
+        self.growth.is_long_piece(piece, columns)
+    }
+
+    /// Returns the reader of what is left to cut.
+    pub(crate) fn into_pieces(self) -> PieceReader<R>
+        requires { self.over ≡ None }
+        ensures { left_behind [] result ≡ self.left }
+    {
+        let Cutter {
+            pieces,
+            table: _,
+            limit: _,
+            next: _,
+            over: _,
+            size: _,
+            growth: _,
+            longest: _,
+            is_slow: _,
+        } = self;
+        pieces
     }
 
     /// Returns the table's place in the report.
@@ -203,7 +229,7 @@ impl<R: Read + Drop> Cutter<R> {
     pub(crate) fn cut(&mut self) -> Option<CutPiece>
         ensures some { IfSome result (λ piece. TakesRows self.old.left (records_left state.StartRecord piece.bytes.items) self.new.left) }
         ensures rows { IfSome result (λ piece. 1 ≤ length (records_left state.StartRecord piece.bytes.items)) }
-        ensures first { IfSome result (λ piece. (piece.first ≡ self.old.next) × (piece.first ≤ self.old.limit + 1)) }
+        ensures first { IfSome result (λ piece. (piece.first ≡ self.old.next) × (1 ≤ piece.first) × (piece.first ≤ self.old.limit + 1)) }
         ensures next { IfSome result (λ piece. self.new.next ≡ self.old.next + length (records_left state.StartRecord piece.bytes.items)) }
         ensures bytes { IfSome result (λ piece. (1 ≤ length piece.bytes.items) × HasAtLeast self.old.unread piece.bytes.items self.new.unread) }
         ensures none { IfNone result (KeepsLeft self.old.left self.new.left × (self.new.next ≡ self.old.next)) }
@@ -226,7 +252,10 @@ impl<R: Read + Drop> Cutter<R> {
             Ok(Some(FilePiece { bytes, records })) => {
                 let first = self.next as u32;
                 let rows = records as usize;
-                self.longest = self.growth.longest(self.longest, bytes.len(), rows);
+                let may_be_long = rows == 1 || bytes.len() / 2 > self.size;
+                self.longest = self
+                    .growth
+                    .longest(self.longest, bytes.len(), rows, may_be_long);
                 let is_short = bytes.len() < self.size / 2;
                 self.is_slow = is_short || self.pieces.is_short();
                 self.next += records;

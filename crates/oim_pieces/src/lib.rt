@@ -5,6 +5,9 @@
 //! them. The worker does the same while it waits for the next answer. Short pieces, and the rows
 //! that were read with the header, it decodes at once.
 //!
+//! A piece whose facts would be far longer than its rows is cut and not decoded. `into_rest` then
+//! gives the rest of the table to one worker, which writes its rows in parts.
+//!
 //! `TablePieces` joins the answers in the order of the pieces. What it gives is the table's stream,
 //! or a prefix of it before Read or Memory, whichever thread decoded a piece and whenever it
 //! finished. Each piece has a channel of its own, which holds the piece until a thread takes it,
@@ -22,7 +25,8 @@
 //! - `SpareVectors`, `SparesByThread`: the memory of blocks, kept for the thread that last wrote to
 //!   it.
 //! - `Memory`: all spare memory of a table.
-//! - `TextGrowth`: how much longer than its rows a table's facts can be. It makes pieces small.
+//! - `TextGrowth`: how much longer than its rows a table's facts can be. It makes pieces small, and
+//!   says which are not decoded as a whole.
 //! - `AtWork`: the count of the threads at work in the run.
 //!
 //! Not proved: what `AtWork`, `Memory` and `TextGrowth` hold, and how many pieces the worker cuts
@@ -70,5 +74,6 @@ mod table_threads;
 mod text_growth;
 
 pub use at_work::AtWork;
+pub use small_reads::SmallReads;
 pub use table_pieces::{PIECE_SIZE, TablePieces};
 pub use text_growth::TextGrowth;

@@ -1,22 +1,24 @@
 //! The pieces of a table that are under way: cut, and not joined yet.
 
-ghost use Rattle.std.specs.Prelude.{◌≡◌, ◌⊎◌, ◌+◌, ◌-◌, ◌<◌, ◌≤◌, [], drop, IfNone, IfOk, IfErr, IfSome, None, OnSome, Some, length, true};
+ghost use Rattle.std.specs.Prelude.{◌≡◌, ◌⊎◌, ◌++◌, ◌+◌, ◌-◌, ◌<◌, ◌≤◌, [], drop, IfNone, IfOk, IfErr, IfSome, None, OnSome, Some, length, option_map, true};
+ghost use Rattle.csv.specs.declared.parser.State.TheVariants as state;
 ghost use Rattle.oim_decode.specs.Heads.{table_header_in};
+ghost use Rattle.oim_records.specs.Grids.{records_left};
 ghost use Rattle.oim_records.specs.PieceTaking.{bytes_left};
 ghost use Rattle.oim_records.specs.Reads.{left_behind};
 ghost use Rattle.oim_rows.specs.Header.{file_header_fault};
-ghost use Rattle.oim_rows.specs.Streams.{IsOutside, ending, stream_of};
-ghost use Rattle.oim_pieces.specs.PiecesLeft.{FewerSteps};
-ghost use Rattle.oim_pieces.specs.state.PiecesUnderWay.{IsEndOfTable, IsFront, KeepsStream, NoMoreSteps, ReadsJoined, head_pieces, next_row, steps_in, stream_in};
+ghost use Rattle.oim_rows.specs.Streams.{IsOutside, ending, stream_from, stream_of};
+ghost use Rattle.oim_pieces.specs.PiecesLeft.{FewerSteps, KeepsStream, NoMoreSteps};
+ghost use Rattle.oim_pieces.specs.state.PiecesUnderWay.{IsEndOfTable, IsFront, ReadsJoined, head_pieces, next_row, rows_in, steps_in, stream_in};
 
 use crate::at_work::AtWork;
-use crate::cutter::Cutter;
+use crate::cutter::{CutPiece, Cutter};
 use crate::piece_under_way::PieceUnderWay;
 use crate::table_threads::TableThreads;
 use crate::text_growth::TextGrowth;
-use oim_decode::{FirstRecords, JoinedPiece, PieceJoin};
+use oim_decode::{FirstRecords, JoinedPiece, PieceJoin, TableBlocks};
 use oim_json::Spare;
-use oim_records::PieceReader;
+use oim_records::{PieceReader, RecordReader};
 use oim_report::Report;
 use oim_rows::{TableFault, TableKind, whole_fault};
 use std::alloc::Global;
@@ -116,6 +118,28 @@ fn join_piece<'a, T: Wait>(
     let first = piece.first();
     let answer = piece.wait_for_answer(rt, threads);
     join.join(threads.header(), first, answer)
+}
+
+/// Starts the decoding of a piece, unless its facts are so long that it is not decoded as a whole.
+/// Before the writer has reached the table, the worker decodes it.
+fn begin<'a, E, R: Read + Drop, T: Threads + Wait + Sync + 'a>(
+    scope: &Scope<'a, E>,
+    rt: &'a T,
+    cutter: &Cutter<R>,
+    threads: &mut TableThreads<'a>,
+    is_wanted: bool,
+    piece: CutPiece,
+) -> PieceUnderWay<'a>
+    requires first { 1 ≤ piece.first }
+    requires within { piece.first ≤ threads.old.limit + 1 }
+    ensures piece { (result.header ≡ threads.old) × (result.first ≡ piece.first) × (result.rows ≡ records_left state.StartRecord piece.bytes.items) }
+    ensures same { threads.new ≡ threads.old }
+{
+    if cutter.is_long_piece(piece.bytes.as_slice(), threads.header().columns()) {
+        return threads.keep(piece);
+    }
+    let stays = !is_wanted || threads.is_alone(rt);
+    threads.send_or_decode(scope, rt, piece.staying(stays))
 }
 
 impl<'a, R: Read + Drop> PiecesUnderWay<'a, R> {
@@ -249,11 +273,12 @@ impl<'a, R: Read + Drop> PiecesUnderWay<'a, R> {
     ///
     /// The rows of the head, and a short piece from a slow reader, are given without waiting for
     /// others. After a longer one, others may be read before it is given, unless their facts take
-    /// much memory.
+    /// much memory. Nothing is read after a piece whose facts are so long that it was not decoded.
     fn may_cut<T: Threads>(&self, rt: &T) -> bool {
         match self.under_way.front() {
             Some(_) => {
                 self.has_given
+                    && !self.ends_kept()
                     && !self.cutter.is_slow()
                     && self.cutter.has_memory(self.under_way.len())
                     && self
@@ -262,6 +287,19 @@ impl<'a, R: Read + Drop> PiecesUnderWay<'a, R> {
             }
             None => true,
         }
+    }
+
+    /// Returns whether the last piece under way was not decoded.
+    fn ends_kept(&self) -> bool {
+        match self.under_way.back() {
+            Some(piece) => piece.is_kept(),
+            None => false,
+        }
+    }
+
+    /// Returns whether only a piece is under way that was not decoded, since its facts are long.
+    pub(crate) fn is_long(&self) -> bool {
+        self.under_way.len() == 1 && self.ends_kept()
     }
 
     /// Cuts the next piece and starts its decoding. Returns false if no piece is left or memory
@@ -286,8 +324,14 @@ impl<'a, R: Read + Drop> PiecesUnderWay<'a, R> {
         let Some(piece) = self.cutter.cut() else {
             return false;
         };
-        let stays = !self.is_wanted || self.threads.is_alone(rt);
-        let under_way = self.threads.send_or_decode(scope, rt, piece.staying(stays));
+        let under_way = begin(
+            scope,
+            rt,
+            &self.cutter,
+            &mut self.threads,
+            self.is_wanted,
+            piece,
+        );
         self.under_way.push_back_reserved(under_way);
         true
     }
@@ -341,6 +385,79 @@ impl<'a, R: Read + Drop> PiecesUnderWay<'a, R> {
         match self.cutter.over() {
             Some(end) => end,
             None => Some(whole_fault(self.cutter.table(), TableKind::Memory)),
+        }
+    }
+
+    /// Takes the piece under way if it is the only one and was not decoded. It has the next row.
+    fn take_kept(&mut self) -> Option<CutPiece>
+        ensures first { IfSome result (λ piece. (piece.first ≡ next_row self.old) × (1 ≤ piece.first) × (piece.first ≤ self.old.cutter.limit + 1)) }
+        ensures rows { IfSome result (λ piece. rows_in self.old.pieces ≡ records_left state.StartRecord piece.bytes.items) }
+        ensures same { OnSome result (self.new ≡ record self.old { pieces = [] }) }
+        ensures none { IfNone result (self.new ≡ self.old) }
+    {
+        if self.under_way.len() != 1 {
+            return None;
+        }
+        let Some(piece) = self.under_way.pop_front() else {
+            return None;
+        };
+        match piece.into_cut() {
+            Ok(piece) => Some(piece),
+            Err(piece) => {
+                self.under_way.push_front_reserved(piece);
+                None
+            }
+        }
+    }
+
+    /// Ends the pieces, and returns the rest of the table: the rows of `piece`, which is the next
+    /// one, and those that are not cut.
+    fn into_blocks(self, alloc: Global, piece: CutPiece) -> TableBlocks<'a, R>
+        requires going { self.cutter.over ≡ None }
+        requires first { 1 ≤ piece.first }
+        requires within { piece.first ≤ self.cutter.limit + 1 }
+        ensures start { (result.table ≡ self.entry.cutter.table) × (result.limit ≡ self.entry.cutter.limit) }
+        ensures begun { (result.given + 1 ≡ piece.first) × (result.pending ≡ []) × (result.answered ≡ None) }
+        ensures left { result.left ≡ option_map (λ records. stream_from self.entry.header piece.first self.entry.ids (records_left state.StartRecord piece.bytes.items ++ records)) self.entry.cutter.left }
+    {
+        let PiecesUnderWay {
+            cutter,
+            threads,
+            join,
+            under_way: _,
+            has_given: _,
+            is_wanted: _,
+            are_own: _,
+            has_asked: _,
+        } = self;
+        let CutPiece {
+            bytes,
+            first,
+            stays: _,
+        } = piece;
+        let records = RecordReader::after_pieces(alloc, bytes, cutter.into_pieces());
+        TableBlocks::after_pieces(alloc, threads.into_decoder(), join, first, records)
+    }
+
+    /// Returns the rest of the table, to be decoded row by row, if only a piece is under way that
+    /// was not decoded. Else returns the pieces as they are.
+    pub(crate) fn into_rest(
+        self,
+        alloc: Global,
+    ) -> Result<TableBlocks<'a, R>, PiecesUnderWay<'a, R>>
+        ensures start { IfOk result (λ rest. (rest.table ≡ self.entry.cutter.table) × (rest.limit ≡ self.entry.cutter.limit)) }
+        ensures begun { IfOk result (λ rest. (rest.given + 1 ≡ next_row self.entry) × (rest.pending ≡ []) × (rest.answered ≡ None)) }
+        ensures left { IfOk result (λ rest. rest.left ≡ stream_in self.entry) }
+        ensures same { IfErr result (λ pieces. pieces ≡ self.entry) }
+    {
+        let mut pieces = self;
+        match pieces.cutter.over() {
+            Some(_) => return Err(pieces),
+            None => {}
+        }
+        match pieces.take_kept() {
+            Some(piece) => Ok(pieces.into_blocks(alloc, piece)),
+            None => Err(pieces),
         }
     }
 

@@ -5,9 +5,9 @@ ghost use Rattle.std.specs.Prelude.{◌≡◌, ◌≤◌, ◌<◌};
 use std::io::{self, Read};
 
 /// A reader that gives at most as many bytes at a time as a piece of its table has, and at least
-/// one if it has one.
+/// one if it has one. `TablePieces` makes it of the table's reader.
 #[derive(Drop)]
-pub(crate) struct SmallReads<R: Read + Drop> {
+pub struct SmallReads<R: Read + Drop> {
     reader: R,
     most: usize,
 }

@@ -6,14 +6,14 @@ ghost use Rattle.oim_records.specs.Grids.{grid};
 ghost use Rattle.oim_rows.specs.Header.{file_fault, file_header_fault};
 ghost use Rattle.oim_rows.specs.Streams.{IsOutside, answer_of as answer_at_end, ending, stream_of};
 ghost use Rattle.oim_rows.specs.declared.fault.TableKind.TheVariants as kind;
-ghost use Rattle.oim_pieces.specs.PiecesLeft.{FewerSteps, GivesBlocks, steps_left};
+ghost use Rattle.oim_pieces.specs.PiecesLeft.{FewerSteps, GivesBlocks, KeepsStream, NoMoreSteps, steps_left};
 ghost use Rattle.oim_pieces.specs.state.PiecesUnderWay.{GivesJoined};
 
 use crate::at_work::AtWork;
 use crate::pieces_under_way::PiecesUnderWay;
 use crate::small_reads::SmallReads;
 use crate::text_growth::TextGrowth;
-use oim_decode::{JoinedPiece, open_pieces};
+use oim_decode::{JoinedPiece, TableBlocks, open_pieces};
 use oim_json::{Block, Spare};
 use oim_report::{Limits, Report};
 use oim_rows::{TableFault, TableKind, fault_of_read, whole_fault};
@@ -109,6 +109,63 @@ impl<'a, R: Read + Drop> TablePieces<'a, R> {
                 })
             }
             Err(fault) => Err(fault),
+        }
+    }
+
+    /// Cuts pieces and starts their decoding, as the next call of `next_blocks` would.
+    ///
+    /// The caller must be counted as at work (`AtWork::start`). If the table is settled, nothing is
+    /// cut.
+    #[tactic(auto, using(crate::proofs::UnderWayLaws::stream_same, crate::proofs::StepLaws::steps_same))]
+    pub fn cut_ahead<E, T: Threads + Wait + Sync + 'a>(&mut self, scope: &Scope<'a, E>, rt: &'a T)
+        ensures left { KeepsStream self.old.left self.new.left }
+        ensures settled { OnSome self.old.answered (self.new ≡ self.old) }
+        ensures steps { NoMoreSteps (steps_left self.old) (steps_left self.new) }
+        ensures same { (self.new.table ≡ self.old.table) × (self.new.limit ≡ self.old.limit) × (self.new.next ≡ self.old.next) × (self.new.answered ≡ self.old.answered) }
+    {
+        let settled = self.settled;
+        match settled {
+            Some(_) => return,
+            None => {}
+        }
+        let pieces = &mut self.pieces_under_way;
+        pieces.cut_ahead(scope, rt);
+    }
+
+    /// Returns whether the next piece was cut and not decoded, since its facts are far longer than
+    /// its rows. Then `into_rest` gives the rest of the table.
+    pub fn is_long(&self) -> bool {
+        self.pieces_under_way.is_long()
+    }
+
+    /// Returns the rest of the table, to be decoded row by row, if the next piece was cut and not
+    /// decoded. Its helper threads end. Else returns the pieces as they are.
+    ///
+    /// The rest has the stream and the number of the next row that the pieces have. It holds only a
+    /// part of a row's facts at once, where `next_blocks` would hold all facts of the piece.
+    pub fn into_rest(self) -> Result<TableBlocks<'a, SmallReads<R>>, TablePieces<'a, R>>
+        ensures start { IfOk result (λ rest. (rest.table ≡ self.entry.table) × (rest.limit ≡ self.entry.limit)) }
+        ensures begun { IfOk result (λ rest. (rest.given + 1 ≡ self.entry.next) × (rest.pending ≡ []) × (rest.answered ≡ None)) }
+        ensures left { IfOk result (λ rest. (rest.left ≡ self.entry.left) × (self.entry.answered ≡ None)) }
+        ensures same { IfErr result (λ pieces. pieces ≡ self.entry) }
+    {
+        let settled = self.settled;
+        match settled {
+            Some(_) => return Err(self),
+            None => {}
+        }
+        let TablePieces {
+            alloc,
+            pieces_under_way,
+            settled: _,
+        } = self;
+        match pieces_under_way.into_rest(alloc) {
+            Ok(rest) => Ok(rest),
+            Err(pieces_under_way) => Err(TablePieces {
+                alloc,
+                pieces_under_way,
+                settled,
+            }),
         }
     }
 

@@ -180,6 +180,21 @@ impl<'a> TableThreads<'a> {
         self.mine.header()
     }
 
+    /// Ends the helper threads, and returns the worker's decoder.
+    pub(crate) fn into_decoder(self) -> PieceDecoder<'a>
+        ensures { result.header ≡ self.entry }
+    {
+        let TableThreads {
+            alloc: _,
+            at_work: _,
+            mine,
+            decoders: _,
+            line: _,
+            memory: _,
+        } = self;
+        mine
+    }
+
     /// Returns whether no other thread helps: the run has one worker only, or the machine one
     /// processor, or the header is so wide that its copies would take much memory.
     pub(crate) fn is_alone<T: Threads>(&self, rt: &T) -> bool {
@@ -238,6 +253,21 @@ impl<'a> TableThreads<'a> {
         let under_way = self.send_piece(rt, asked, to_decode);
         self.grow(scope, rt);
         under_way
+    }
+
+    /// Keeps a piece, which the worker decodes when its answer is asked for.
+    #[tactic(auto, using(crate::proofs::ChannelLaws::is_kept))]
+    pub(crate) fn keep(&self, piece: CutPiece) -> PieceUnderWay<'a>
+        requires first { 1 ≤ piece.first }
+        requires within { piece.first ≤ self.now.limit + 1 }
+        ensures { (result.header ≡ self.now) × (result.first ≡ piece.first) × (result.rows ≡ records_left state.StartRecord piece.bytes.items) }
+    {
+        let CutPiece {
+            bytes,
+            first,
+            stays: _,
+        } = piece;
+        PieceUnderWay::kept(Asked::of(self.header(), &bytes, first), bytes)
     }
 
     /// Queues a piece, or decodes it here if memory runs out.
@@ -300,7 +330,7 @@ impl<'a> TableThreads<'a> {
     }
 
     /// Decodes a piece on the worker.
-    fn decode(&mut self, to_decode: PieceToDecode<'a>) -> PieceAnswer
+    pub(crate) fn decode(&mut self, to_decode: PieceToDecode<'a>) -> PieceAnswer
         requires { to_decode.asked.first ≤ self.old.limit + 1 }
         ensures answer { IsPieceAnswer self.old to_decode.entry.asked.first (records_left state.StartRecord to_decode.entry.bytes.items) result }
         ensures same { self.new ≡ self.old }

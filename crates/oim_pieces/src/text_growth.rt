@@ -37,11 +37,15 @@ const MOST_COPIED: usize = 2_097_152;
 /// The least size of a piece if each fact copies a cell once. A row with many facts has more bytes.
 const LEAST_COPIED: usize = 4_096;
 
+/// The most bytes of the copies of cells in the facts of a piece. Only a cell that is longer than
+/// an ordinary piece has more.
+const MOST_OF_COPIES: usize = 8_388_608;
+
 /// The bytes of a dimension in a fact's text, besides its name and value.
 const AROUND: usize = 6;
 
 /// How much longer than its rows the facts of a table can be.
-#[derive(Clone, Copy)]
+#[derive(Drop)]
 pub struct TextGrowth {
     // The most facts of a row.
     facts: usize,
@@ -49,6 +53,8 @@ pub struct TextGrowth {
     added: usize,
     // The most copies of a cell in the facts of a row.
     copies: usize,
+    // For each column of the template, how many facts of a row copy its cell, if that is known.
+    of_columns: Option<Vec<usize>>,
     // How many property groups the template has.
     groups: usize,
 }
@@ -203,27 +209,67 @@ fn facts_in(columns: &[Column]) -> usize {
     count
 }
 
-/// Returns how often the facts of a row copy one cell at most, but for references from property
-/// groups. If memory runs out, it counts none.
-fn copies_in(alloc: Global, report: &Report, table: usize, facts: usize) -> usize
+/// Counts that the facts of a row copy the cells to which the levels of the report and the table
+/// and those of its columns refer.
+fn count_levels(report: &Report, table: usize, facts: usize, copies: &mut Vec<usize>)
     requires { table < length report.now.tables }
 {
-    let columns = report.template_columns(table);
-    let Ok(mut copies) = vec![in alloc; 0usize; columns.len()] else {
-        return 0;
-    };
-    count_copies(report, table, report.report_level(), facts, &mut copies);
-    count_copies(
-        report,
-        table,
-        report.template_level(table),
-        facts,
-        &mut copies,
-    );
-    for column in columns {
-        count_copies(report, table, &column.level, 1, &mut copies);
+    count_copies(report, table, report.report_level(), facts, copies);
+    count_copies(report, table, report.template_level(table), facts, copies);
+    for column in report.template_columns(table) {
+        count_copies(report, table, &column.level, 1, copies);
     }
-    greatest(copies.as_slice())
+}
+
+/// Counts that all facts of a row copy the cells to which the property groups of a column refer.
+fn count_groups(
+    report: &Report,
+    table: usize,
+    column: &Column,
+    facts: usize,
+    copies: &mut Vec<usize>,
+)
+    requires { table < length report.now.tables }
+{
+    for group in column.groups.as_slice() {
+        count_copies(report, table, &group.1, facts, copies);
+    }
+}
+
+/// Returns how many copies the cell at `place` of a row has, if the header names these columns.
+fn copies_at(copies: &[usize], columns: &[Option<usize>], place: usize) -> usize {
+    match columns.get(place) {
+        Some(Some(column)) => match copies.get(*column) {
+            Some(count) => *count,
+            None => 0,
+        },
+        _ => 0,
+    }
+}
+
+/// Returns about how many bytes the copies of the cells of records have. A comma in quotes ends no
+/// cell.
+fn bytes_copied(records: &[u8], copies: &[usize], columns: &[Option<usize>]) -> usize {
+    let mut bytes = 0usize;
+    let mut place = 0usize;
+    let mut times = copies_at(copies, columns, 0);
+    let mut is_quoted = false;
+    for byte in records {
+        if *byte == b'"' {
+            is_quoted = !is_quoted;
+        }
+        if is_quoted || !matches!(*byte, b',' | b'\n' | b'\r') {
+            bytes = bytes.saturating_add(times);
+        } else {
+            place = if *byte == b',' {
+                place.saturating_add(1)
+            } else {
+                0
+            };
+            times = copies_at(copies, columns, place);
+        }
+    }
+    bytes
 }
 
 impl TextGrowth {
@@ -233,11 +279,13 @@ impl TextGrowth {
             facts: 0,
             added: 0,
             copies: 0,
+            of_columns: None,
             groups: 0,
         }
     }
 
-    /// Returns how much longer than its rows the facts of a table can be.
+    /// Returns how much longer than its rows the facts of a table can be. If memory runs out, it
+    /// counts no copies but those of references from property groups.
     pub(crate) fn of(alloc: Global, report: &Report, table: usize) -> TextGrowth
         requires { table < length report.now.tables }
     {
@@ -253,17 +301,36 @@ impl TextGrowth {
         let shared = added_by(report, table, report.report_level());
         let template = added_by(report, table, report.template_level(table));
         let facts = facts_in(columns);
-        let of_groups = facts.saturating_mul(by_groups.references);
         TextGrowth {
             facts,
             added: shared.and(template).and(own).and(by_groups).bytes,
-            copies: copies_in(alloc, report, table, facts).saturating_add(of_groups),
+            copies: facts.saturating_mul(by_groups.references),
+            of_columns: None,
             groups,
         }
+        .with_copies(alloc, report, table)
+    }
+
+    /// Adds the copies of cells, those of references from property groups column by column only.
+    fn with_copies(self, alloc: Global, report: &Report, table: usize) -> TextGrowth
+        requires { table < length report.now.tables }
+    {
+        let columns = report.template_columns(table);
+        let Ok(mut copies) = vec![in alloc; 0usize; columns.len()] else {
+            return self;
+        };
+        let mut growth = self;
+        count_levels(report, table, growth.facts, &mut copies);
+        growth.copies = growth.copies.saturating_add(greatest(copies.as_slice()));
+        for column in columns {
+            count_groups(report, table, column, growth.facts, &mut copies);
+        }
+        growth.of_columns = Some(copies);
+        growth
     }
 
     /// Returns whether the facts can be so long that they are not decoded in pieces.
-    pub(crate) fn is_long(self) -> bool {
+    pub(crate) fn is_long(&self) -> bool {
         self.added > MOST_OF_FACT
             || self.copies > MOST_COPIES
             || self.facts.saturating_mul(self.added) > MOST_OF_ROW
@@ -271,14 +338,14 @@ impl TextGrowth {
     }
 
     /// Returns how many bytes of the beginnings of facts a thread may keep.
-    fn kept(self) -> usize {
+    fn kept(&self) -> usize {
         let each = self.added.saturating_add(KEPT_WITH);
         self.facts.saturating_mul(self.groups).saturating_mul(each)
     }
 
     /// Returns the size of pieces, at most the usual one: so small that their facts take little
     /// memory unless a cell is long.
-    pub(crate) fn piece_size(self, usual: usize) -> usize {
+    pub(crate) fn piece_size(&self, usual: usize) -> usize {
         let added = MOST_ADDED / self.added.max(1);
         let copies = self.copies.max(1);
         let once = LEAST_COPIED.saturating_mul(self.facts) / copies;
@@ -286,25 +353,43 @@ impl TextGrowth {
         usual.min(added.min(copied).max(1))
     }
 
-    /// Returns how many bytes the metadata adds at most to the facts of a piece of `bytes` bytes
-    /// with `rows` rows, or how many the copies of a cell have in the facts of a single row.
-    fn added_to(self, bytes: usize, rows: usize) -> usize {
+    /// Returns how many bytes are added at most to the facts of a piece of `bytes` bytes and `rows`
+    /// rows: by the metadata, or by the copies of a cell if a cell of the piece may be long.
+    fn added_to(&self, bytes: usize, rows: usize, may_be_long: bool) -> usize {
         let added = rows
             .saturating_mul(self.facts)
             .min(bytes)
             .saturating_mul(self.added);
-        if rows > 1 {
-            added
-        } else {
+        if may_be_long {
             added.max(bytes.saturating_mul(self.copies))
+        } else {
+            added
         }
     }
 
     /// Returns what is added to the longest of the last pieces: to the one of `bytes` bytes with
     /// `rows` rows, or to those before it, which count less with each piece.
-    pub(crate) fn longest(self, before: usize, bytes: usize, rows: usize) -> usize {
-        self.added_to(bytes, rows)
+    pub(crate) fn longest(
+        &self,
+        before: usize,
+        bytes: usize,
+        rows: usize,
+        may_be_long: bool,
+    ) -> usize {
+        self.added_to(bytes, rows, may_be_long)
             .max(before.saturating_sub(before / 4))
+    }
+
+    /// Returns whether the copies of cells in the facts of a piece are so long that it is not
+    /// decoded as a whole. The header names these columns.
+    pub(crate) fn is_long_piece(&self, piece: &[u8], columns: &[Option<usize>]) -> bool {
+        if piece.len().saturating_mul(self.copies) <= MOST_OF_COPIES {
+            return false;
+        }
+        match &self.of_columns {
+            Some(copies) => bytes_copied(piece, copies.as_slice(), columns) > MOST_OF_COPIES,
+            None => false,
+        }
     }
 }
 

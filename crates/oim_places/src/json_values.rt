@@ -7,6 +7,11 @@ use crate::excerpts::{excerpt, in_quotes};
 use serde_json::Value;
 use std::alloc::{AllocError, Global};
 
+/// Returns the bytes of a JSON text after its byte-order mark, if it has one.
+pub fn after_mark(bytes: &[u8]) -> &[u8] {
+    bytes.strip_prefix(b"\xef\xbb\xbf").unwrap_or(bytes)
+}
+
 /// Returns a text in quotes, cut.
 pub fn quoted(alloc: Global, text: &str) -> Result<String, AllocError>
     ensures { IfOk result (λ s. string_bytes s ≡ in_quotes (excerpt_of text.now)) }

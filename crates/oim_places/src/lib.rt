@@ -24,9 +24,8 @@
 //!   (`specs/FilePlaces.antt`), `cell_shown` and `record_shown` what is in a cell and in a whole
 //!   record (`specs/Cells.antt`).
 //!
-//! Not proved: the text of `standing` for a JSON value, the part of a JSON text that `part_at`
-//! finds, the lines of `ParameterLines`, and that `first_record_with` finds the first record. Tests
-//! cover them.
+//! Not proved: the text of `standing` for a JSON value, what `after_mark` gives, the lines of
+//! `ParameterLines`, and that `first_record_with` finds the first record. Tests cover them.
 //!
 //! A call, which returns whether the fault of a table's first row is in line 2 of its file, at a
 //! cell `x` under the header `cash`:
@@ -55,7 +54,6 @@ mod file_places;
 mod json_values;
 mod line_number;
 mod parameter_lines;
-mod parts;
 mod pointers;
 mod record_lines;
 mod records;
@@ -72,10 +70,9 @@ pub use fault_places::{
 };
 pub use fault_rows::{fault_header, fault_row, more_faults_row, report_fault_row};
 pub use file_places::{line_again, place_in_file};
-pub use json_values::{quoted, standing};
+pub use json_values::{after_mark, quoted, standing};
 pub use line_number::lines_are_of_records;
 pub use parameter_lines::ParameterLines;
-pub use parts::part_at;
 pub use pointers::{pointer, pointer_to};
 pub use records::{RowAgain, first_record_with};
 pub use reread::{ReportAgain, report_again};

@@ -7,11 +7,10 @@ ghost use Rattle.std.specs.Prelude.{◌≡◌, IfOk, IfSome, Ok};
 ghost use Rattle.oim_files.specs.Steps.{GivesRest};
 ghost use Rattle.oim_places.specs.Reports.{IsReportOf};
 
+use crate::json_values::after_mark;
 use crate::parameter_lines::ParameterLines;
-use crate::parts::after_mark;
-use oim_files::{EarlyFault, Folder, Source, folder_of, metadata_at, report_with};
-use oim_meta::{Finding, MetaFault, Report};
-use oim_names::Items;
+use oim_files::{EarlyFault, FileFault, Folder, Source, folder_of, metadata_at, report_with};
+use oim_meta::{MetaFault, Report};
 use serde_json::Value;
 use std::alloc::Global;
 use std::io::Read;
@@ -56,21 +55,15 @@ impl ReportAgain {
     }
 }
 
-/// Returns the early fault of a metadata that is not JSON.
-fn no_json(alloc: Global) -> EarlyFault {
-    let finding = Finding {
-        fault: MetaFault::Syntax,
-        place: Items::new(alloc),
-    };
-    EarlyFault::Report(Source::Report, finding)
-}
-
 /// Returns the value that a metadata of these bytes is, as it is written.
 fn value_of(alloc: Global, bytes: &[u8]) -> Result<Value, EarlyFault> {
     match Value::from_slice(alloc, after_mark(bytes)) {
         Ok(value) => Ok(value),
         Err(error) if error.is_memory() => Err(EarlyFault::Memory),
-        Err(_) => Err(no_json(alloc)),
+        Err(_) => {
+            let fault = FileFault::of_whole(alloc, MetaFault::Syntax);
+            Err(EarlyFault::Report(Source::Report, fault))
+        }
     }
 }
 

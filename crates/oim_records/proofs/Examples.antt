@@ -14,6 +14,9 @@ use Rattle.oim_records.specs.state.Bytes.{begins_none, begins_pair, ends_field, 
 use Rattle.oim_records.specs.Cuts.{ended, is_between, state_after}
 use Rattle.oim_records.specs.state.Fields.{IsReadTo, IsWithin, ReadsFirst, fields_in}
 use Rattle.oim_records.specs.Grids.{Record, grid, records_left}
+use Rattle.oim_records.specs.state.KeptStates.{kept_in}
+use Rattle.oim_records.specs.state.KeptTexts.{BeginsWith, file_text}
+use Rattle.oim_records.specs.declared.kept_text.Kept.TheVariants as kept
 use Rattle.oim_records.specs.PieceTaking.{bytes_left}
 use Rattle.oim_records.specs.Pieces.{unread}
 use Rattle.oim_records.specs.state.Places as places
@@ -262,3 +265,18 @@ left_of_a_file : (left_in false ((codes "x" ∷ []) ∷ []) (record { held = cod
     × (left_in false [] (record { held = codes "a"; behind = None }) ≡ None) × (left_in true two_rows (record { held = codes "a"; behind = None }) ≡ Some [])
 unfolding records_left records_from next_record
 left_of_a_file = (refl, refl, refl)
+
+-- THE FILE'S TEXT: the text itself while it has not changed, else its copy, unless that is lost.
+file_texts : (file_text None (codes "a") ≡ Some (codes "a")) × (file_text (Some (Some (codes "b"))) (codes "a") ≡ Some (codes "b")) × (file_text (Some None) (codes "a") ≡ None)
+file_texts = (refl, refl, refl)
+
+kept_states : (kept_in kept.Unchanged (codes "a") ≡ None) × (kept_in kept.Copied (codes "a") ≡ Some (Some (codes "a"))) × (kept_in kept.Lost (codes "a") ≡ Some None)
+kept_states = (refl, refl, refl)
+
+record_begins : BeginsWith (codes "\na,b\nc") (codes "a" ∷ codes "b" ∷ [])
+unfolding records_left records_from next_record
+record_begins some = refl
+
+later_record : BeginsWith (codes "a\nc") (codes "c" ∷ []) → codes "c" ∷ [] ≡ codes "a" ∷ []
+unfolding records_left records_from next_record
+later_record h = h (omega arith)

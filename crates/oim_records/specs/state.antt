@@ -9,3 +9,5 @@ pub mod PlainReaders
 pub mod ReadFaults
 pub mod PieceTaking
 pub mod Reads
+pub mod KeptStates
+pub mod KeptTexts

@@ -123,7 +123,7 @@ fn put_read(
 
 /// Appends what a value gives a dimension, and returns whether it has no fault there.
 ///
-/// A text that is given unchanged is not copied first.
+/// A text that is given unchanged is not copied first. Without that: `members` +3.5 %.
 fn put_dimension(
     alloc: Global,
     out: &mut TextBuffer,

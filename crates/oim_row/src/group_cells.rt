@@ -47,11 +47,13 @@ pub struct GroupCells<'a> {
     /// Each of them once, in the order in which they were added.
     pub list: Vec<GroupCell<'a>>,
     /// The index in the list of each column of the template. Each is a guess that is tested.
+    /// Without it: `properties_from` of 1,000 columns +14 %, and it grows as their square.
     places: Vec<u32>,
     hints: GroupHints,
 }
 
 /// The most groups that are searched one by one.
+/// With none: `choices` +3.4 %, `mixed` +1.4 %, `positions` +0.6 %, `ids` +0.5 %.
 const FEW: usize = 8;
 
 /// Returns the index of the group with this name among a few, if it is found.
@@ -60,7 +62,7 @@ fn place_among(groups: &[(Text, Level)], name: &str) -> Choice
     ensures { (column : ColumnValue) → groups.now ≡ column.groups → Says column (a_text name.now) result }
 {
     for i in 0..groups.len() {
-        if groups[i].0.as_str() == name {
+        if is_same(groups[i].0.as_str(), name) {
             return Choice::Group(i);
         }
     }
@@ -96,6 +98,8 @@ impl<'a> GroupCell<'a> {
     /// Returns the group with this name.
     ///
     /// Often it is the group that the last row named, or it is at the guessed index.
+    ///
+    /// Without the last row's group: `choices` +2.6 %, `datapoints` -0.4 %, no other 0.5 %.
     #[inline(always)]
     fn find(&self, name: &str, guess: usize) -> Choice
         requires { IsRising (keys_of self.now.groups.now) }

@@ -9,6 +9,8 @@ const SEVERAL: u32 = 64;
 /// An index from a name's hash to the group that rows named by it.
 ///
 /// It is only a hint. Callers compare the name of the group, so no contract speaks of it.
+///
+/// Without it: `datapoints` +9.5 %.
 #[derive(Drop)]
 pub(crate) struct GroupHints {
     slots: TextPlaces,

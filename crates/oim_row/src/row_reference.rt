@@ -233,6 +233,8 @@ impl<'a> RowReference<'a> {
 
     /// Moves a typed dimension on to a row. Its text is read at once, and not compared with the
     /// last one.
+    ///
+    /// Without it, by the cache: `positions` +19 %, `mixed` +17 %, `ids` +16 %, `texts` +8.3 %.
     #[inline(always)]
     fn refresh_typed(&mut self, alloc: Global, row: &TableRow<'a, '_>) -> Result<(), AllocError>
         requires { is_typed_purpose self.old.key.purpose ≡ true }

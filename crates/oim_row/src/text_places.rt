@@ -11,6 +11,7 @@ const MANY: usize = 256;
 const MOST: usize = 8192;
 
 /// The number of places at which a text may be cached.
+/// With one: `members` +6.6 %, `datapoints` +3.8 %.
 const WAYS: usize = 4;
 
 /// The most words of a long text that its hash is made of.
@@ -31,6 +32,9 @@ pub(crate) struct TextPlaces {
 }
 
 /// Returns a hash of the first words of a long text.
+///
+/// Without it: `positions` with 10 years' quarters as texts of 39 bytes +36 %, because texts that
+/// differ only outside both ends and the middle share a hash. No shape of `bench/` has them.
 #[inline(never)]
 fn hash_of_words(text: &[u8]) -> u64 {
     let all = text.len() / 8;
@@ -58,6 +62,7 @@ fn hash_of_bytes(text: &[u8]) -> u64 {
             ends
         };
     }
+    // Without it: `positions` +1.1 %, `ids` +0.8 %.
     if len >= 4 {
         let first = u64::from(half_word_at(text, 0));
         let last = u64::from(half_word_at(text, len - 4));
@@ -170,6 +175,9 @@ impl TextPlaces {
     /// should grow only if a text misses a second time. Two misses are kept as samples: the first,
     /// and a later one that is replaced at each power of two, because the first may be cached by
     /// then. Counting restarts when the cache grows, and after `MOST` misses.
+    ///
+    /// With at most `MANY` places: `members` +56 %. Always growing up to `MOST`: `members` -6.8 %,
+    /// but `positions` with another period in each row +5.2 %, and the memory of `MOST` answers.
     pub(crate) fn count(&mut self, hash: u32, places: usize) -> bool {
         let is_back = self.count > 0 && (self.first == hash || self.later == hash);
         if self.count == 0 {

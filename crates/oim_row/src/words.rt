@@ -1,4 +1,6 @@
 //! Comparison of short texts by words of eight bytes.
+//!
+//! Without it, by `==`: `mixed` +12 %, `texts` +6.2 %, `positions` +2.0 %, `ids` +1.6 %.
 
 ghost use Rattle.std.specs.Prelude.{◌≡◌, ◌+◌, ◌≤◌, length, slice_range, true};
 ghost use Rattle.std.specs.Int.{to_le_bytes, w32, w64};

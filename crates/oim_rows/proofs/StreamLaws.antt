@@ -147,6 +147,11 @@ opened_at : (report : ReportValue) (table limit : ℕ) (rs : List Record) (new :
 opened_at report table limit [] new h took = absurd took
 opened_at report table limit (r ∷ rows) new h took = (rw (took.2, took.1, took.0) refl, took.0)
 
+-- The records of a file that is read from its start.
+pub starts_known : (known : Option (List ℕ)) (left : Option (List Record)) → left ≡ option_map grid known → StartsFile known left
+starts_known None left e = tt
+starts_known (Some bytes) left e = e
+
 -- The rows under a header without a fault are those of the table's stream.
 pub opened_stream : (report : ReportValue) (table limit : ℕ) (known : Option (List ℕ)) (old new : Option (List Record)) (h : Header) (g : TableHeaderValue) (ids : List Field) → StartsFile known old
     → TakesHeader report table old h new → g ≡ record { report = report; table = table; limit = limit; columns = h } → ids ≡ []

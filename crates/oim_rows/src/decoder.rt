@@ -1,6 +1,7 @@
 //! Turns the records of one table into the facts of its rows.
 
 ghost use Rattle.std.specs.Prelude.{◌≡◌, ◌≤◌, Err, IfOk, IfSome, OnErr, OnOk};
+ghost use Rattle.csv.specs.Records.{fields_of};
 ghost use Rattle.oim_rows.specs.RowFacts.{IsTextRecord, id_place_of, ids_after, row_fault, row_result};
 ghost use Rattle.oim_rows.specs.state.RowFacts.{IsNewId};
 ghost use Rattle.oim_rows.specs.Streams.{OrNoMemory};
@@ -10,8 +11,8 @@ use crate::fault::{TableFault, TableKind, whole_fault};
 use crate::ids::RowIds;
 use crate::row_plan::RowPlan;
 use crate::table_header::TableHeader;
+use csv::ByteRecord;
 use oim_names::Items;
-use oim_records::Fields;
 use oim_resolve::Fact;
 use std::alloc::{AllocError, Global};
 use std::marker::Model;
@@ -55,10 +56,10 @@ impl Decoder<'_> {
 
     /// Adds the identifier of a row to those of the rows before it. If memory runs out, nothing is
     /// added.
-    fn add_id(&self, alloc: Global, ids: &mut RowIds, row: &Fields<'_>) -> Result<(), AllocError>
-        requires texts { IsTextRecord row.now }
-        requires new { IsNewId (id_place_of self.now) ids.old row.now }
-        ensures added { OnOk result (ids.new ≡ ids_after (id_place_of self.now) ids.old row.now) }
+    fn add_id(&self, alloc: Global, ids: &mut RowIds, row: &ByteRecord) -> Result<(), AllocError>
+        requires texts { IsTextRecord (fields_of row.now) }
+        requires new { IsNewId (id_place_of self.now) ids.old (fields_of row.now) }
+        ensures added { OnOk result (ids.new ≡ ids_after (id_place_of self.now) ids.old (fields_of row.now)) }
         ensures same { OnErr result (ids.new ≡ ids.old) }
     {
         if let Some(place) = self.header.id_place() {
@@ -74,18 +75,18 @@ impl Decoder<'_> {
         alloc: Global,
         number: u32,
         ids: &mut RowIds,
-        row: &Fields<'_>,
+        row: &ByteRecord,
     ) -> Result<Items<Fact>, TableFault>
-        ensures facts { OrNoMemory (self.now).table result (row_result self.now number ids.old row.now) }
-        ensures own { IfSome (row_fault self.now number ids.old row.now) (λ fault. result ≡ Err fault) }
-        ensures ids { OnOk result (ids.new ≡ ids_after (id_place_of self.now) ids.old row.now) }
+        ensures facts { OrNoMemory (self.now).table result (row_result self.now number ids.old (fields_of row.now)) }
+        ensures own { IfSome (row_fault self.now number ids.old (fields_of row.now)) (λ fault. result ≡ Err fault) }
+        ensures ids { OnOk result (ids.new ≡ ids_after (id_place_of self.now) ids.old (fields_of row.now)) }
         ensures same { OnErr result (ids.new ≡ ids.old) }
         ensures within { OnOk result (number ≤ (self.now).limit) }
     {
-        if let Some(fault) = self.header.fault_of_row(number, ids, row) {
+        if let Some(fault) = self.header.fault_of_cells(number, ids, row) {
             return Err(fault);
         }
-        match self.plan.facts(alloc, &self.header, number, row) {
+        match self.plan.facts_of_cells(alloc, &self.header, number, row) {
             Ok(facts) => {
                 if self.add_id(alloc, ids, row).is_err() {
                     return Err(whole_fault(self.table(), TableKind::Memory));

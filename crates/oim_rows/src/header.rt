@@ -7,10 +7,11 @@ ghost use Rattle.oim_rows.specs.Header.{named_column, file_fault, file_header_fa
 ghost use Rattle.oim_rows.specs.state.Streams.{columns_fault, early_header_fault};
 ghost use Rattle.oim_rows.specs.Streams.{IsOutside, TakesHeader};
 
-use crate::cells::field;
+use crate::cells::{Cells, field};
 use crate::fault::{TableFault, TableKind, fault_at_place, fault_of_read, whole_fault};
 use crate::header_columns::{HeaderColumns, NoIndex};
-use oim_records::{Fields, ReadFault, RecordReader};
+use csv::ByteRecord;
+use oim_records::{ReadFault, RecordReader, Records};
 use oim_report::Report;
 use std::alloc::{AllocError, Global};
 use std::io::Read;
@@ -43,11 +44,11 @@ fn is_unknown_cell(report: &Report, table: usize, cell: &[u8]) -> bool
 }
 
 /// Returns the index of the first header cell that is not empty and does not name a column.
-fn first_unknown(report: &Report, table: usize, row: &Fields<'_>) -> Option<usize>
+fn first_unknown<C: Cells>(report: &Report, table: usize, row: &C) -> Option<usize>
     requires { table < length report.now.tables }
-    ensures { result ≡ position_from (is_unknown (columns_in report.now table)) 0 row.now }
+    ensures { result ≡ position_from (is_unknown (columns_in report.now table)) 0 (C.cells row.now) }
 {
-    for i in 0..row.len() {
+    for i in 0..row.count() {
         if is_unknown_cell(report, table, field(row, i)) {
             return Some(i);
         }
@@ -56,17 +57,17 @@ fn first_unknown(report: &Report, table: usize, row: &Fields<'_>) -> Option<usiz
 }
 
 /// Returns the column of each header cell.
-fn columns_of(
+fn columns_of<C: Cells>(
     alloc: Global,
     report: &Report,
     table: usize,
-    row: &Fields<'_>,
+    row: &C,
 ) -> Result<Vec<Option<usize>>, AllocError>
     requires { table < length report.now.tables }
-    ensures { IfOk result (λ h. h.items ≡ header_of (columns_in report.now table) row.now) }
+    ensures { IfOk result (λ h. h.items ≡ header_of (columns_in report.now table) (C.cells row.now)) }
 {
     let mut header = Vec::new(alloc);
-    for i in 0..row.len() {
+    for i in 0..row.count() {
         header.push(column_of_cell(report, table, field(row, i)))?;
     }
     Ok(header)
@@ -114,19 +115,19 @@ fn checked_columns(
 /// record.
 ///
 /// Memory is taken only once each cell is empty or names a column.
-fn take_header(
+fn take_header<C: Cells>(
     alloc: Global,
     report: &Report,
     table: usize,
     found: Result<bool, ReadFault>,
-    row: &Fields<'_>,
+    row: &C,
 ) -> Result<HeaderColumns, TableFault>
     requires { table < length report.now.tables }
-    ensures early { IfSome (early_header_fault report.now table found row.now) (λ e. result ≡ Err e) }
+    ensures early { IfSome (early_header_fault report.now table found (C.cells row.now)) (λ e. result ≡ Err e) }
     ensures read { OnOk result (found ≡ Ok true) }
-    ensures sound { OnOk result (header_fault report.now table row.now ≡ None) }
-    ensures header { IfOk result (λ h. h ≡ header_of (columns_in report.now table) row.now) }
-    ensures fault { found ≡ Ok true → IfErr result (λ e. (e ≡ file_fault table TableKind.Memory) ⊎ (header_fault report.now table row.now ≡ Some e)) }
+    ensures sound { OnOk result (header_fault report.now table (C.cells row.now) ≡ None) }
+    ensures header { IfOk result (λ h. h ≡ header_of (columns_in report.now table) (C.cells row.now)) }
+    ensures fault { found ≡ Ok true → IfErr result (λ e. (e ≡ file_fault table TableKind.Memory) ⊎ (header_fault report.now table (C.cells row.now) ≡ Some e)) }
 {
     match found {
         Ok(true) => {}
@@ -142,7 +143,8 @@ fn take_header(
     checked_columns(alloc, report, table, columns)
 }
 
-/// Reads the first record and returns the columns of a table's header.
+/// Reads the first record and returns the columns of a table's header. The `csv` crate reads the
+/// header again from the file's bytes.
 pub(crate) fn read_header<R: Read + Drop>(
     alloc: Global,
     report: &Report,
@@ -154,5 +156,28 @@ pub(crate) fn read_header<R: Read + Drop>(
     ensures fault { IfErr result (λ e. IsOutside table e ⊎ IfSome records.old.left (λ rs. file_header_fault report.now table rs ≡ Some e)) }
 {
     let found = records.read();
-    take_header(alloc, report, table, found, &records.fields())
+    let Ok(true) = found else {
+        return take_header(alloc, report, table, found, &records.fields());
+    };
+    match records.fields().read_by_csv(alloc) {
+        Ok(row) => take_header(alloc, report, table, found, &row),
+        Err(_) => Err(whole_fault(table, TableKind::Memory)),
+    }
+}
+
+/// Returns what `read_header` returns, for records that the `csv` crate reads. `row` takes the
+/// header's.
+pub(crate) fn read_csv_header<R: Read>(
+    alloc: Global,
+    report: &Report,
+    table: usize,
+    records: &mut Records<R>,
+    row: &mut ByteRecord,
+) -> Result<HeaderColumns, TableFault>
+    requires { table < length report.now.tables }
+    ensures header { IfOk result (λ h. TakesHeader report.now table records.old h records.new) }
+    ensures fault { IfErr result (λ e. IsOutside table e ⊎ IfSome records.old (λ rs. file_header_fault report.now table rs ≡ Some e)) }
+{
+    let found = records.read(row);
+    take_header(alloc, report, table, found, row)
 }

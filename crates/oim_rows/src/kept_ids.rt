@@ -126,6 +126,14 @@ impl KeptIds {
         }
     }
 
+    /// Returns whether there are no identifiers.
+    #[inline(always)]
+    pub(crate) fn is_empty(&self) -> bool
+        ensures { result ≡ true → (id : List ℕ) → is_kept (self.now).hashed.keys (self.now).ordered id ≡ false }
+    {
+        self.hashed.is_empty() && self.ordered.is_empty()
+    }
+
     /// Returns whether a text is one of the identifiers.
     pub(crate) fn has(&self, id: &str) -> bool
         ensures { result ≡ is_kept (self.now).hashed.keys (self.now).ordered id.now }
@@ -150,8 +158,7 @@ impl KeptIds {
         if is_ordered(&self.ordered, id.as_str()) {
             return Ok(false);
         }
-        self.counts.make_room(&mut self.hashed);
-        if !self.counts.is_full(&id) {
+        if self.counts.make_room(&mut self.hashed, &id) {
             return insert_hashed(&mut self.hashed, id);
         }
         if self.hashed.contains(&id) {

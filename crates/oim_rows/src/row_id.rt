@@ -73,11 +73,23 @@ impl RowId {
     pub fn new(alloc: Global, text: &str) -> Result<RowId, AllocError>
         ensures { IfOk result (λ id. id ≡ text.now) }
     {
-        let kept = match ShortText::of(text) {
-            Some(short) => Kept::Short(short),
-            None => Kept::Long(String::from_str(alloc, text)?),
-        };
-        Ok(RowId { kept })
+        match ShortText::of(text) {
+            Some(short) => Ok(RowId {
+                kept: Kept::Short(short),
+            }),
+            None => RowId::long(alloc, text),
+        }
+    }
+
+    /// Copies a text of any length to the heap.
+    #[cold]
+    #[inline(never)]
+    fn long(alloc: Global, text: &str) -> Result<RowId, AllocError>
+        ensures { IfOk result (λ id. id ≡ text.now) }
+    {
+        Ok(RowId {
+            kept: Kept::Long(String::from_str(alloc, text)?),
+        })
     }
 
     /// Returns the text.

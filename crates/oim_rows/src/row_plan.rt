@@ -9,7 +9,7 @@ ghost use Rattle.oim_rows.specs.state.RowFacts.{early_fact_at};
 ghost use Rattle.oim_rows.specs.RowFacts.{id_place_of, is_fact_column, row_id_text, row_of, source_of_column};
 ghost use Rattle.oim_rows.specs.Streams.{OrNoMemory};
 
-use crate::cells::text_at;
+use crate::cells::{Cells, text_at};
 use crate::fault::{TableFault, TableKind, fault_at_place, whole_fault};
 use crate::table_header::{TableHeader, push_row_number};
 use oim_names::{Items, Text};
@@ -56,13 +56,13 @@ fn sources_of(
 }
 
 /// Returns the cells at these indexes of the header.
-fn cells_of(
+fn cells_of<C: Cells>(
     alloc: Global,
     sources: &[Option<usize>],
-    row: &Fields<'_>,
+    row: &C,
 ) -> Result<Items<Text>, AllocError>
-    requires { IsTextRecord row.now }
-    ensures { IfOk result (λ cells. cells ≡ map (field_or_empty row.now) sources.now) }
+    requires { IsTextRecord (C.cells row.now) }
+    ensures { IfOk result (λ cells. cells ≡ map (field_or_empty (C.cells row.now)) sources.now) }
 {
     let mut cells = Items::from_vec(Vec::with_capacity(alloc, sources.len())?);
     for source in sources {
@@ -82,14 +82,14 @@ fn is_fact(columns: &[Column], column: usize) -> bool
 }
 
 /// Returns the identifier of row `number`.
-fn id_text(
+fn id_text<C: Cells>(
     alloc: Global,
     header: &TableHeader<'_>,
     number: u32,
-    row: &Fields<'_>,
+    row: &C,
 ) -> Result<String, AllocError>
-    requires { IsTextRecord row.now }
-    ensures { IfOk result (λ id. string_bytes id ≡ row_id_text (id_place_of header.now) number row.now) }
+    requires { IsTextRecord (C.cells row.now) }
+    ensures { IfOk result (λ id. string_bytes id ≡ row_id_text (id_place_of header.now) number (C.cells row.now)) }
 {
     match header.id_place() {
         Some(place) => String::from_str(alloc, text_at(row, Some(place))),
@@ -118,16 +118,16 @@ impl<'a> RowPlan<'a> {
 
 impl RowPlan<'_> {
     /// Copies a record into a row, with a cell for each column of the template.
-    fn row(
+    fn row<C: Cells>(
         &self,
         alloc: Global,
         header: &TableHeader<'_>,
         number: u32,
-        row: &Fields<'_>,
+        row: &C,
     ) -> Result<Row, AllocError>
         requires header { header.now ≡ self.now }
-        requires texts { IsTextRecord row.now }
-        ensures { IfOk result (λ r. r ≡ row_of self.now number row.now) }
+        requires texts { IsTextRecord (C.cells row.now) }
+        ensures { IfOk result (λ r. r ≡ row_of self.now number (C.cells row.now)) }
     {
         let id = id_text(alloc, header, number, row)?;
         let cells = cells_of(alloc, self.sources.as_slice(), row)?;
@@ -214,7 +214,8 @@ impl RowPlan<'_> {
         Ok(())
     }
 
-    /// Tests the cells of row `number` as `facts` does, and keeps no fact.
+    /// Tests the cells of row `number` as `facts` does, and keeps no fact. The `csv` crate reads
+    /// the row again from the file's bytes.
     ///
     /// Returns the fault of the first cell that has one, or Memory if memory runs out.
     pub fn check(
@@ -229,14 +230,18 @@ impl RowPlan<'_> {
         ensures good { OnOk result (IsOk (facts_from (self.now).report (self.now).table (row_of self.now number row.now) 0 (self.now).columns)) }
         ensures fault { IfErr result (λ e. OrNoMemory (self.now).table (Err e) (facts_from (self.now).report (self.now).table (row_of self.now number row.now) 0 (self.now).columns)) }
     {
-        let Ok(cells) = self.row(alloc, header, number, row) else {
+        let Ok(record) = row.read_by_csv(alloc) else {
+            return Err(whole_fault(header.table(), TableKind::Memory));
+        };
+        let Ok(cells) = self.row(alloc, header, number, &record) else {
             return Err(whole_fault(header.table(), TableKind::Memory));
         };
         self.check_cells(alloc, header, &cells)
     }
 
     /// Returns the facts of the cells of row `number`, in header order. It does not look for faults
-    /// of the row itself, so not for those of its identifier either.
+    /// of the row itself, so not for those of its identifier either. The `csv` crate reads the row
+    /// again from the file's bytes.
     ///
     /// Returns the fault of the first cell that has one, or Memory if memory runs out.
     pub fn facts(
@@ -249,6 +254,24 @@ impl RowPlan<'_> {
         requires header { header.now ≡ self.now }
         requires texts { IsTextRecord row.now }
         ensures { OrNoMemory (self.now).table result (facts_from (self.now).report (self.now).table (row_of self.now number row.now) 0 (self.now).columns) }
+    {
+        match row.read_by_csv(alloc) {
+            Ok(record) => self.facts_of_cells(alloc, header, number, &record),
+            Err(_) => Err(whole_fault(header.table(), TableKind::Memory)),
+        }
+    }
+
+    /// Returns what `facts` returns, for a row of any kind.
+    pub(crate) fn facts_of_cells<C: Cells>(
+        &self,
+        alloc: Global,
+        header: &TableHeader<'_>,
+        number: u32,
+        row: &C,
+    ) -> Result<Items<Fact>, TableFault>
+        requires header { header.now ≡ self.now }
+        requires texts { IsTextRecord (C.cells row.now) }
+        ensures { OrNoMemory (self.now).table result (facts_from (self.now).report (self.now).table (row_of self.now number (C.cells row.now)) 0 (self.now).columns) }
     {
         let Ok(cells) = self.row(alloc, header, number, row) else {
             return Err(whole_fault(header.table(), TableKind::Memory));

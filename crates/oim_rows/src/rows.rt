@@ -1,6 +1,7 @@
 //! The rows of one table, one at a time.
 
 ghost use Rattle.std.specs.Prelude.{◌≡◌, ◌⊎◌, ◌≤◌, ◌<◌, ◌+◌, ◌∷◌, [], IfOk, IfErr, IfSome, OnErr, OnSome, None, Some, Ok, true, option_map, length};
+ghost use Rattle.csv.specs.Records.{fields_of};
 ghost use Rattle.oim_records.specs.Grids.{grid};
 ghost use Rattle.oim_rows.specs.Header.{file_header_fault};
 ghost use Rattle.oim_rows.specs.RowFacts.{id_place_of, ids_after, row_result};
@@ -12,8 +13,9 @@ use crate::decoder::Decoder;
 use crate::fault::{TableFault, TableKind, fault_of_read, whole_fault};
 use crate::ids::RowIds;
 use crate::table_header::TableHeader;
+use csv::ByteRecord;
 use oim_names::Items;
-use oim_records::{Fields, ReadFault, RecordReader};
+use oim_records::{ReadFault, Records};
 use oim_report::{Limits, Report};
 use oim_resolve::Fact;
 use std::alloc::Global;
@@ -33,7 +35,9 @@ pub type RowFacts = Items<Fact>;
 pub struct Rows<'a, R: Read + Drop> {
     alloc: Global,
     decoder: Decoder<'a>,
-    records: RecordReader<R>,
+    records: Records<R>,
+    // the record that was read last
+    row: ByteRecord,
     ids: RowIds,
     given: u32,
     // the end or the fault that was found
@@ -53,8 +57,8 @@ impl<'a, R: Read + Drop> Model for Rows<'a, R> {
       limit = a.decoder.limit;
       given = a.given;
       answered = a.settled;
-      left = left_of a.settled a.decoder (a.given + 1) a.ids a.records.left;
-      unread = a.records.left;
+      left = left_of a.settled a.decoder (a.given + 1) a.ids a.records;
+      unread = a.records;
     } };
 
     ghost invariant = { λ a. (a.given ≤ a.decoder.limit) × (a.decoder.limit < 2 ^ 32 - 1) };
@@ -65,13 +69,13 @@ fn take_row(
     alloc: Global,
     decoder: &Decoder,
     found: Result<bool, ReadFault>,
-    row: &Fields<'_>,
+    row: &ByteRecord,
     ids: &mut RowIds,
     number: u32,
 ) -> Result<Option<RowFacts>, TableFault>
-    ensures early { IfSome (early_row_answer decoder.now number ids.old found row.now) (λ answer. result ≡ answer) }
-    ensures row { found ≡ Ok true → OrNoMemory (decoder.now).table result (row_answer (row_result decoder.now number ids.old row.now)) }
-    ensures ids { IfOk result (λ o. OnSome o (ids.new ≡ ids_after (id_place_of decoder.now) ids.old row.now)) }
+    ensures early { IfSome (early_row_answer decoder.now number ids.old found (fields_of row.now)) (λ answer. result ≡ answer) }
+    ensures row { found ≡ Ok true → OrNoMemory (decoder.now).table result (row_answer (row_result decoder.now number ids.old (fields_of row.now))) }
+    ensures ids { IfOk result (λ o. OnSome o (ids.new ≡ ids_after (id_place_of decoder.now) ids.old (fields_of row.now))) }
     ensures same { OnErr result (ids.new ≡ ids.old) }
     ensures within { IfOk result (λ o. OnSome o (number ≤ (decoder.now).limit)) }
 {
@@ -86,19 +90,20 @@ fn take_row(
 }
 
 /// Reads row `number`, if it exists, and returns its facts.
-fn read_row<R: Read + Drop>(
+fn read_row<R: Read>(
     alloc: Global,
     decoder: &Decoder,
-    records: &mut RecordReader<R>,
+    records: &mut Records<R>,
+    row: &mut ByteRecord,
     ids: &mut RowIds,
     number: u32,
 ) -> Result<Option<RowFacts>, TableFault>
-    ensures next { IfSome records.old.left (λ rs. GivesRow decoder.now number ids.old ids.new rs result records.new.left) }
+    ensures next { IfSome records.old (λ rs. GivesRow decoder.now number ids.old ids.new rs result records.new) }
     ensures same { OnErr result (ids.new ≡ ids.old) }
     ensures within { IfOk result (λ o. OnSome o (number ≤ (decoder.now).limit)) }
 {
-    let found = records.read();
-    take_row(alloc, decoder, found, &records.fields(), ids, number)
+    let found = records.read(row);
+    take_row(alloc, decoder, found, row, ids, number)
 }
 
 impl<'a, R: Read + Drop> Rows<'a, R> {
@@ -131,11 +136,17 @@ impl<'a, R: Read + Drop> Rows<'a, R> {
         ensures fault { IfSome (R.remaining reader) (λ bytes. IfErr result (λ e. IsOutside table e
             ⊎ (file_header_fault report.now table (grid bytes) ≡ Some e))) }
     {
-        let mut records = match RecordReader::open(alloc, reader) {
-            Ok(records) => records,
-            Err(fault) => return Err(fault_of_read(table, fault)),
-        };
-        let header = match TableHeader::read(alloc, report, table, limits.rows, &mut records) {
+        let mut records = Records::new(alloc, reader);
+        let mut row = ByteRecord::new(alloc);
+        let limit = limits.rows;
+        let header = match TableHeader::read_csv(
+            alloc,
+            report,
+            table,
+            limit,
+            &mut records,
+            &mut row,
+        ) {
             Ok(header) => header,
             Err(fault) => return Err(fault),
         };
@@ -146,6 +157,7 @@ impl<'a, R: Read + Drop> Rows<'a, R> {
             alloc,
             decoder,
             records,
+            row,
             ids: RowIds::new(alloc),
             given: 0,
             settled: None,
@@ -177,6 +189,7 @@ impl<'a, R: Read + Drop> Rows<'a, R> {
             self.alloc,
             &self.decoder,
             &mut self.records,
+            &mut self.row,
             &mut self.ids,
             number,
         ) {

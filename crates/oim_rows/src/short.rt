@@ -8,7 +8,11 @@ use std::str;
 /// The most bytes of a short text.
 const MOST: usize = 30;
 
-/// A text of up to 30 bytes, in 31. A contract sees its bytes.
+/// A text of up to 30 bytes, in 31.
+///
+/// Without it, as a `String`: `mixed` +8.5 %, `ids` +7.5 %, `texts` +4.2 %.
+///
+/// A contract sees its bytes.
 #[derive(Drop)]
 pub(crate) struct ShortText {
     bytes: [u8; 30],

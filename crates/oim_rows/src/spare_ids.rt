@@ -10,7 +10,7 @@ use std::marker::Model;
 /// The fewest groups of a table that is kept.
 const FEWEST: usize = 512;
 
-/// The most groups of a table that is kept. With its identifiers, at most about 115,000, it takes
+/// The most groups of a table that is kept. With its identifiers, at most about 131,000, it takes
 /// about 6 MB.
 const MOST: usize = 16_384;
 

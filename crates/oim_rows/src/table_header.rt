@@ -6,13 +6,14 @@ ghost use Rattle.oim_rows.specs.Header.{file_header_fault};
 ghost use Rattle.oim_rows.specs.RowFacts.{id_place_of, row_fault, row_id_place, source_of_column};
 ghost use Rattle.oim_rows.specs.Streams.{IsOutside, TakesHeader};
 
-use crate::cells::{count_of_texts, known_text_at, text_at};
+use crate::cells::{Cells, count_of_texts, first_not_text, known_text_at, text_at};
 use crate::fault::{TableFault, TableKind, fault_at_place, fault_of_whole_row};
-use crate::header::read_header;
+use crate::header::{read_csv_header, read_header};
 use crate::header_columns::HeaderColumns;
 use crate::ids::RowIds;
+use csv::ByteRecord;
 use itoa::Buffer;
-use oim_records::{Fields, RecordReader, TextFields};
+use oim_records::{Fields, RecordReader, Records, TextFields};
 use oim_report::Report;
 use std::alloc::{AllocError, Global};
 use std::io::Read;
@@ -74,18 +75,51 @@ impl<'a> TableHeader<'a> {
         ensures header { IfOk result (λ f. TakesHeader report.now table records.old.left f.columns records.new.left) }
         ensures fault { IfErr result (λ e. IsOutside table e ⊎ IfSome records.old.left (λ rs. file_header_fault report.now table rs ≡ Some e)) }
     {
-        let columns = match read_header(alloc, report, table, records) {
-            Ok(columns) => columns,
-            Err(fault) => return Err(fault),
-        };
+        match read_header(alloc, report, table, records) {
+            Ok(columns) => Ok(TableHeader::of_columns(report, table, limit, columns)),
+            Err(fault) => Err(fault),
+        }
+    }
+
+    /// Reads the header as `read` does, for records that the `csv` crate reads. `row` takes the
+    /// header's.
+    pub(crate) fn read_csv<R: Read>(
+        alloc: Global,
+        report: &'a Report,
+        table: usize,
+        limit: u32,
+        records: &mut Records<R>,
+        row: &mut ByteRecord,
+    ) -> Result<TableHeader<'a>, TableFault>
+        requires { table < length report.now.tables }
+        ensures value { IfOk result (λ f. f ≡ record { report = report.now; table = table; limit = limit; columns = f.columns }) }
+        ensures header { IfOk result (λ f. TakesHeader report.now table records.old f.columns records.new) }
+        ensures fault { IfErr result (λ e. IsOutside table e ⊎ IfSome records.old (λ rs. file_header_fault report.now table rs ≡ Some e)) }
+    {
+        match read_csv_header(alloc, report, table, records, row) {
+            Ok(columns) => Ok(TableHeader::of_columns(report, table, limit, columns)),
+            Err(fault) => Err(fault),
+        }
+    }
+
+    /// Makes the header of a table with these columns.
+    fn of_columns(
+        report: &'a Report,
+        table: usize,
+        limit: u32,
+        columns: HeaderColumns,
+    ) -> TableHeader<'a>
+        requires { table < length report.now.tables }
+        ensures { result ≡ record { report = report.now; table = table; limit = limit; columns = columns } }
+    {
         let id_place = place_of_id(&columns, report.row_id_column(table));
-        Ok(TableHeader {
+        TableHeader {
             report,
             table,
             limit,
             columns,
             id_place,
-        })
+        }
     }
 }
 
@@ -134,10 +168,22 @@ impl<'a> TableHeader<'a> {
     pub fn fault_of_row(&self, number: u32, ids: &RowIds, row: &Fields<'_>) -> Option<TableFault>
         ensures { result ≡ row_fault self.now number ids.now row.now }
     {
-        if row.len() != self.columns().len() {
+        self.fault_of_cells(number, ids, row)
+    }
+
+    /// Returns what `fault_of_row` returns, for a row of any kind.
+    pub(crate) fn fault_of_cells<C: Cells>(
+        &self,
+        number: u32,
+        ids: &RowIds,
+        row: &C,
+    ) -> Option<TableFault>
+        ensures { result ≡ row_fault self.now number ids.now (C.cells row.now) }
+    {
+        if row.count() != self.columns().len() {
             return Some(fault_of_whole_row(self.table, number, TableKind::Ragged));
         }
-        if let Some(place) = row.first_not_text() {
+        if let Some(place) = first_not_text(row) {
             return Some(fault_at_place(self.table, number, place, TableKind::NotUtf8));
         }
         if number > self.limit {

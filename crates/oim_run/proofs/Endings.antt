@@ -1,23 +1,21 @@
 -- The end of a run, from the end of its conversion.
-use Rattle.std.specs.Prelude.{◌≡◌, ◌⊎◌, Bool, true, false, if◌then◌else◌, ℕ, suc, List, [], ◌∷◌, ◌++◌, map, take, ◌+◌, ◌<◌, Option, Some, None, IfOk, IfSome, Result, Ok, Err, length, slice_index_or}
+use Rattle.std.specs.Prelude.{◌≡◌, ◌⊎◌, Bool, true, false, if◌then◌else◌, ℕ, suc, List, [], ◌∷◌, ◌++◌, map, take, ◌+◌, ◌<◌, Option, Some, None, IfSome, Ok, Err, length, slice_index_or}
 use Rattle.std.proofs.Common.{refl, sym, ap, subst, ◌∙◌, inl, inr}
 use Rattle.std.proofs.lemmas.List.{length-append, map_more}
 use Rattle.std.specs.Io.KnownBytes.{Appends, Keeps}
-use Rattle.oim_convert.specs.Answer.{IsAnswer, streams}
+use Rattle.oim_convert.specs.Answer.{streams}
 use Rattle.oim_convert.specs.Files.{AreFilesOf}
 use Rattle.oim_records.specs.Reads.{IsFileOf}
-use Rattle.oim_convert.specs.Runs.{AnswersFault, AreHistories, AreStreams, AreUncut, Writes, early_fault}
+use Rattle.oim_convert.specs.Runs.{early_fault}
 use Rattle.oim_convert.specs.declared.fault.ConvertFault.{ConvertFault}
 use Rattle.oim_convert.specs.declared.fault.ConvertFault.TheVariants as fault
-use Rattle.oim_convert.specs.declared.run.Run.{Run}
 use Rattle.oim_json.specs.Sinks.{SinkView, Unwritten}
 use Rattle.oim_json.specs.declared.layout.Layout.{Layout}
 use Rattle.oim_report.specs.Readers.{no_table}
 use Rattle.oim_report.specs.ReportValue.{ReportValue}
 use Rattle.oim_report.specs.declared.data.Table.{Table}
-use Rattle.oim_entries.specs.declared.fault.MetaFault.{MetaFault}
 use Rattle.oim_rows.specs.Streams.{Stream}
-use Rattle.oim_run.proofs.Threads.{answered, in_range, left, never_lost}
+use Rattle.oim_run.proofs.Answered.{as_one, in_range}
 use Rattle.oim_run.proofs.Waiting.{appends_then, keeps_same, took_all, took_some}
 use Rattle.oim_json.specs.declared.mark.Mark.TheVariants as «marks»
 use Rattle.oim_files.specs.Metadata.{profile}
@@ -25,7 +23,6 @@ use Rattle.oim_run.specs.Buffers.{Buffered, flushed}
 use Rattle.oim_run.specs.state.Buffers.{told_behind}
 use Rattle.std.specs.Borrow.{Bor}
 use Rattle.oim_files.specs.Folders.{Files, IsFolderOf, first_at}
-use Rattle.oim_run.specs.state.Naming.{outcome_by, table_ids}
 use Rattle.oim_run.specs.Outcomes.{EndsAs, Leaves}
 use Rattle.oim_run.specs.Runs.{Converted, EndsOver, files_of, range_fault, table_file, table_files}
 use Rattle.oim_files.specs.Steps.{GivesReport, steps}
@@ -34,8 +31,6 @@ use Rattle.oim_files.specs.declared.early_fault.EarlyFault.TheVariants as early
 use Rattle.oim_run.specs.Early.{EndsAt, no_memory, outcome_of}
 use Rattle.oim_run.specs.declared.outcome.Outcome.{Outcome}
 use Rattle.oim_run.specs.declared.outcome.Outcome.TheVariants as outcome
-use Rattle.oim_files.specs.declared.early_fault.Source.{Source}
-use Rattle.oim_files.specs.declared.early_fault.Source.TheVariants as source
 
 -- There are as many files as readers.
 pub as_many : {R : Type 0} (told : R → Option (List ℕ)) (rs : List (Option R)) (fs : List (Option (List ℕ))) → AreFilesOf told rs fs → length rs ≡ length fs
@@ -48,21 +43,6 @@ as_many told (r ∷ rs) (f ∷ fs) are = ap suc (as_many told rs fs are.1)
 pub no_memory_ends : (workers : ℕ) (layout : Layout) (early : Option ConvertFault) (report : ReportValue) (ss : List Stream) (sink : SinkView) → EndsAs workers layout early report ss sink sink (outcome.Run fault.Memory)
 no_memory_ends workers layout None report ss sink = (refl, keeps_same sink.told)
 no_memory_ends workers layout (Some f) report ss sink = (inr refl, (refl, keeps_same sink.told))
-
-pub converted : (layout : Layout) (workers ring readers limit : ℕ) (report : ReportValue) (files : List (Option (List ℕ))) (old new : SinkView)
-    (r : Result Run ConvertFault) (names : List (List ℕ)) (o : Outcome)
-    → names ≡ table_ids report → o ≡ outcome_by names r → readers ≡ length files
-    → IfOk r (λ run. AreHistories (streams report limit files) run.drains.items)
-    → IfOk r (λ run. AreUncut run.drains.items → AreStreams (streams report limit files) run.drains.items × IsAnswer layout report (streams report limit files) old new run.faults.items run.end)
-    → (early_fault workers ring readers (length report.tables) ≡ None → 1 < workers)
-    → AnswersFault (early_fault workers ring readers (length report.tables)) r
-    → Writes layout report (length report.tables) old new r
-    → EndsAs workers layout (early_fault workers ring (length files) (length report.tables)) report (streams report limit files) old new o
-converted layout workers ring readers limit report files old new r names o named is many histories headline several faults writes =
-    subst (λ n. EndsAs workers layout (early_fault workers ring n (length report.tables)) report (streams report limit files) old new o) many
-    (subst (EndsAs workers layout (early_fault workers ring readers (length report.tables)) report (streams report limit files) old new) (sym is)
-    (answered workers layout report limit files old new names named (early_fault workers ring readers (length report.tables)) r
-    (never_lost workers ring readers (length report.tables)) several histories headline faults writes))
 
 -- A report whose tables each have a file or none.
 run_ends : (layout : Layout) (workers ring : ℕ) (report : ReportValue) (files : List (Option (List ℕ))) (old new : SinkView) (o : Outcome) → length files ≡ length report.tables
@@ -181,8 +161,7 @@ over_ends files base meta types workers ring layout old new o one range (inr is)
       report = is.report;
       passed = is.passed;
       given = is.given;
-      ends = subst (λ w. EndsAs w layout (range_fault workers ring) is.report found old new o) (sym one)
-          (subst (λ (e : Option ConvertFault). EndsAs 1 layout e is.report found old new o) (sym range) is.ends);
+      ends = as_one (λ w early. EndsAs w layout early is.report found old new o) workers (range_fault workers ring) None one range is.ends;
     })
 
 pub alone_over : (known : Option Files) (meta types : List ℕ) (workers ring : ℕ) (layout : Layout) (old new : SinkView) (o : Outcome) → workers ≡ 1 → range_fault workers ring ≡ None
@@ -192,22 +171,7 @@ alone_over None meta types workers ring layout old new o one range ends = tt
 alone_over (Some files) meta types workers ring layout old new o one range ends =
     record { base = ends.base; folder = ends.folder; ends = over_ends files ends.base meta types workers ring layout old new o one range ends.ends }
 
-pub alone_left : (workers ring : ℕ) (old new : SinkView) (o : Outcome) → workers ≡ 1 → range_fault workers ring ≡ None
-    → Leaves 1 None old new o → Leaves workers (range_fault workers ring) old new o
-alone_left workers ring old new o one range left =
-    subst (λ w. Leaves w (range_fault workers ring) old new o) (sym one)
-    (subst (λ (e : Option ConvertFault). Leaves 1 e old new o) (sym range) left)
-
 -- What every outcome leaves in the sink.
-pub converted_leaves : (layout : Layout) (workers ring readers : ℕ) (report : ReportValue) (old new : SinkView) (r : Result Run ConvertFault) (names : List (List ℕ)) (o : Outcome)
-    → o ≡ outcome_by names r → (early_fault workers ring readers (length report.tables) ≡ None → 1 < workers)
-    → AnswersFault (early_fault workers ring readers (length report.tables)) r
-    → Writes layout report (length report.tables) old new r
-    → Leaves workers (early_fault workers ring readers (length report.tables)) old new o
-converted_leaves layout workers ring readers report old new r names o is several faults writes =
-    let early = early_fault workers ring readers (length report.tables) in
-    subst (Leaves workers early old new) (sym is) (left workers layout report (length report.tables) old new names early r (never_lost workers ring readers (length report.tables)) several faults writes)
-
 pub short_leaves : (workers : ℕ) (range : Option ConvertFault) (sink : SinkView) (o : Outcome) → o ≡ no_memory → Leaves workers range sink sink o
 short_leaves workers range sink o none = subst (Leaves workers range sink sink) (sym none) (inl (refl, (refl, keeps_same sink.told)))
 

@@ -8,7 +8,7 @@ use Rattle.clap.proofs.OnLiterals.{clap_on_literals}
 use Rattle.clap.specs.Words.{Row, Text, fault_of, first_of, matches_of, one_of}
 use Rattle.clap.specs.declared.error.kind.ErrorKind.TheVariants as kind
 use Rattle.oim_convert.specs.Histories.{AreDecoded}
-use Rattle.oim_convert.specs.Runs.{IsFromOutside}
+use Rattle.oim_convert.specs.Runs.{IsFromOutside, early_fault}
 use Rattle.oim_convert.specs.declared.fault.ConvertFault.TheVariants as fault
 use Rattle.oim_json.specs.JsonText.{head_text}
 use Rattle.oim_json.specs.Sinks.{SinkView}
@@ -22,7 +22,8 @@ use Rattle.oim_report.specs.declared.data.Table.{Table}
 use Rattle.oim_entries.specs.declared.fault.MetaFault.{MetaFault}
 use Rattle.oim_entries.specs.declared.fault.MetaFault.TheVariants as refused
 use Rattle.oim_meta.specs.Findings.{finding}
-use Rattle.oim_meta.specs.declared.findings.Finding.{Finding}
+use Rattle.oim_files.specs.FileFaults.{of_metadata}
+use Rattle.oim_files.specs.declared.early_fault.FileFault.{FileFault}
 use Rattle.oim_resolve.specs.declared.fact.CellFault.TheVariants as cell
 use Rattle.oim_ring.specs.declared.item.Ending.TheVariants.{Refused}
 use Rattle.oim_ring.specs.declared.item.Item.{Item}
@@ -35,7 +36,6 @@ use Rattle.oim_run.specs.CommandLine.{AreLayouts, Words, are_explained, command_
 use Rattle.oim_run.specs.Buffers.{flushed}
 use Rattle.oim_files.specs.Folders.{Files}
 use Rattle.oim_run.specs.Lines.{line_of, status_of, terminal_line_of, unprinted_status, words_status}
-use Rattle.oim_run.specs.state.Courses.{reader_fault}
 use Rattle.oim_run.specs.state.Naming.{outcome_at, table_ids}
 use Rattle.oim_run.specs.Outcomes.{AreDefined, AreHistoriesWith, Breaks, Leaves, WritesStreams, refused_tables}
 use Rattle.oim_run.specs.Runs.{range_fault, table_files}
@@ -243,8 +243,8 @@ another_word = refl
 -- The files.
 
 -- A fault at a place, which no line names.
-abbrev at_tables : MetaFault → Finding
-at_tables f = finding f (codes "tables" ∷ [])
+abbrev at_tables : MetaFault → FileFault
+at_tables f = of_metadata (finding f (codes "tables" ∷ []))
 
 early_outcomes : map outcome_of (early.Report source.Report (at_tables refused.TooLarge) ∷ early.CannotRead (codes "x.csv") ∷ early.Memory ∷ [])
     ≡ outcome.Report source.Report (at_tables refused.TooLarge) ∷ outcome.CannotRead (codes "x.csv") ∷ outcome.Run fault.Memory ∷ []
@@ -295,10 +295,10 @@ ring_past_the_largest = refl
 
 -- Settings in range.
 
-as_many_readers_as_tables : reader_fault 2 2 ≡ None
+as_many_readers_as_tables : early_fault 1 1 2 2 ≡ None
 as_many_readers_as_tables = refl
 
-too_few_readers : reader_fault 1 2 ≡ Some fault.WrongReaders
+too_few_readers : early_fault 1 1 1 2 ≡ Some fault.WrongReaders
 too_few_readers = refl
 
 -- Outcomes.

@@ -1,6 +1,5 @@
 -- The names of refused tables and the outcomes of answers, on worked cases.
 use Rattle.std.specs.Prelude.{◌≡◌, ◌∷◌, [], ℕ, List, Ok, Err, codes, map, if◌then◌else◌}
-use Rattle.std.specs.Global.{Vec}
 use Rattle.std.proofs.Common.{ap, ◌∙◌, refl}
 use Rattle.oim_convert.specs.declared.fault.ConvertFault.TheVariants as fault
 use Rattle.oim_convert.specs.declared.run.Run.{Run}
@@ -10,7 +9,7 @@ use Rattle.oim_resolve.specs.declared.fact.CellFault.TheVariants as cell
 use Rattle.oim_rows.specs.Header.{fault_at}
 use Rattle.oim_rows.specs.declared.fault.TableFault.{TableFault}
 use Rattle.oim_rows.specs.declared.fault.TableKind.TheVariants as table
-use Rattle.oim_run.specs.state.Naming.{outcome_alone, outcome_at, outcome_by, with_names}
+use Rattle.oim_run.specs.state.Naming.{outcome_at, outcome_by, with_names}
 use Rattle.oim_run.specs.declared.outcome.Outcome.TheVariants as outcome
 
 -- Names.
@@ -35,6 +34,12 @@ names_given_once = refl
 failed_write : outcome_at names (no_file 0 ∷ []) (end.Write write.Zero) ≡ outcome.Output write.Zero
 failed_write = refl
 
+another_failed_write : outcome_at names [] (end.Write write.Failed) ≡ outcome.Output write.Failed
+another_failed_write = refl
+
+two_tables_refused : outcome_at names (bad_number ∷ no_file 2 ∷ []) end.Refused ≡ outcome.Tables ((codes "b", bad_number) ∷ (codes "c", no_file 2) ∷ [])
+two_tables_refused = refl
+
 module _ (run : Run) where
   ran_to_the_end : run.end ≡ end.Complete → outcome_by names (Ok run) ≡ outcome.Done
   ran_to_the_end is = ap (λ e. outcome_at names run.faults.items e) is
@@ -45,18 +50,3 @@ module _ (run : Run) where
 did_not_run : map (λ f. outcome_by names (Err f)) (fault.BadWorkers ∷ fault.BadSize ∷ fault.WrongReaders ∷ fault.Memory ∷ fault.Lost ∷ [])
     ≡ outcome.Run fault.BadWorkers ∷ outcome.Run fault.BadSize ∷ outcome.Run fault.WrongReaders ∷ outcome.Run fault.Memory ∷ outcome.Run fault.Lost ∷ []
 did_not_run = refl
-
--- The same on one thread.
-done_alone : outcome_alone names (Ok tt) ≡ outcome.Done
-done_alone = refl
-
-failed_write_alone : outcome_alone names (Err (fault.Write write.Failed)) ≡ outcome.Output write.Failed
-failed_write_alone = refl
-
-did_not_run_alone : map (λ f. outcome_alone names (Err f)) (fault.BadWorkers ∷ fault.BadSize ∷ fault.WrongReaders ∷ fault.Memory ∷ fault.Lost ∷ [])
-    ≡ outcome.Run fault.BadWorkers ∷ outcome.Run fault.BadSize ∷ outcome.Run fault.WrongReaders ∷ outcome.Run fault.Memory ∷ outcome.Run fault.Lost ∷ []
-did_not_run_alone = refl
-
-tables_refused_alone : (faults : Vec TableFault) → faults.items ≡ bad_number ∷ no_file 2 ∷ []
-    → outcome_alone names (Err (fault.Tables faults)) ≡ outcome.Tables ((codes "b", bad_number) ∷ (codes "c", no_file 2) ∷ [])
-tables_refused_alone faults is = ap (λ fs. outcome.Tables (with_names names fs)) is

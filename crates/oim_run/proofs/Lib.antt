@@ -5,8 +5,7 @@ mod FileFacts
 mod Names
 mod Beginnings
 mod Stopped
-mod Threads
-mod OneThread
+mod Answered
 mod Examples
 mod ExamplesNaming
 mod ExamplesBuffers

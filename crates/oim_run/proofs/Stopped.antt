@@ -16,7 +16,6 @@ use Rattle.oim_json.specs.JsonText.{head_text}
 use Rattle.oim_json.specs.Sinks.{SinkView, Wrote}
 use Rattle.oim_json.specs.declared.layout.Layout.{Layout}
 use Rattle.oim_merge.specs.Histories.{all_of, document, facts_before, refusals, tail_for, unfinished}
-use Rattle.oim_merge.specs.declared.progress.MergeEnd.{MergeEnd}
 use Rattle.oim_merge.specs.declared.progress.MergeEnd.TheVariants as end
 use Rattle.oim_report.specs.ReportValue.{ReportValue}
 use Rattle.oim_resolve.specs.FactParts.{FactParts as Fact}
@@ -139,7 +138,3 @@ module _ (layout : Layout) (report : ReportValue) (limit : ℕ) (files : List (O
         histories_stop report limit files hs w.are f faults some,
         subst (λ (t : List ℕ). Wrote old new t) cut w.merged.1.1,
       )
-
-  pub stopped : (faults : List TableFault) (e : MergeEnd) → WritesHistories (AreHistories (streams report limit files)) layout report old new faults e → e ≡ end.Refused
-      → StopsInTable layout report (streams report limit files) old new faults
-  stopped faults e w is = stops faults (subst (λ (x : MergeEnd). WritesHistories (AreHistories (streams report limit files)) layout report old new faults x) is w)

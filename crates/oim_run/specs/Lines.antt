@@ -64,7 +64,7 @@ path_text what path = codes "xbrl-json: cannot " ++ (what ++ (codes " " ++ (path
 -- The lines for an outcome: none for a whole document, and one for each refused table.
 abbrev pub line_of : Outcome → List ℕ
 line_of outcome.Done = []
-line_of (outcome.Report s x) = fault_text (source_name s) (fault_name x.fault) (fault_number x.fault)
+line_of (outcome.Report s x) = fault_text (source_name s) (fault_name x.finding.fault) (fault_number x.finding.fault)
 line_of (outcome.Tables named) = tables_text named
 line_of (outcome.CannotRead path) = path_text (codes "read") path
 line_of (outcome.CannotWrite path) = path_text (codes "write") path

@@ -2,13 +2,12 @@
 
 ghost use Rattle.std.specs.Prelude.{◌≡◌, ◌≤◌, ◌<◌, ℕ, [], None, IfOk, false, length, slice_set, true, vec_capacity};
 ghost use Rattle.oim_convert.specs.Runs.{early_fault};
-ghost use Rattle.oim_convert.specs.Serial.{AreFew};
 ghost use Rattle.oim_run.specs.Outcomes.{ConvertsBy, LeavesBy};
-ghost use Rattle.oim_run.specs.state.Courses.{alone, reader_fault};
-ghost use Rattle.oim_run.specs.state.Naming.{outcome_alone, outcome_by, with_names, name_in, table_ids};
+ghost use Rattle.oim_run.specs.state.Courses.{alone};
+ghost use Rattle.oim_run.specs.state.Naming.{outcome_by, with_names, name_in, table_ids};
 
 use crate::outcome::Outcome;
-use oim_convert::{ConvertFault, LARGEST_RING, Run, convert, convert_serial};
+use oim_convert::{ConvertFault, LARGEST_RING, Run, convert, convert_here};
 use oim_json::{Layout, Sink};
 use oim_merge::MergeEnd;
 use oim_meta::{Limits, Report};
@@ -97,32 +96,11 @@ fn ending(
     }
 }
 
-/// Returns the outcome of a conversion on one thread with this answer, for tables with these names.
-fn ending_alone(
-    alloc: Global,
-    names: Vec<Text>,
-    room: Vec<(Text, TableFault)>,
-    answer: Result<(), ConvertFault>,
-) -> Outcome
-    requires empty { room.items ≡ [] }
-    requires room { AreFew (vec_capacity room) answer }
-    ensures { result ≡ outcome_alone names.items answer }
-{
-    match answer {
-        Ok(()) => Outcome::Done,
-        Err(ConvertFault::Tables(faults)) => {
-            Outcome::Tables(named(alloc, names, faults.as_slice(), room))
-        }
-        Err(ConvertFault::Write(fault)) => Outcome::Output(fault),
-        Err(fault) => Outcome::Run(fault),
-    }
-}
-
 /// Returns whether a conversion works on one thread: it has one worker, and its settings are in
 /// range.
 pub(crate) fn is_alone(workers: usize, ring: usize) -> bool
     ensures one { result ≡ true → workers ≡ 1 }
-    ensures alone { result ≡ true → (readers tables : ℕ) → early_fault workers ring readers tables ≡ reader_fault readers tables }
+    ensures alone { result ≡ true → (readers tables : ℕ) → early_fault workers ring readers tables ≡ early_fault 1 1 readers tables }
     ensures others { result ≡ false → (readers tables : ℕ) → early_fault workers ring readers tables ≡ None → 1 < workers }
 {
     workers == 1 && ring >= 1 && ring <= LARGEST_RING
@@ -145,11 +123,11 @@ pub(crate) fn convert_alone<R: Read + Drop, W: Sink>(
     let Ok(names) = names_of(alloc, report) else {
         return Outcome::Run(ConvertFault::Memory);
     };
-    let Ok(room) = Vec::with_capacity(alloc, report.tables()) else {
+    let Ok(room) = Vec::with_capacity(alloc, readers.len()) else {
         return Outcome::Run(ConvertFault::Memory);
     };
-    let answer = convert_serial(alloc, report, readers, limits, layout, sink);
-    ending_alone(alloc, names, room, answer)
+    let run = convert_here(alloc, report, readers, limits, layout, sink);
+    ending(alloc, names, room, run)
 }
 
 /// Converts a report, with a reader of each table's file in table order, or `None` for a table

@@ -19,7 +19,7 @@ pub(crate) fn ended_early(fault: EarlyFault) -> Outcome
     ensures { result ≡ spec.outcome_of fault }
 {
     match fault {
-        EarlyFault::Report(source, finding) => Outcome::Report(source, finding),
+        EarlyFault::Report(source, fault) => Outcome::Report(source, fault),
         EarlyFault::CannotRead(path) => Outcome::CannotRead(path),
         EarlyFault::Memory => no_memory(),
     }

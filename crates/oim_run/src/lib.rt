@@ -92,7 +92,7 @@ pub use oim_explain::{
     explanation_text, fault_header, fault_place, fault_row, lines_are_of_records, lines_below,
     list_faults, report_again, report_explanation, report_fault_row, shown,
 };
-pub use oim_files::{EarlyFault, Folder, Source, Texts};
+pub use oim_files::{EarlyFault, FileFault, Folder, Source, Texts};
 pub use outcome::{Outcome, line, status, table_line, terminal_line};
 pub use output::{Outputs, convert_as};
 pub use request::{Request, job, request_of};

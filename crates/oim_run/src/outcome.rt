@@ -5,9 +5,8 @@ ghost use Rattle.oim_run.specs.Lines.{fault_text, line_of, path_text, source_nam
 
 use oim_convert::ConvertFault;
 use oim_explain::shown;
-use oim_files::Source;
+use oim_files::{FileFault, Source};
 use oim_json::WriteFault;
-use oim_meta::Finding;
 use oim_names::{Items, Text};
 use oim_rows::TableFault;
 use std::alloc::{AllocError, Global};
@@ -17,9 +16,8 @@ use std::alloc::{AllocError, Global};
 pub enum Outcome {
     /// The whole document is written.
     Done,
-    /// The metadata, the parameters file or the types table has a fault. In the metadata, the keys
-    /// lead to the fault's place. Nothing is written.
-    Report(Source, Finding),
+    /// The metadata, the parameters file or the types table has a fault. Nothing is written.
+    Report(Source, FileFault),
     /// Tables are refused, in table order, each by its identifier with its first fault. The
     /// document is unfinished.
     Tables(Items<(Text, TableFault)>),
@@ -105,8 +103,8 @@ pub fn line(alloc: Global, outcome: &Outcome) -> Result<String, AllocError>
 {
     match outcome {
         Outcome::Done => Ok(String::new(alloc)),
-        Outcome::Report(source, finding) => {
-            let fault = finding.fault;
+        Outcome::Report(source, file) => {
+            let fault = file.finding.fault;
             fault_line(alloc, source_word(*source), fault.name(), fault.number())
         }
         Outcome::Tables(named) => table_lines(alloc, named.as_slice()),

@@ -51,26 +51,27 @@ fn copy_exactly(memory: &mut [u8], at: usize, text: &[u8]) -> usize
 
 /// Copies the first `len` bytes of a text that has 32 more to index `at`.
 ///
-/// It may write up to 32 bytes after them too. Returns where the copy ends.
+/// It may write up to 32 bytes after them too. Returns where the copy ends. Most texts have at most
+/// 32 bytes: with the first of them in the loop, `positions` +2.8 %, `ids` +2.5 %, `mixed` +2.4 %.
 #[inline(always)]
 pub fn copy_padded(memory: &mut [u8], at: usize, text: &[u8], len: usize) -> usize
     requires text { len + 32 ≤ length text.now }
     requires memory { at + len + 32 ≤ length memory.old }
     ensures { Placed memory.old memory.new at (take len text.now) result }
 {
-    let mut done = 0;
-    loop {
+    copy_chunk(memory, at, text);
+    let mut done = AT_ONCE;
+    while done < len {
         copy_chunk(memory, at + done, &text[done..]);
         done += AT_ONCE;
-        if done >= len {
-            return at + len;
-        }
     }
+    at + len
 }
 
 /// Copies the first `len` bytes of a text, which may have no more, to index `at`.
 ///
-/// It may write up to 32 bytes after them too. Returns where the copy ends.
+/// It may write up to 32 bytes after them too. Returns where the copy ends. If numbers were copied
+/// by `copy_exactly`: `positions` +1.4 %, `ids` +1.2 %, `mixed` +0.7 %.
 #[inline(always)]
 pub fn copy(memory: &mut [u8], at: usize, text: &[u8], len: usize) -> usize
     requires text { len ≤ length text.now }
@@ -134,6 +135,8 @@ fn copy_rare_byte(memory: &mut [u8], at: usize, byte: u8) -> usize
 }
 
 /// Writes a byte as `copy_rare_byte` does. It is fastest for a quote, the most common case.
+///
+/// Without it: `wide` +4.1 %, `positions` +1.8 %, `ids` +1.5 %, `texts` +1.4 %.
 #[inline(always)]
 #[tactic(auto, unfolding(oim_json::specs::JsonText::escaped_byte))]
 fn copy_byte(memory: &mut [u8], at: usize, byte: u8) -> usize

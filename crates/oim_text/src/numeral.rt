@@ -22,6 +22,8 @@ fn other_marks(bytes: u8x16) -> u64
 }
 
 /// Returns how many of the first 16 bytes are digits before the first other byte.
+///
+/// Without it, one by one: `wide` +9.8 %, `positions` +6.4 %, `ids` +5.3 %, `mixed` +4.6 %.
 #[inline(always)]
 fn digits_at_once(text: &[u8]) -> usize
     requires { 16 ≤ length text.now }
@@ -191,6 +193,7 @@ fn is_power_mark(kind: NumberKind, byte: u8) -> bool
 /// finds none.
 ///
 /// In most cells all bytes are digits, so that case is tested first.
+/// Without it: `positions` +0.8 %, `ids` +0.7 %.
 #[inline(always)]
 pub fn numeral_len(kind: NumberKind, text: &[u8], len: usize) -> usize
     requires { len ≤ length text.now }

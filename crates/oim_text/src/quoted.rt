@@ -1,4 +1,6 @@
 //! Texts escaped for JSON. `serde_json` escapes a text that needs it.
+//!
+//! Without it, by `put_escaped_front`: `members` +4.3 %.
 
 ghost use Rattle.std.specs.Prelude.{◌≡◌, ◌-◌, ◌≤◌, ◌++◌, IfOk, OnOk, if◌then◌else◌, is_ok, length, slice_range};
 ghost use Rattle.std.specs.List.{flat_map, list_all};

@@ -2,8 +2,8 @@
 
 use crate::held::{METADATA, TYPES};
 use oim_entries::{
-    BadEntry, EntryFault, EntryProblem, fault_is_of_first_bad_record, first_bad_parameter,
-    first_bad_type,
+    BadEntry, EntryFault, EntryProblem, EntryRefusal, fault_is_of_first_bad_record,
+    read_parameters_at, read_types_at,
 };
 use oim_meta::{
     Finding, Limits, MetaFault, Metadata, Parameters, Refusal, Report, Types,
@@ -65,21 +65,21 @@ fn is_second_name(bad: &BadEntry, column: usize) -> bool {
         number: 2,
         column: Some(column),
     };
-    bad.fault == fault && !bad.row.is_empty()
+    bad.fault() == fault && !bad.row().is_empty()
 }
 
 /// Returns whether the first fault of a parameters file is the name of its second record.
 fn has_parameter_twice(alloc: Global, file: &[u8]) -> bool {
-    match &first_bad_parameter(alloc, file) {
-        Ok(Some(bad)) => is_second_name(bad, 0),
+    match read_parameters_at(alloc, file) {
+        Err(EntryRefusal::Bad(bad)) => is_second_name(&bad, 0),
         _ => false,
     }
 }
 
 /// Returns whether the first fault of a types table is the name of its second record.
 fn has_type_twice(alloc: Global, file: &[u8]) -> bool {
-    match &first_bad_type(alloc, file) {
-        Ok(Some(bad)) => is_second_name(bad, 1),
+    match read_types_at(alloc, file) {
+        Err(EntryRefusal::Bad(bad)) => is_second_name(&bad, 1),
         _ => false,
     }
 }

@@ -1,16 +1,16 @@
 //! Calls of `oim_decode` for the pieces of a table.
 
-ghost use Rattle.std.specs.Prelude.{◌≤◌, ◌+◌};
+ghost use Rattle.std.specs.Prelude.{◌≡◌, ◌≤◌, ◌+◌};
 
 use crate::held::{Over, holds};
 use crate::rows::left_by;
 use oim_decode::{
-    FirstRecords, JoinedPiece, PieceAnswer, PieceDecoder, PieceJoin, file_in_pieces,
+    FirstRecords, JoinedPiece, PieceAnswer, PieceDecoder, PieceJoin, TableBlocks, file_in_pieces,
     joined_pieces_are_read, open_pieces, rows_in_pieces,
 };
 use oim_json::Spare;
 use oim_meta::Report;
-use oim_records::RecordReader;
+use oim_records::{PieceReader, RecordReader};
 use oim_rows::{TableFault, TableHeader, TableKind, whole_fault};
 use std::alloc::Global;
 
@@ -23,6 +23,7 @@ fn next_piece(
     first: u32,
 ) -> Result<JoinedPiece, TableFault>
     requires { first ≤ decoder.old.header.limit + 1 }
+    ensures { decoder.new.header ≡ decoder.old.header }
 {
     let mut bytes = Vec::new(alloc);
     if bytes.extend_from_slice(piece).is_err() {
@@ -55,12 +56,38 @@ fn joins(alloc: Global, decoder: &mut PieceDecoder<'_>, piece: &[u8]) -> bool {
     }
 }
 
-/// Does the same for a table with this header, which has no more rows than can be numbered.
+/// Returns how many facts the second row of a table gives, after a piece with the first was joined.
+fn facts_after_a_piece(
+    alloc: Global,
+    decoder: PieceDecoder<'_>,
+    first: &[u8],
+    second: &[u8],
+) -> Result<usize, TableFault>
+    requires { 1 ≤ decoder.header.limit }
+{
+    let mut decoder = decoder;
+    let mut join = PieceJoin::new(alloc);
+    next_piece(alloc, &mut decoder, &mut join, first, 1)?;
+    let rest = PieceReader::new(alloc, second);
+    let records = RecordReader::after_pieces(alloc, Vec::new(alloc), rest);
+    let mut blocks = TableBlocks::after_pieces(alloc, decoder, join, 2, records);
+    match blocks.next_block(Spare::new(alloc))? {
+        Some(block) => Ok(block.count()),
+        None => Ok(0),
+    }
+}
+
+/// Returns whether a table with this header, which has no more rows than can be numbered, decodes a
+/// piece and is continued after it.
 fn decodes(alloc: Global, header: TableHeader<'_>, piece: &[u8]) -> bool
-    requires { header.limit ≤ 4294967294 }
+    requires rows { header.limit ≤ 4294967294 }
+    requires some { 1 ≤ header.limit }
 {
     match PieceDecoder::new(alloc, header) {
-        Ok(mut decoder) => joins(alloc, &mut decoder, piece),
+        Ok(mut decoder) => {
+            joins(alloc, &mut decoder, piece)
+                && facts_after_a_piece(alloc, decoder, b"1,n\n", b"2,m\n") == Ok(2)
+        }
         Err(_) => false,
     }
 }

@@ -5,10 +5,10 @@ use oim_meta::{Finding, MetaFault};
 use oim_names::{Items, Text};
 use oim_rows::{TableFault, TableKind};
 use oim_run::{
-    ExplainedFault, Explanation, FaultCause, FaultPlace, METADATA, MOST_TABLES, ReportAgain,
-    Source, TYPES, Texts, explain_metadata, explained_fault, explained_faults, explanation_text,
-    fault_header, fault_place, fault_row, lines_are_of_records, lines_below, report_again,
-    report_explanation, report_fault_row, table_line,
+    ExplainedFault, Explanation, FaultCause, FaultPlace, FileFault, METADATA, MOST_TABLES,
+    ReportAgain, Source, TYPES, Texts, explain_metadata, explained_fault, explained_faults,
+    explanation_text, fault_header, fault_place, fault_row, lines_are_of_records, lines_below,
+    report_again, report_explanation, report_fault_row, table_line,
 };
 use std::alloc::{AllocError, Global};
 
@@ -17,9 +17,9 @@ use std::alloc::{AllocError, Global};
 fn explains_the_key(
     alloc: Global,
     folder: &mut Texts<'_>,
-    finding: &Finding,
+    fault: &FileFault,
 ) -> Result<bool, AllocError> {
-    let text = explain_report(alloc, "m.json", "t.csv", folder, Source::Report, finding)?;
+    let text = explain_report(alloc, "m.json", "t.csv", folder, Source::Report, fault)?;
     let place = "    /documentInfo/documentType\n";
     Ok(text.as_str().starts_with(place))
 }
@@ -28,20 +28,20 @@ fn explains_the_key(
 fn row_of_the_key(
     alloc: Global,
     folder: &mut Texts<'_>,
-    finding: &Finding,
+    fault: &FileFault,
 ) -> Result<Vec<u8>, AllocError> {
-    let told = report_explanation(alloc, "m.json", "t.csv", folder, Source::Report, finding)?;
+    let told = report_explanation(alloc, "m.json", "t.csv", folder, Source::Report, fault)?;
     report_fault_row(
         alloc,
-        finding.fault,
+        fault.finding.fault,
         told.place.as_str(),
         told.found.as_str(),
     )
 }
 
 /// Returns whether it has its place.
-fn writes_the_key(alloc: Global, folder: &mut Texts<'_>, finding: &Finding) -> bool {
-    match row_of_the_key(alloc, folder, finding) {
+fn writes_the_key(alloc: Global, folder: &mut Texts<'_>, fault: &FileFault) -> bool {
+    match row_of_the_key(alloc, folder, fault) {
         Ok(row) => {
             row.as_slice()
                 == b",0,0,2,NotReport,,,(nothing),/documentInfo/documentType,,,,\n".as_slice()
@@ -51,11 +51,11 @@ fn writes_the_key(alloc: Global, folder: &mut Texts<'_>, finding: &Finding) -> b
 }
 
 /// Returns whether the fault is explained, and has its record, over a folder.
-fn explains_a_report(alloc: Global, finding: &Finding) -> bool {
+fn explains_a_report(alloc: Global, fault: &FileFault) -> bool {
     let files = [("m.json", b"{}".as_slice()), ("t.csv", TYPES.as_bytes())];
     let folder = &mut Texts { files: &files };
-    matches!(explains_the_key(alloc, folder, finding), Ok(true))
-        && writes_the_key(alloc, folder, finding)
+    matches!(explains_the_key(alloc, folder, fault), Ok(true))
+        && writes_the_key(alloc, folder, fault)
 }
 
 /// Returns whether an explanation has a text.
@@ -84,9 +84,15 @@ fn hold_of_reports(alloc: Global) -> bool {
     let Ok(place) = place_of_type(alloc) else {
         return false;
     };
-    let fault = MetaFault::NotReport;
-    let finding = Finding { fault, place };
-    explains_a_report(alloc, &finding) && explains(alloc, b"{}", &finding)
+    let fault = FileFault {
+        finding: Finding {
+            fault: MetaFault::NotReport,
+            place,
+        },
+        path: None,
+        entry: None,
+    };
+    explains_a_report(alloc, &fault) && explains(alloc, b"{}", &fault.finding)
 }
 
 #[test]

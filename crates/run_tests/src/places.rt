@@ -6,10 +6,10 @@ use oim_meta::Records;
 use oim_names::Text;
 use oim_places::{
     BadRows, FaultPlace, FaultRecord, LocatedFault, ParameterLines, ReportAgain, RowAgain,
-    bad_rows_at, cell_shown, excerpt, fault_place, fault_record, fault_records_are_by_row,
-    field_as_text, first_record_with, is_of_file, line_again, more_faults_row, part_at,
-    place_in_file, place_in_record, pointer, pointer_to, quoted, record_shown, report_again,
-    standing, table_path, text_at,
+    after_mark, bad_rows_at, cell_shown, excerpt, fault_place, fault_record,
+    fault_records_are_by_row, field_as_text, first_record_with, is_of_file, line_again,
+    more_faults_row, place_in_file, place_in_record, pointer, pointer_to, quoted, record_shown,
+    report_again, standing, table_path, text_at,
 };
 use oim_rows::{TableFault, TableKind};
 use oim_run::{ListedFaults, METADATA, RefusedTable, TYPES, list_faults};
@@ -252,25 +252,17 @@ fn calls_of_records_read_again(rt: HostRuntime) {
     assert!(rt; finds_the_first(rt.alloc(), b"a\nx\n") && shows_the_first(rt.alloc(), b"a\n"));
 }
 
-/// Returns whether the part of a JSON text at a key is shown.
-fn shows_a_part(alloc: Global, part: &[u8]) -> bool {
-    match Value::from_slice(alloc, part) {
+/// Returns whether a JSON text after its byte-order mark is shown.
+fn shows_a_text(alloc: Global, json: &[u8]) -> bool {
+    match Value::from_slice(alloc, after_mark(json)) {
         Ok(value) => is_text(standing(alloc, Some(&value)), "\"b\""),
         Err(_) => false,
     }
 }
 
-/// Returns whether the part is found by its key.
-fn finds_a_part(alloc: Global, json: &[u8], keys: &[Text]) -> bool {
-    match part_at(alloc, json, keys) {
-        Ok(Some(part)) => shows_a_part(alloc, part),
-        _ => false,
-    }
-}
-
 /// Returns whether the calls for this key answer as they must.
 fn hold_of_key(alloc: Global, keys: &[Text]) -> bool {
-    finds_a_part(alloc, b"{\"a\":\"b\"}", keys)
+    shows_a_text(alloc, b"\xef\xbb\xbf\"b\"")
         && is_text(pointer(alloc, keys), "/a")
         && is_text(pointer_to(alloc, &["a"]), "/a")
         && is_text(excerpt(alloc, "/a"), "/a")

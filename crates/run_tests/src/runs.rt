@@ -70,9 +70,12 @@ fn shows(alloc: Global, path: &str) -> bool {
     }
 }
 
-/// Returns whether a report is refused for its types table.
+/// Returns whether a report is refused for a bad record of its types table.
 fn is_of_types(outcome: &Outcome) -> bool {
-    matches!(outcome, Outcome::Report(Source::Types, _)) && status(outcome) == 1
+    match outcome {
+        Outcome::Report(Source::Types, fault) => fault.entry.is_some() && status(outcome) == 1,
+        _ => false,
+    }
 }
 
 /// Returns whether a report without types is refused, by a run to a writer after a buffer.

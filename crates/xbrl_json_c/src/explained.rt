@@ -2,11 +2,10 @@
 
 use crate::answer::Told;
 use crate::files::Files;
-use oim_meta::Finding;
 use oim_names::Text;
 use oim_rows::TableFault;
 use oim_run::{
-    EarlyFault, Explanation, FaultCause, FaultPlace, MOST_TABLES, Outcome, RefusedTable,
+    EarlyFault, Explanation, FaultCause, FaultPlace, FileFault, MOST_TABLES, Outcome, RefusedTable,
     ReportAgain, Source, explained_faults, explanation_text, fault_header, fault_row, line,
     lines_below, list_faults, report_again, report_explanation, report_fault_row, status,
     table_line,
@@ -162,13 +161,13 @@ fn lines_of_report(
 /// explanation.
 fn record_of_report(
     alloc: Global,
-    finding: &Finding,
+    fault: &FileFault,
     told: &Result<Explanation, AllocError>,
 ) -> Result<Vec<u8>, AllocError> {
     match told {
         Ok(told) => report_fault_row(
             alloc,
-            finding.fault,
+            fault.finding.fault,
             told.place.as_str(),
             told.found.as_str(),
         ),
@@ -191,7 +190,7 @@ fn with_header(alloc: Global, record: Result<Vec<u8>, AllocError>) -> Result<Vec
     Ok(records)
 }
 
-/// Tells a fault of the metadata, the types table or the parameters file, which is read again.
+/// Tells a fault of the metadata, the types table or the parameters file.
 fn told_of_report(
     alloc: Global,
     mut files: Files<'_>,
@@ -199,11 +198,11 @@ fn told_of_report(
     types: &str,
     outcome: &Outcome,
     source: Source,
-    finding: &Finding,
+    fault: &FileFault,
 ) -> Told {
-    let told = report_explanation(alloc, meta, types, &mut files, source, finding);
+    let told = report_explanation(alloc, meta, types, &mut files, source, fault);
     let lines = lines_of_report(alloc, outcome, text_of(alloc, &told));
-    let faults = with_header(alloc, record_of_report(alloc, finding, &told));
+    let faults = with_header(alloc, record_of_report(alloc, fault, &told));
     Told {
         lines: or_nothing(alloc, lines),
         faults: or_nothing(alloc, faults),
@@ -235,8 +234,8 @@ pub(crate) fn told_of(
 ) -> Told {
     match outcome {
         Outcome::Tables(tables) => { told_of_tables(alloc, files, meta, types, tables.as_slice()) }
-        Outcome::Report(source, finding) => {
-            told_of_report(alloc, files, meta, types, outcome, *source, finding)
+        Outcome::Report(source, fault) => {
+            told_of_report(alloc, files, meta, types, outcome, *source, fault)
         }
         _ => told_plainly(alloc, outcome),
     }

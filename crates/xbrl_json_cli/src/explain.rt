@@ -7,11 +7,11 @@ use crate::files_again::FilesAgain;
 use crate::known::{Found, Known, KnownTables};
 use crate::reason::{why_unread, why_unwritten};
 use crate::write_failure::WriteFailure;
-use oim_meta::{Finding, MetaFault};
+use oim_meta::MetaFault;
 use oim_names::Text;
 use oim_rows::TableFault;
 use oim_run::{
-    ExplainedFault, ListedFaults, MOST_TABLES, Outcome, Request, Settings, Source,
+    ExplainedFault, FileFault, ListedFaults, MOST_TABLES, Outcome, Request, Settings, Source,
     explained_faults, explanation_text, lines_below, report_explanation, shown, table_line,
 };
 use std::alloc::{AllocError, Global};
@@ -72,27 +72,27 @@ impl<'a> Explainer<'a> {
     }
 
     /// Returns the lines of the explanation of a fault of the metadata, the types table or the
-    /// parameters file, whose file is read again if nothing is known.
+    /// parameters file, which is made if it is not known.
     fn early_lines(
         &self,
         found: &mut Found<'_>,
         source: Source,
-        finding: &Finding,
+        fault: &FileFault,
     ) -> Result<String, AllocError> {
         if let Known::Report(explanation) = &found.known {
             return explanation_text(self.alloc, explanation);
         }
         let (meta, types) = (self.settings.meta.as_str(), self.settings.types.as_str());
         let files = &mut found.files;
-        let told = report_explanation(self.alloc, meta, types, files, source, finding)?;
+        let told = report_explanation(self.alloc, meta, types, files, source, fault)?;
         explanation_text(self.alloc, &told)
     }
 
     /// Prints the explanation below the line of a fault of the metadata, the types table or the
     /// parameters file.
-    fn explain_early(&self, found: &mut Found<'_>, source: Source, finding: &Finding) {
-        self.print(self.early_lines(found, source, finding));
-        if matches!(source, Source::Report) && finding.fault == MetaFault::Read {
+    fn explain_early(&self, found: &mut Found<'_>, source: Source, fault: &FileFault) {
+        self.print(self.early_lines(found, source, fault));
+        if matches!(source, Source::Report) && fault.finding.fault == MetaFault::Read {
             self.explain_folder(self.settings.meta.as_str());
         }
     }
@@ -128,8 +128,8 @@ impl<'a> Explainer<'a> {
     pub fn explain_fault(&self, found: &mut Found<'_>, outcome: &Outcome) {
         let reason = match outcome {
             Outcome::Done | Outcome::Tables(_) => return,
-            Outcome::Report(source, finding) => {
-                return self.explain_early(found, *source, finding);
+            Outcome::Report(source, fault) => {
+                return self.explain_early(found, *source, fault);
             }
             Outcome::Output(_) => return self.explain_write(),
             Outcome::CannotRead(path) => why_unread(self.rt, path.as_str()),

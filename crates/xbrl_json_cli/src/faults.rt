@@ -10,13 +10,12 @@ use crate::known::{Found, Known, KnownTables};
 use crate::target::Target;
 use crate::whole_file::{Content, can_be_made, write_whole};
 use crate::write_failure::WriteFailure;
-use oim_meta::Finding;
 use oim_names::Text;
 use oim_rows::TableFault;
 use oim_run::{
-    EarlyFault, Explanation, FaultCause, FaultPlace, ListedFaults, Outcome, RefusedTable,
-    ReportAgain, Request, Settings, Source, cannot_write, fault_header, fault_row, list_faults,
-    report_explanation, report_fault_row, status,
+    EarlyFault, Explanation, FaultCause, FaultPlace, FileFault, ListedFaults, Outcome,
+    RefusedTable, ReportAgain, Request, Settings, Source, cannot_write, fault_header, fault_row,
+    list_faults, report_explanation, report_fault_row, status,
 };
 use std::alloc::{AllocError, Global};
 use std::io;
@@ -105,26 +104,26 @@ fn write_tables<W: Write>(
 /// explanation.
 fn row_of_report(
     alloc: Global,
-    finding: &Finding,
+    fault: &FileFault,
     told: &Explanation,
 ) -> Result<Vec<u8>, AllocError> {
     let (place, found) = (told.place.as_str(), told.found.as_str());
-    report_fault_row(alloc, finding.fault, place, found)
+    report_fault_row(alloc, fault.finding.fault, place, found)
 }
 
-/// Writes the record of a fault of the metadata, the types table or the parameters file. Reads the
-/// file again for it, and returns what it found out.
+/// Writes the record of a fault of the metadata, the types table or the parameters file. Returns
+/// what it found out for it.
 fn write_report<W: Write>(
     alloc: Global,
     settings: &Settings,
     files: &mut FilesAgain<'_>,
     source: Source,
-    finding: &Finding,
+    fault: &FileFault,
     to: &mut W,
 ) -> io::Result<Explanation> {
     let (meta, types) = (settings.meta.as_str(), settings.types.as_str());
-    let told = report_explanation(alloc, meta, types, files, source, finding)?;
-    to.write_all(row_of_report(alloc, finding, &told)?.as_slice())?;
+    let told = report_explanation(alloc, meta, types, files, source, fault)?;
+    to.write_all(row_of_report(alloc, fault, &told)?.as_slice())?;
     Ok(told)
 }
 
@@ -147,10 +146,10 @@ impl<'a, 'b> FaultRecords<'a, 'b> {
                 let known = write_tables(alloc, self.request, files, tables.as_slice(), to)?;
                 self.found.known = Known::Tables(known);
             }
-            Outcome::Report(source, finding) => {
+            Outcome::Report(source, fault) => {
                 let settings = &self.request.settings;
                 let files = &mut self.found.files;
-                let told = write_report(alloc, settings, files, *source, finding, to)?;
+                let told = write_report(alloc, settings, files, *source, fault, to)?;
                 self.found.known = Known::Report(told);
             }
             _ => {}

@@ -37,9 +37,4 @@ HasTables told report limit starts plan hs = (served : Bool) × (starts ≡ 0 �
 abbrev pub HasRun : Result Run ConvertFault → Type 0
 HasRun (Ok run) = ⊤
 HasRun (Err fault.Lost) = ⊤
-HasRun (Err fault.Memory) = ⊥
-HasRun (Err fault.BadWorkers) = ⊥
-HasRun (Err fault.BadSize) = ⊥
-HasRun (Err fault.WrongReaders) = ⊥
-HasRun (Err (fault.Tables faults)) = ⊥
-HasRun (Err (fault.Write w)) = ⊥
+HasRun result = ⊥

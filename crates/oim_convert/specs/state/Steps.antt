@@ -1,8 +1,7 @@
 -- The items that each part of a conversion on one thread gives to the writer.
-use Rattle.std.specs.Prelude.{◌≡◌, ℕ, true, List, ◌++◌, Option, Some, Result, Ok, Err, IfSome}
+use Rattle.std.specs.Prelude.{◌≡◌, ℕ, true, List, Option, Some, Result, Ok, Err, IfSome}
 use mathlib.Core.List.{IsPrefix}
 use Rattle.oim_json.specs.declared.mark.WriteFault.{WriteFault}
-use Rattle.oim_merge.specs.Histories.{all_of}
 use Rattle.oim_merge.specs.Writers.{WriterView, given}
 use Rattle.oim_records.specs.Reads.{IsFileOf}
 use Rattle.oim_report.specs.ReportValue.{ReportValue}
@@ -12,7 +11,6 @@ use Rattle.oim_ring.specs.declared.item.Ending as Endings
 use Rattle.oim_ring.specs.declared.item.Item.{Item}
 use Rattle.oim_rows.specs.Streams.{Stream, facts_of, table_stream}
 use Rattle.oim_convert.specs.Histories.{IsGiven, facts_in}
-use Rattle.oim_convert.specs.ReadAlone.{AreRead}
 
 -- The facts of a table with this stream, and its ending; or a write failed after a prefix of its
 -- facts.
@@ -35,14 +33,3 @@ pub record TookBlocks (old new : WriterView) (Holds : List Fact → Type 0) : Ty
   pub only : blocks_only blocks ≡ true
   pub is : new ≡ given old blocks new.sink
   pub facts : Holds (facts_in blocks)
-
--- The items are those of the histories of these readers' tables.
-pub record AreItemsOf {R : Type 0} (told : R → Option (List ℕ)) (report : ReportValue) (limit : ℕ) (readers : List (Option R)) (items : List Item) : Type 0 where
-  pub histories : List (List Item)
-  pub read : AreRead told report limit 0 readers histories
-  pub are : items ≡ all_of histories
-
--- The items of these readers' tables; if a write failed, a prefix of such items.
-abbrev pub ReadsTables : {R : Type 0} → (R → Option (List ℕ)) → ReportValue → ℕ → List (Option R) → List Item → Result (Unit {0}) WriteFault → Type 0
-ReadsTables told report limit readers items (Ok u) = AreItemsOf told report limit readers items
-ReadsTables told report limit readers items (Err w) = (more : List Item) × AreItemsOf told report limit readers (items ++ more)

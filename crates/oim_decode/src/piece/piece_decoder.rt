@@ -1,21 +1,24 @@
 //! Decoding pieces of a table.
 
-ghost use Rattle.std.specs.Prelude.{◌≡◌, ◌≤◌, ◌+◌, [], IfOk, IfSome, None, drop, length};
+ghost use Rattle.std.specs.Prelude.{◌≡◌, ◌≤◌, ◌+◌, [], IfOk, IfSome, None, drop, length, option_map};
 ghost use Rattle.csv.specs.declared.parser.State.TheVariants as state;
 ghost use Rattle.oim_records.specs.Grids.{records_left};
 ghost use Rattle.oim_decode.specs.PieceAnswers.{IsPieceDecoded};
 ghost use Rattle.oim_decode.specs.state.PieceAnswers.{StepsRow, no_rows};
 ghost use Rattle.oim_rows.specs.RowFacts.{row_fault};
+ghost use Rattle.oim_rows.specs.Streams.{stream_from};
 
 use crate::piece::first_records::FirstRecords;
 use crate::piece::piece_answer::PieceAnswer;
 use crate::piece::spare_vectors::SpareVectors;
 use crate::table::row_texts::RowTexts;
+use crate::table::text_rows::TextRows;
 use oim_fast::TableRow;
 use oim_json::Spare;
-use oim_records::{Fields, PieceRecords, TextFields};
+use oim_records::{Fields, PieceRecords, RecordReader, TextFields};
 use oim_rows::{RowIds, TableFault, TableHeader, TableKind, whole_fault};
 use std::alloc::{AllocError, Global};
+use std::io::Read;
 use std::marker::Model;
 
 /// A decoder for the pieces of one table. It needs only a piece's bytes and the number of its first
@@ -100,6 +103,34 @@ impl<'a> PieceDecoder<'a> {
         ensures { result.now ≡ self.now.header }
     {
         &self.header
+    }
+}
+
+impl<'a> PieceDecoder<'a> {
+    /// Returns the rows of its table after the first `given`, which have the identifiers `ids`.
+    /// `records` has these rows. Takes no memory.
+    pub(crate) fn into_rows<R: Read + Drop>(
+        self,
+        ids: RowIds,
+        given: u32,
+        records: RecordReader<R>,
+    ) -> TextRows<'a, R>
+        requires { given ≤ self.header.limit }
+        ensures header { result.header ≡ self.entry.header }
+        ensures given { result.given ≡ given }
+        ensures left { result.left ≡ option_map (stream_from self.entry.header (given + 1) ids) records.left }
+        ensures unread { result.unread ≡ records.left }
+        ensures closed { result.rest ≡ None }
+    {
+        let PieceDecoder {
+            alloc,
+            header,
+            texts,
+            records: _,
+            spares: _,
+            ids: _,
+        } = self;
+        TextRows::after(alloc, header, texts, ids, given, records)
     }
 }
 

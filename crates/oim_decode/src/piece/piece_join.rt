@@ -105,6 +105,14 @@ impl PieceJoin {
         self.ids.move_to(spare);
     }
 
+    /// Ends the join, and returns the identifiers of the joined pieces.
+    pub(crate) fn into_ids(self) -> RowIds
+        ensures { result ≡ self }
+    {
+        let PieceJoin { alloc: _, ids } = self;
+        ids
+    }
+
     /// Ends the join, and returns the memory of its identifiers for another table, if it is worth
     /// keeping.
     pub fn into_spare_ids(self) -> Option<SpareIds> {

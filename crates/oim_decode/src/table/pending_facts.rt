@@ -187,6 +187,7 @@ impl PendingFacts {
     /// the others.
     ///
     /// Fails as `push_row` does.
+    #[inline(always)]
     pub(crate) fn begin_row<'a>(
         &mut self,
         alloc: Global,

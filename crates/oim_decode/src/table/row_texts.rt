@@ -21,6 +21,7 @@ use std::marker::Model;
 const LONG: usize = 1_048_576;
 
 /// The most facts of a row that is always written at once.
+/// Without it: `positions` +1.1 %, `ids` +0.9 %, `mixed` +0.8 %, `datapoints` +0.6 %.
 const FEW: usize = 16;
 
 /// How the rows of a table become the texts of their facts.
@@ -92,6 +93,7 @@ impl<'a> RowTexts<'a> {
     /// of facts.
     ///
     /// Fails as `put_row` does.
+    #[inline(always)]
     pub(crate) fn begin_row(
         &mut self,
         alloc: Global,
@@ -168,7 +170,7 @@ impl<'a> RowTexts<'a> {
     }
 
     /// Begins a row whose facts may be many, as `begin_fast` does.
-    #[inline(always)]
+    #[inline(never)]
     fn begin_long(
         &mut self,
         alloc: Global,

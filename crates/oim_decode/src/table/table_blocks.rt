@@ -8,9 +8,12 @@ ghost use Rattle.oim_rows.specs.Header.{file_header_fault};
 ghost use Rattle.oim_rows.specs.Streams.{IsOutside, answer_of, stream_of};
 ghost use Rattle.oim_decode.specs.Blocks.{GivesBlock, KeepsAnswer, KeepsFound, LeavesNone, ReadsBehind};
 
+use crate::piece::piece_decoder::PieceDecoder;
+use crate::piece::piece_join::PieceJoin;
 use crate::table::pending_facts::PendingFacts;
 use crate::table::text_rows::TextRows;
 use oim_json::{Block, Spare};
+use oim_records::RecordReader;
 use oim_report::{Limits, Report};
 use oim_rows::{TableFault, TableKind, whole_fault};
 use std::alloc::Global;
@@ -98,6 +101,37 @@ impl<'a, R: Read + Drop> TableBlocks<'a, R> {
                 settled: None,
             }),
             Err(fault) => Err(fault),
+        }
+    }
+}
+
+ghost use Rattle.std.specs.Prelude.{option_map};
+ghost use Rattle.oim_rows.specs.Streams.{stream_from};
+
+impl<'a, R: Read + Drop> TableBlocks<'a, R> {
+    /// Continues a table whose first pieces are joined, row by row. Takes no memory.
+    ///
+    /// `decoder` is one for the table, `join` that of its pieces before row `next`, and `records`
+    /// has this row and those after it.
+    pub fn after_pieces(
+        alloc: Global,
+        decoder: PieceDecoder<'a>,
+        join: PieceJoin,
+        next: u32,
+        records: RecordReader<R>,
+    ) -> TableBlocks<'a, R>
+        requires some { 1 ≤ next }
+        requires few { next ≤ decoder.header.limit + 1 }
+        ensures start { (result.table ≡ decoder.entry.header.table) × (result.limit ≡ decoder.entry.header.limit) }
+        ensures begun { (result.given + 1 ≡ next) × (result.pending ≡ []) × (result.answered ≡ None) }
+        ensures left { result.left ≡ option_map (stream_from decoder.entry.header next join) records.left }
+        ensures unread { result.unread ≡ records.left }
+    {
+        TableBlocks {
+            alloc,
+            rows: decoder.into_rows(join.into_ids(), next - 1, records),
+            facts: PendingFacts::new(alloc),
+            settled: None,
         }
     }
 }

@@ -7,7 +7,7 @@ ghost use Rattle.std.specs.Str.{bytes_eq};
 ghost use Rattle.oim_records.specs.Grids.{grid};
 ghost use Rattle.oim_rows.specs.Header.{file_fault, file_header_fault};
 ghost use Rattle.oim_rows.specs.RowFacts.{id_place_of, ids_after, row_fault, row_result};
-ghost use Rattle.oim_rows.specs.Streams.{OrNoMemory, stream_of};
+ghost use Rattle.oim_rows.specs.Streams.{OrNoMemory, stream_from, stream_of};
 ghost use Rattle.oim_rows.specs.state.Streams.{early_row_answer};
 ghost use Rattle.oim_decode.specs.state.Blocks.{AddsNone, AddsRow, CountsRow, TakesOne, has_row};
 ghost use Rattle.oim_decode.specs.state.Heads.{IsHeaderFault};
@@ -109,6 +109,39 @@ impl<'a, R: Read + Drop> TextRows<'a, R> {
             given: 0,
             rest: None,
         })
+    }
+}
+
+impl<'a, R: Read + Drop> TextRows<'a, R> {
+    /// Continues a table after the first `given` rows, which have the identifiers `ids`, with the
+    /// rows that `records` has. Takes no memory.
+    pub(crate) fn after(
+        alloc: Global,
+        header: TableHeader<'a>,
+        texts: RowTexts<'a>,
+        ids: RowIds,
+        given: u32,
+        records: RecordReader<R>,
+    ) -> TextRows<'a, R>
+        requires texts { texts ≡ header }
+        requires rows { given ≤ header.limit }
+        requires limit { header.limit ≤ 4294967294 }
+        ensures header { result.header ≡ header.entry }
+        ensures given { result.given ≡ given }
+        ensures left { result.left ≡ option_map (stream_from header.entry (given + 1) ids) records.left }
+        ensures unread { result.unread ≡ records.left }
+        ensures closed { result.rest ≡ None }
+    {
+        TextRows {
+            alloc,
+            header,
+            texts,
+            records,
+            ids,
+            no_ids: RowIds::new(alloc),
+            given,
+            rest: None,
+        }
     }
 }
 

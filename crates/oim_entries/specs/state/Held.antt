@@ -7,12 +7,9 @@ use Rattle.oim_entries.specs.declared.type_words.TypeWords.TheVariants.{Plain, W
 use Rattle.oim_entries.specs.declared.fields.TypeRecord.{TypeRecord}
 use Rattle.oim_entries.specs.TypeWords.{Table, TypeTexts, by_three, by_type, plain_words, wider_words}
 use Rattle.oim_entries.specs.BadEntries.{BadRecord}
-use Rattle.oim_entries.specs.CsvFiles.{fault_of_read}
-use Rattle.oim_entries.specs.EntryFaults.{meta_fault}
 use Rattle.oim_entries.specs.declared.entry_fault.EntryFault.{EntryFault}
 use Rattle.oim_entries.specs.declared.entry_fault.Refused.{Refused}
 use Rattle.oim_entries.specs.declared.entry_fault.Refused.TheVariants.{Bad, Unread}
-use Rattle.oim_entries.specs.declared.fault.MetaFault.{MetaFault}
 use Rattle.oim_records.specs.Grids.{Record}
 
 -- The bytes of two texts, and of three.
@@ -31,11 +28,6 @@ abbrev pub table_in : TypeWords → Table
 table_in Plain = by_type plain_words
 table_in Wider = by_type wider_words
 table_in Longest = by_three
-
--- The published fault of a file whose bad records have this one.
-abbrev pub refused_fault : MetaFault → Refused → MetaFault
-refused_fault bad (Unread fault) = fault_of_read fault
-refused_fault bad (Bad e) = meta_fault bad e.problem
 
 -- What a call returns for this answer. Reading may end early.
 abbrev pub Answers : {S : Type 0} → Result S Refused → Result S EntryFault → Type 0

@@ -33,6 +33,7 @@ fn write_byte(memory: &mut [u8], at: usize, byte: u8) -> usize
 }
 
 /// Writes a number of decimals from 0 to 9 with a comma after it, and returns where it ends.
+/// Without it, by `write_places`: `positions` +1.6 %, `mixed` +1.3 %, `ids` +1.3 %.
 #[inline(always)]
 fn write_digit(memory: &mut [u8], from: usize, digit: u8) -> usize
     requires memory { from + 32 ≤ length memory.old }
@@ -332,6 +333,8 @@ fn put_value(out: &mut TextBuffer, value: &Value<'_>) -> Result<(), AllocError>
 
 /// Appends a fact whose value is long. It appends the fact of the empty text first, and then
 /// replaces the end. Returns false, and appends nothing, if the fast way leaves it.
+///
+/// Without it, by the plain way: `block` +124 %, which has one text of 1 MB.
 #[cold]
 #[inline(never)]
 fn put_long(
@@ -386,6 +389,7 @@ fn put_any(
 
 /// Does the work of `put_any` for a value that is nil or has a suffix. It is a call of its own
 /// because the other values are more frequent and are inlined.
+/// Without it: `wide` +3.7 %, `positions` +0.8 %, `ids` +0.7 %.
 #[inline(never)]
 fn put_unsettled(
     frame: &FrameText,

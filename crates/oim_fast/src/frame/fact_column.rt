@@ -20,6 +20,7 @@ use oim_text::{TextBuffer, put_escaped};
 use std::alloc::{AllocError, Global};
 
 /// How many of a column's last frames are tried first.
+/// With one: `positions` +3.5 %, `mixed` +2.8 %, `ids` +2.6 %, `texts` +1.1 %.
 pub(crate) const GUESSES: usize = 4;
 
 /// A column of facts: its place in the template and in the header, and its columns of property

@@ -59,6 +59,8 @@ impl FactStart {
 
     /// Moves to a row whose number is one more than that of the last row, if only the last digit
     /// changes, and returns true. Otherwise changes nothing and returns false.
+    ///
+    /// Without it: `positions` +2.1 %, `datapoints` +1.6 %.
     #[inline(always)]
     fn step(&mut self, row: &TableRow<'_, '_>) -> bool
         requires { IsStartOf row.now.header self.old }

@@ -249,7 +249,7 @@ impl Frames {
 
     /// Returns the place of the column's frame in the current row for the kind of the concept that
     /// the reference names. Returns None if the kind is not known.
-    #[inline(never)]
+    #[inline(always)]
     fn by_concept<'a>(
         &mut self,
         alloc: Global,

@@ -1,4 +1,6 @@
 //! Comparison of the kinds of concepts.
+//!
+//! With the derived `==`: `wide` +5.2 %, `positions` +2.9 %, `ids` +2.4 %, `mixed` +2.0 %.
 
 ghost use Rattle.std.specs.Prelude.{◌≡◌, true};
 

@@ -33,22 +33,10 @@ pub(crate) struct CellWriter<'a> {
     pub(crate) value: ValueMemory,
 }
 
-/// Records the end of a text, if one was written after the first `before` bytes.
+/// Records the end of a text, if one was written after the first `before` bytes. The list has spare
+/// capacity.
 #[inline(always)]
-fn note_end(before: usize, end: usize, ends: &mut Vec<usize>) -> Result<(), AllocError>
-    ensures more { OnOk result (before < end → ends.new.items ≡ ends.old.items ++ end ∷ []) }
-    ensures none { OnOk result (end ≤ before → ends.new.items ≡ ends.old.items) }
-    ensures stays { IsPrefix ends.old.items ends.new.items }
-{
-    if before < end {
-        ends.push(end)?;
-    }
-    Ok(())
-}
-
-/// Records the end of a text as `note_end` does. The list has spare capacity.
-#[inline(always)]
-fn note_reserved(before: usize, end: usize, ends: &mut Vec<usize>)
+fn note_end(before: usize, end: usize, ends: &mut Vec<usize>)
     requires { vec_len ends.old < vec_capacity ends.old }
     ensures more { before < end → ends.new.items ≡ ends.old.items ++ end ∷ [] }
     ensures none { end ≤ before → ends.new.items ≡ ends.old.items }
@@ -60,22 +48,17 @@ fn note_reserved(before: usize, end: usize, ends: &mut Vec<usize>)
     }
 }
 
-/// The most facts that a block of texts has.
-const BLOCK: usize = 256;
+/// A loop over the cells of a whole row. `put_cell` is large, and a proved program calls what is
+/// large unless one place has it. So each of the three loops has a `put_cell` of its own.
+///
+/// Without it, by a call for each cell: `positions` +2.4 %, `ids` +2.2 %, `mixed` +2.1 %.
+struct WholeRow;
 
-/// Takes memory for the ends of `count` more texts, at first for a whole block.
-#[inline(always)]
-fn reserve_ends(ends: &mut Vec<usize>, count: usize) -> Result<(), AllocError>
-    ensures items { ends.new.items ≡ ends.old.items }
-    ensures room { OnOk result (vec_len ends.new + count ≤ vec_capacity ends.new) }
-{
-    let more = if ends.is_empty() {
-        count.max(BLOCK)
-    } else {
-        count
-    };
-    ends.reserve(more)
-}
+/// A loop over the cells of a part of a row.
+struct RowPart;
+
+/// A loop over cells that are only tested.
+struct RowTest;
 
 /// Returns whether the cell at a place has no fact, so that nothing else of its column matters.
 #[cold]
@@ -157,7 +140,7 @@ impl<'a> CellWriter<'a> {
     /// Appends the fact of the current row in the column at a place, with a comma before it, if it
     /// has one. Returns false, and appends nothing, if the fast way leaves it.
     #[inline(always)]
-    fn put_cell(
+    fn put_cell<Loop>(
         &mut self,
         alloc: Global,
         row: &TableRow<'a, '_>,
@@ -214,15 +197,15 @@ impl<'a> CellWriter<'a> {
         ensures facts { IfOk result (λ written. written ≡ true → WritesFacts row.now out.old.items out.new.items ends.old.items ends.new.items) }
     {
         let count = self.columns.len();
-        reserve_ends(ends, count)?;
+        ends.reserve(count)?;
         for i in 0..count {
             let before = out.len();
-            let done = self.put_cell(alloc, row, i, out)?;
+            let done = self.put_cell::<WholeRow>(alloc, row, i, out)?;
             if !done {
                 return Ok(false);
             }
             let end = out.len();
-            note_end(before, end, ends)?;
+            note_end(before, end, ends);
         }
         Ok(true)
     }
@@ -250,15 +233,15 @@ impl<'a> CellWriter<'a> {
         ensures long { IfOk result (λ o. IfSome o (λ next. next < length self.old.columns.items → most < length out.new.items)) }
     {
         let count = self.columns.len();
-        reserve_ends(ends, count - from)?;
+        ends.reserve(count - from)?;
         for i in from..count {
             let before = out.len();
-            let done = self.put_cell(alloc, row, i, out)?;
+            let done = self.put_cell::<RowPart>(alloc, row, i, out)?;
             if !done {
                 return Ok(None);
             }
             let end = out.len();
-            note_reserved(before, end, ends);
+            note_end(before, end, ends);
             if end > most {
                 return Ok(Some(i + 1));
             }
@@ -285,7 +268,7 @@ impl<'a> CellWriter<'a> {
     {
         for i in from..self.columns.len() {
             let before = out.len();
-            let done = self.put_cell(alloc, row, i, out)?;
+            let done = self.put_cell::<RowTest>(alloc, row, i, out)?;
             if !done {
                 return Ok(false);
             }

@@ -63,10 +63,6 @@ next_row f = first_row_of f.pieces f.cutter.next
 abbrev pub stream_in : UnderWayLeft → Option Stream
 stream_in f = rows_left f.header f.ids f.pieces f.cutter.next f.cutter.left
 
--- The stream does not change, if it was known.
-abbrev pub KeepsStream : Option Stream → Option Stream → Type 0
-KeepsStream old new = IfSome old (λ s. new ≡ Some s)
-
 -- What is left after a piece: only its fault, or else what follows.
 abbrev pub fault_or_left : Option TableFault → Option Stream → Option Stream
 fault_or_left None next = next
@@ -89,12 +85,6 @@ IsEndOfTable table left (Some e) = IsOutside table e
 
 abbrev pub steps_in : UnderWayLeft → Option ℕ
 steps_in f = steps_for (length f.pieces) f.cutter.unread
-
--- There are no more steps than before, if their number was known.
-abbrev pub NoMoreSteps : Option ℕ → Option ℕ → Type 0
-NoMoreSteps None new = ⊤
-NoMoreSteps (Some n) None = ⊥
-NoMoreSteps (Some n) (Some m) = m ≤ n
 
 -- The first piece under way was joined to rows with the identifiers `ids`, which become `ids'`.
 pub record IsFront (piece : PieceRowsLeft) (ids : List Field) (s : Stream) (ids' : List Field) : Type 0 where

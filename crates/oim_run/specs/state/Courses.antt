@@ -1,8 +1,6 @@
 -- Conversions by the settings of a run, and on one thread.
-use Rattle.std.specs.Prelude.{ℕ, ◌==◌, if◌then◌else◌, List, Option, Some, None}
+use Rattle.std.specs.Prelude.{ℕ, List}
 use Rattle.oim_convert.specs.Answer.{streams}
-use Rattle.oim_convert.specs.declared.fault.ConvertFault.{ConvertFault}
-use Rattle.oim_convert.specs.declared.fault.ConvertFault.TheVariants as fault
 use Rattle.oim_files.specs.Folders.{Files}
 use Rattle.oim_files.specs.Metadata.{profile}
 use Rattle.oim_json.specs.Sinks.{SinkView}
@@ -17,10 +15,6 @@ use Rattle.oim_run.specs.declared.outcome.Outcome.{Outcome}
 -- The course of a conversion on one thread.
 abbrev pub alone : Limits → Layout → Course
 alone limits layout = record { workers = 1; ring = 1; limits = limits; layout = layout }
-
--- The fault of a conversion whose settings are in range.
-abbrev pub reader_fault : (readers tables : ℕ) → Option ConvertFault
-reader_fault readers tables = if readers == tables then None else Some fault.WrongReaders
 
 -- The end of the conversion of a report whose tables have their files in a folder.
 abbrev pub EndsIn : Files → (base : List ℕ) → ReportValue → (workers ring : ℕ) → Layout → SinkView → SinkView → Outcome → Type 0

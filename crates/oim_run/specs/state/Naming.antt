@@ -2,7 +2,6 @@
 -- names one after another.
 use Rattle.std.specs.Prelude.{ℕ, List, [], ◌∷◌, Result, Ok, Err, slice_set, map, slice_index_or}
 use Rattle.oim_convert.specs.declared.fault.ConvertFault.{ConvertFault}
-use Rattle.oim_convert.specs.declared.fault.ConvertFault.TheVariants as fault
 use Rattle.oim_convert.specs.declared.run.Run.{Run}
 use Rattle.oim_merge.specs.declared.progress.MergeEnd.{MergeEnd}
 use Rattle.oim_merge.specs.declared.progress.MergeEnd.TheVariants as end
@@ -32,14 +31,3 @@ outcome_at names faults (end.Write w) = outcome.Output w
 abbrev pub outcome_by : List (List ℕ) → Result Run ConvertFault → Outcome
 outcome_by names (Ok run) = outcome_at names run.faults.items run.end
 outcome_by names (Err f) = outcome.Run f
-
--- The same for a conversion on one thread.
-abbrev pub outcome_alone : List (List ℕ) → Result (Unit {0}) ConvertFault → Outcome
-outcome_alone names (Ok u) = outcome.Done
-outcome_alone names (Err (fault.Tables faults)) = outcome.Tables (with_names names faults.items)
-outcome_alone names (Err (fault.Write w)) = outcome.Output w
-outcome_alone names (Err fault.BadWorkers) = outcome.Run fault.BadWorkers
-outcome_alone names (Err fault.BadSize) = outcome.Run fault.BadSize
-outcome_alone names (Err fault.WrongReaders) = outcome.Run fault.WrongReaders
-outcome_alone names (Err fault.Memory) = outcome.Run fault.Memory
-outcome_alone names (Err fault.Lost) = outcome.Run fault.Lost

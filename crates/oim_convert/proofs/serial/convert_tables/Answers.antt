@@ -1,17 +1,19 @@
-use Rattle.std.specs.Prelude.{◌≡◌, ◌∷◌, [], Ok, length}
-use Rattle.std.proofs.Common.{◌∙◌, ap, refl, subst, sym, arith}
+use Rattle.std.specs.Prelude.{◌≡◌, ◌∷◌, [], Ok, Err, length}
+use Rattle.std.proofs.Common.{◌∙◌, ap, refl, subst, sym, arith, rules}
 use Rattle.std.specs.Vec.Iter.{into_iter_items}
 use Rattle.oim_merge.specs.Histories.{refusals}
 use Rattle.oim_merge.specs.Writers.{WriterView}
 use Rattle.oim_ring.specs.declared.item.Item.TheVariants as items
 use Rattle.oim_convert.specs.state.Steps.{GaveTable}
 use Rattle.oim_convert.proofs.TableFiles.{nothing_left}
-use Rattle.oim_convert.proofs.SerialTables.{HasRead, continues_more, next_broke, next_read, none_read, read_begin, read_end, refusals_more, took_refusals}
+use Rattle.oim_convert.proofs.SerialTables.{HasRead, broken_tables, continues_more, ended_tables, next_broke, next_read, none_read, read_begin, read_end, refusals_more, took_refusals}
 use Rattle.oim_convert.proofs.serial.convert_tables.Goals as goal
 
-pub returns-in-Some-clause-reads : goal.returns-in-Some-clause-reads
-returns-in-Some-clause-reads g c =
-    none_read g.R.Read.remaining c.args.report.now c.args.limits.rows c.in-Some.fault c.args.writer.now.items c.args.readers.items c.requires.begun
+pub returns-in-Some : goal.returns-in-Some
+returns-in-Some g c =
+    let told = g.R.Read.remaining in let report = c.args.report.now in let limit = c.args.limits.rows in let readers = c.args.readers.items in let old = c.args.writer in
+    broken_tables told report limit readers old old (g.W.Sink.seen c.args.sink.now) c.requires.head refl c.args.faults.now.items (c.requires.empty ∙ sym (ap refusals c.requires.begun))
+    c.in-Some.fault c.requires.sink (none_read told report limit old.items readers c.requires.begun) (search rules)
 
 pub loop-reader-init : goal.loop-reader-init
 loop-reader-init g c =
@@ -23,14 +25,14 @@ loop-reader-init g c =
       faults = c.requires.empty ∙ sym (ap refusals c.requires.begun);
       count = (let none = ap length c.requires.empty in let len = c.args.faults.now.ok.0 in omega (arith, none, len));
       room = (let room = c.requires.room in let count = c.requires.count in omega (arith, room, count));
-      read = subst (λ rs. HasRead told report limit 0 c.args.writer.now.items c.args.readers.items rs) (sym all)
-          (read_begin told report limit c.args.writer.now.items c.args.readers.items c.requires.begun);
+      read = subst (λ rs. HasRead told report limit 0 c.args.writer.items c.args.readers.items rs) (sym all)
+          (read_begin told report limit c.args.writer.items c.args.readers.items c.requires.begun);
     }
 
 pub loop-reader-preserved : goal.loop-reader-preserved
 loop-reader-preserved g c =
     let told = g.R.Read.remaining in let report = c.args.report.now in let limit = c.args.limits.rows in let table = c.loop-reader.table in
-    let inv = c.loop-reader.invariant in let old = c.args.writer.now in let v = c.loop-reader.writer in
+    let inv = c.loop-reader.invariant in let old = c.args.writer in let v = c.loop-reader.writer in
     let u = c.convert_table.new.writer in let w = c.end_table.new.self in let took = c.in-Ok.ensures.took in
     let last = items.Ending c.numbered.result ∷ [] in
     let left = into_iter_items c.next.new.self in record {
@@ -46,23 +48,25 @@ loop-reader-preserved g c =
           w c.in-Ok.ending c.numbered.result u.sink c.end_table.ensures.items took c.numbered.ensures.own c.numbered.ensures.same;
     }
 
-pub returns-in-Err-clause-continues : goal.returns-in-Err-clause-continues
-returns-in-Err-clause-continues g c =
-    let u = c.convert_table.new.writer in let took = c.in-Err.ensures.took in
-    continues_more c.args.writer.now c.loop-reader.writer u took.blocks u.sink took.is c.loop-reader.invariant.continues
+pub returns-in-Err : goal.returns-in-Err
+returns-in-Err g c =
+    let told = g.R.Read.remaining in let report = c.args.report.now in let limit = c.args.limits.rows in let readers = c.args.readers.items in
+    let table = c.loop-reader.table in let reader = c.in-Some-reader.reader in let v = c.loop-reader.writer in let u = c.convert_table.new.writer in
+    let took = c.in-Err.ensures.took in let inv = c.loop-reader.invariant in
+    broken_tables told report limit readers c.args.writer u (g.W.Sink.seen c.convert_table.new.sink) c.requires.head
+    (continues_more c.args.writer v u took.blocks u.sink took.is inv.continues) c.loop-reader.faults.items
+    (took_refusals v u (λ facts. GaveTable told report table limit reader facts (Err c.in-Err.fault)) c.loop-reader.faults.items took inv.faults)
+    c.in-Err.fault c.in-Err.ensures.sink
+    (next_broke told report limit table v u reader readers (into_iter_items c.next.new.self)
+    (subst (λ xs. HasRead told report limit table v.items readers xs) c.in-Some-reader.ensures.steps.0 inv.read) c.in-Err.fault took)
+    c.in-Err.ensures.broken
 
-pub returns-in-Err-clause-reads : goal.returns-in-Err-clause-reads
-returns-in-Err-clause-reads g c =
-    let told = g.R.Read.remaining in let report = c.args.report.now in let limit = c.args.limits.rows in let table = c.loop-reader.table in
-    let v = c.loop-reader.writer in let u = c.convert_table.new.writer in let readers = c.args.readers.items in
-    next_broke told report limit table v u c.in-Some-reader.reader readers (into_iter_items c.next.new.self)
-    (subst (λ xs. HasRead told report limit table v.items readers xs) c.in-Some-reader.ensures.steps.0 c.loop-reader.invariant.read)
-    c.in-Err.fault c.in-Err.ensures.took
-
-pub returns-clause-reads : goal.returns-clause-reads
-returns-clause-reads g c =
-    let told = g.R.Read.remaining in let report = c.args.report.now in let limit = c.args.limits.rows in
-    let table = c.loop-reader.table in let given = c.loop-reader.writer.items in let readers = c.args.readers.items in
+pub returns : goal.returns
+returns g c =
+    let told = g.R.Read.remaining in let report = c.args.report.now in let limit = c.args.limits.rows in let readers = c.args.readers.items in
+    let table = c.loop-reader.table in let w = c.loop-reader.writer in let inv = c.loop-reader.invariant in
     let over : into_iter_items c.loop-reader.reader-iterator ≡ [] =
     nothing_left (into_iter_items c.loop-reader.reader-iterator) (sym c.loop-reader.reader-iterator.rest.ok.0 ∙ c.in-None.ensures.steps.0) in
-    read_end told report limit table given readers (subst (λ xs. HasRead told report limit table given readers xs) over c.loop-reader.invariant.read)
+    ended_tables told report limit readers c.args.writer w (g.W.Sink.seen c.finish.new.sink) c.requires.head inv.continues c.loop-reader.faults.items inv.faults
+    (read_end told report limit table w.items readers (subst (λ xs. HasRead told report limit table w.items readers xs) over inv.read))
+    c.finish.result c.finish.ensures

@@ -7,6 +7,8 @@ use Rattle.oim_meta.specs.WalkReport.{in_metadata}
 use Rattle.oim_meta.specs.declared.refusal.Refusal.TheVariants.{Found}
 use Rattle.oim_files.specs.Metadata.{profile, report_in}
 use Rattle.oim_files.specs.Steps.{TakesTo, looking}
+use Rattle.oim_files.specs.declared.early_fault.EarlyFault.TheVariants as early
+use Rattle.oim_files.specs.declared.early_fault.Source.TheVariants as source
 use Rattle.oim_files.proofs.MetadataFacts.{value_refuses, value_says}
 use Rattle.oim_files.proofs.StepFacts.{looks_finding, looks_memory, looks_value}
 use Rattle.oim_files.proofs.steps.report_in.Goals as goal
@@ -22,10 +24,12 @@ returns-in-Ok c = record {
 pub returns-in-Err-Found : goal.returns-in-Err-Found
 returns-in-Err-Found c = record {
   gives =
-      looks_finding (report_in profile c.args.parameters c.args.types (view c.args.metadata)) c.in-Err-Found.finding
+      let answer = report_in profile c.args.parameters c.args.types (view c.args.metadata) in
+      subst (λ x. TakesTo (looking answer ∷ []) answer (Err (early.Report source.Report x))) (sym c.of_metadata-fault.ensures)
+      (looks_finding answer c.in-Err-Found.finding
       (value_refuses profile c.args.parameters c.args.types (view c.args.metadata) c.in-Err-Found.finding
       (subst (λ l. IsFirstOf (in_metadata l c.args.parameters c.args.types (view c.args.metadata)) (Found c.in-Err-Found.finding)) c.profile.ensures
-      (rw c.in-Err-Found.field-0-is at c.in-Err-Found.ensures.fault)));
+      (rw c.in-Err-Found.field-0-is at c.in-Err-Found.ensures.fault))));
 }
 
 pub returns-in-Err-Memory : goal.returns-in-Err-Memory

@@ -6,8 +6,8 @@ use Rattle.oim_rows.proofs.Places.{take-field_at}
 use Rattle.oim_rows.proofs.header.columns_of.Goals as goal
 
 pub loop-i-preserved : goal.loop-i-preserved
-loop-i-preserved c =
-    let fields = c.args.row.now in
+loop-i-preserved g c =
+    let fields = g.C.Cells.cells c.args.row.now in
     let columns = columns_of c.args.report.now c.args.table in
     let more = take-field_at fields c.loop-i.i c.field.result.now c.field.ensures in
     let joined : header_of columns (take (c.loop-i.i + 1) fields) ≡ header_of columns (take c.loop-i.i fields) ++ named_column columns c.field.result.now ∷ [] =

@@ -4,4 +4,4 @@ use Rattle.oim_rows.specs.Header.{header_of}
 use Rattle.oim_rows.proofs.header.columns_of.Given as goal
 
 abbrev pub invariant-loop-i : goal.invariant-loop-i
-invariant-loop-i l = l.header.items ≡ header_of (columns_of l.report l.table) (take l.i l.row)
+invariant-loop-i g l = l.header.items ≡ header_of (columns_of l.report l.table) (take l.i (g.C.Cells.cells l.row))

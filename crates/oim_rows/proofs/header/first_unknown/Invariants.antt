@@ -5,4 +5,4 @@ use Rattle.oim_rows.specs.Header.{is_unknown}
 use Rattle.oim_rows.proofs.header.first_unknown.Given as goal
 
 abbrev pub invariant-loop-i : goal.invariant-loop-i
-invariant-loop-i l = position_from (is_unknown (columns_of l.report l.table)) 0 l.row ≡ position_from (is_unknown (columns_of l.report l.table)) l.i (drop l.i l.row)
+invariant-loop-i g l = position_from (is_unknown (columns_of l.report l.table)) 0 (g.C.Cells.cells l.row) ≡ position_from (is_unknown (columns_of l.report l.table)) l.i (drop l.i (g.C.Cells.cells l.row))

@@ -1,13 +1,14 @@
-use Rattle.std.proofs.Common.{◌≡◌, subst, IfSome, List, ℕ, Option}
+use Rattle.std.proofs.Common.{◌≡◌, subst, IfSome, List, ℕ, Option, None}
 use Rattle.oim_json.specs.Sinks.{SinkView}
 use Rattle.oim_json.specs.declared.layout.Layout.{Layout}
 use Rattle.oim_convert.specs.Answer.{streams}
 use Rattle.oim_files.specs.Metadata.{profile}
 use Rattle.oim_files.specs.Folders.{Files}
-use Rattle.oim_run.specs.Outcomes.{EndsAs}
+use Rattle.oim_run.specs.Outcomes.{EndsAs, Leaves}
 use Rattle.oim_run.specs.Runs.{EndsOver, range_fault, table_files}
 use Rattle.oim_run.specs.declared.outcome.Outcome.{Outcome}
-use Rattle.oim_run.proofs.Endings.{alone_left, alone_over, early_leaves, runs, stops}
+use Rattle.oim_run.proofs.Answered.{as_one}
+use Rattle.oim_run.proofs.Endings.{alone_over, early_leaves, runs, stops}
 use Rattle.oim_run.proofs.running.run.Goals as goal
 
 -- The paths as the settings have them.
@@ -33,8 +34,9 @@ returns-then-is_alone-clause-ends g c =
 
 pub returns-then-is_alone-clause-leaves : goal.returns-then-is_alone-clause-leaves
 returns-then-is_alone-clause-leaves g c =
-    alone_left c.args.settings.now.workers c.args.settings.now.ring (g.W.Sink.seen c.args.sink.now) (g.W.Sink.seen c.run_alone.new.sink) c.run_alone.result
-    (c.is_alone.ensures.one c.if-is_alone.true) (c.is_alone.ensures.alone c.if-is_alone.true 0 0) c.run_alone.ensures.leaves
+    as_one (λ workers early. Leaves workers early (g.W.Sink.seen c.args.sink.now) (g.W.Sink.seen c.run_alone.new.sink) c.run_alone.result) c.args.settings.now.workers
+    (range_fault c.args.settings.now.workers c.args.settings.now.ring) None (c.is_alone.ensures.one c.if-is_alone.true) (c.is_alone.ensures.alone c.if-is_alone.true 0 0)
+    c.run_alone.ensures.leaves
 
 pub returns-in-Err-clause-ends : goal.returns-in-Err-clause-ends
 returns-in-Err-clause-ends g c =

@@ -4,7 +4,7 @@ use Rattle.oim_text.proofs.copies.copy_padded.Given as goal
 
 abbrev pub invariant-loop-done : goal.invariant-loop-done
 invariant-loop-done l = record {
-  within : l.done ≤ l.len;
+  within : l.done ≤ l.len + 32;
   bytes : Placed l.fn.memory l.memory l.at (take l.done l.text) (l.at + l.done);
 }
 

@@ -1,5 +1,6 @@
 use Rattle.std.proofs.Common.{◌≡◌}
-use Rattle.oim_pieces.specs.state.PiecesUnderWay.{KeepsStream, NoMoreSteps, next_row, steps_in, stream_in}
+use Rattle.oim_pieces.specs.PiecesLeft.{KeepsStream, NoMoreSteps}
+use Rattle.oim_pieces.specs.state.PiecesUnderWay.{next_row, steps_in, stream_in}
 use Rattle.oim_pieces.proofs.pieces_under_way.PiecesUnderWay.cut_ahead.Given as goal
 
 abbrev pub invariant-loop : goal.invariant-loop

@@ -1,8 +1,8 @@
 use Rattle.std.proofs.Common.{ap, refl, sym, subst, ◌∙◌}
 use Rattle.oim_rows.specs.Streams.{facts_of_rows}
 use Rattle.oim_decode.specs.state.Blocks.{end_or_left}
-use Rattle.oim_pieces.specs.PiecesLeft.{PiecesLeft}
-use Rattle.oim_pieces.specs.state.PiecesUnderWay.{KeepsStream, stream_in}
+use Rattle.oim_pieces.specs.PiecesLeft.{KeepsStream, PiecesLeft}
+use Rattle.oim_pieces.specs.state.PiecesUnderWay.{stream_in}
 use Rattle.oim_pieces.proofs.Gives.{fault_given, piece_given, short_given}
 use Rattle.oim_pieces.proofs.table_pieces.TablePieces.next_blocks.Goals as goal
 

@@ -1,11 +1,9 @@
-use Rattle.std.proofs.Common.{◌∙◌, ap, length}
-use Rattle.std.proofs.lemmas.List.FromFn.{length-map-range_with_len}
-use Rattle.oim_report.specs.Readers.{columns_of}
-use Rattle.oim_resolve.specs.declared.fact.Row.{Row}
-use Rattle.oim_rows.specs.RowFacts.{cell_at}
+use Rattle.std.proofs.Common.{subst}
+use Rattle.oim_rows.specs.RowFacts.{facts_from, row_of}
+use Rattle.oim_rows.specs.Streams.{OrNoMemory}
 use Rattle.oim_rows.proofs.row_plan.RowPlan.facts.Goals as goal
 
-pub facts_of_row-requires-clause-cells : goal.facts_of_row-requires-clause-cells
-facts_of_row-requires-clause-cells c =
-    ap (λ (r : Row). length r.cells) c.in-Ok.ensures
-    ∙ length-map-range_with_len (cell_at c.args.self.now.columns c.args.row.now) 0 (length (columns_of c.args.self.now.report c.args.self.now.table))
+pub returns-in-Ok : goal.returns-in-Ok
+returns-in-Ok c =
+    let plan = c.args.self.now in
+    subst (λ r. OrNoMemory plan.table c.facts_of_cells.result (facts_from plan.report plan.table (row_of plan c.args.number r) 0 plan.columns)) c.in-Ok.ensures c.facts_of_cells.ensures

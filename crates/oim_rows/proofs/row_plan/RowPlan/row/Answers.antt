@@ -6,8 +6,8 @@ use Rattle.oim_rows.specs.RowFacts.{field_or_empty, source_of_column, cell_at}
 use Rattle.oim_rows.proofs.row_plan.RowPlan.row.Goals as goal
 
 pub returns : goal.returns
-returns c =
-    let fields = c.args.row.now in
+returns g c =
+    let fields = g.C.Cells.cells c.args.row.now in
     let columns = range_with_len 0 (length c.self.inside.columns.now) in
     let counted : length c.self.inside.columns.now ≡ length (columns_of c.self.inside.header.value.report c.self.inside.header.value.table) = ap length c.self.invariant.all_columns in
     let sources = c.as_slice.ensures.value ∙ c.self.invariant.sources_are in

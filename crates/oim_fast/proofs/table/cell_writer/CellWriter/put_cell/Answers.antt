@@ -18,7 +18,7 @@ use Rattle.oim_row.proofs.Texts.{empty_meaning}
 use Rattle.oim_fast.proofs.table.cell_writer.CellWriter.put_cell.Goals as goal
 
 pub returns-then-size-eq0-clause-cell : goal.returns-then-size-eq0-clause-cell
-returns-then-size-eq0-clause-cell c =
+returns-then-size-eq0-clause-cell g c =
     let x = c.args.row.now in
     let old = c.args.self.now in
     let k = c.index_mut-column.result.now in
@@ -33,7 +33,7 @@ returns-then-size-eq0-clause-cell c =
     subst (λ (n : ℕ). WritesFact (cell_result (cell_in x n)) c.args.out.now.items c.args.out.now.items) there (nothing_written x k.column c.args.out.now.items absent)
 
 pub returns-in_err-at-clause-row : goal.returns-in_err-at-clause-row
-returns-in_err-at-clause-row c =
+returns-in_err-at-clause-row g c =
     let x = c.args.row.now in
     let old = c.args.self.now in
     let k = c.index_mut-column.result.now in
@@ -49,7 +49,7 @@ returns-in_err-at-clause-row c =
     }
 
 pub returns-then-has_none-clause-row : goal.returns-then-has_none-clause-row
-returns-then-has_none-clause-row c =
+returns-then-has_none-clause-row g c =
     let x = c.args.row.now in
     let old = c.args.self.now in
     let k = c.index_mut-column.result.now in
@@ -65,7 +65,7 @@ returns-then-has_none-clause-row c =
     }
 
 pub returns-then-has_none-clause-cell : goal.returns-then-has_none-clause-cell
-returns-then-has_none-clause-cell c =
+returns-then-has_none-clause-cell g c =
     let x = c.args.row.now in
     let old = c.args.self.now in
     let k = c.index_mut-column.result.now in
@@ -76,7 +76,7 @@ returns-then-has_none-clause-cell c =
     subst (λ (n : ℕ). WritesFact (cell_result (cell_in x n)) c.args.out.now.items c.args.out.now.items) there (nothing_written x k.column c.args.out.now.items absent)
 
 pub returns-in_default-clause-row : goal.returns-in_default-clause-row
-returns-in_default-clause-row c =
+returns-in_default-clause-row g c =
     let x = c.args.row.now in
     let old = c.args.self.now in
     let k = c.index_mut-column.result.now in
@@ -92,7 +92,7 @@ returns-in_default-clause-row c =
     }
 
 pub returns-then-has_none-2-clause-row : goal.returns-then-has_none-2-clause-row
-returns-then-has_none-2-clause-row c =
+returns-then-has_none-2-clause-row g c =
     let x = c.args.row.now in
     let old = c.args.self.now in
     let k = c.index_mut-column.result.now in
@@ -108,7 +108,7 @@ returns-then-has_none-2-clause-row c =
     }
 
 pub returns-then-has_none-2-clause-cell : goal.returns-then-has_none-2-clause-cell
-returns-then-has_none-2-clause-cell c =
+returns-then-has_none-2-clause-cell g c =
     let x = c.args.row.now in
     let old = c.args.self.now in
     let k = c.index_mut-column.result.now in
@@ -119,7 +119,7 @@ returns-then-has_none-2-clause-cell c =
     subst (λ (n : ℕ). WritesFact (cell_result (cell_in x n)) c.args.out.now.items c.args.out.now.items) there (nothing_written x k.column c.args.out.now.items absent)
 
 pub returns-in_default-text-clause-row : goal.returns-in_default-text-clause-row
-returns-in_default-text-clause-row c =
+returns-in_default-text-clause-row g c =
     let x = c.args.row.now in
     let old = c.args.self.now in
     let k = c.index_mut-column.result.now in
@@ -135,7 +135,7 @@ returns-in_default-text-clause-row c =
     }
 
 pub returns-in-Some-quick_value-clause-row : goal.returns-in-Some-quick_value-clause-row
-returns-in-Some-quick_value-clause-row c =
+returns-in-Some-quick_value-clause-row g c =
     let x = c.args.row.now in
     let old = c.args.self.now in
     let k = c.index_mut-column.result.now in
@@ -151,7 +151,7 @@ returns-in-Some-quick_value-clause-row c =
     }
 
 pub returns-clause-row : goal.returns-clause-row
-returns-clause-row c =
+returns-clause-row g c =
     let x = c.args.row.now in
     let old = c.args.self.now in
     let k = c.index_mut-column.result.now in
@@ -167,7 +167,7 @@ returns-clause-row c =
     }
 
 pub put_fact-requires-clause-plain : goal.put_fact-requires-clause-plain
-put_fact-requires-clause-plain c =
+put_fact-requires-clause-plain g c =
     let x = c.args.row.now in
     let old = c.args.self.now in
     let k = c.index_mut-column.result.now in
@@ -187,7 +187,7 @@ put_fact-requires-clause-plain c =
     value_is_plain x.header.report t.kind (meaning_of field) v value
 
 pub put_fact-requires-clause-references : goal.put_fact-requires-clause-references
-put_fact-requires-clause-references c =
+put_fact-requires-clause-references g c =
     let x = c.args.row.now in
     let old = c.args.self.now in
     let k = c.index_mut-column.result.now in
@@ -200,7 +200,7 @@ put_fact-requires-clause-references c =
     of_references x.header rs _ _ t text.text
 
 pub returns-in-Some-quick_value-clause-cell : goal.returns-in-Some-quick_value-clause-cell
-returns-in-Some-quick_value-clause-cell c =
+returns-in-Some-quick_value-clause-cell g c =
     let x = c.args.row.now in
     let old = c.args.self.now in
     let k = c.index_mut-column.result.now in
@@ -223,7 +223,7 @@ returns-in-Some-quick_value-clause-cell c =
     c.put_fact.result c.put_fact.ensures)
 
 pub put_rare-requires : goal.put_rare-requires
-put_rare-requires c =
+put_rare-requires g c =
     let x = c.args.row.now in
     let old = c.args.self.now in
     let k = c.index_mut-column.result.now in
@@ -235,7 +235,7 @@ put_rare-requires c =
     of_references x.header rs _ _ t text.text
 
 pub returns-clause-cell : goal.returns-clause-cell
-returns-clause-cell c =
+returns-clause-cell g c =
     let x = c.args.row.now in
     let old = c.args.self.now in
     let k = c.index_mut-column.result.now in

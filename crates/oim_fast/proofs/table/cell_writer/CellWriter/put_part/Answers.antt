@@ -19,8 +19,8 @@ returns-in_err-done-clause-header c = again c.args.row.now _ c.put_cell.ensures.
 pub returns-then-not-done-clause-header : goal.returns-then-not-done-clause-header
 returns-then-not-done-clause-header c = again c.args.row.now _ c.put_cell.ensures.row
 
-pub returns-in_err-reserve_ends-clause-header : goal.returns-in_err-reserve_ends-clause-header
-returns-in_err-reserve_ends-clause-header c = again c.args.row.now c.args.self.now c.requires.row
+pub returns-in_err-reserve-clause-header : goal.returns-in_err-reserve-clause-header
+returns-in_err-reserve-clause-header c = again c.args.row.now c.args.self.now c.requires.row
 
 pub returns-clause-header : goal.returns-clause-header
 returns-clause-header c = again c.args.row.now _ c.loop-i.invariant.row
@@ -56,9 +56,9 @@ returns-then-end-most-clause-front c =
     let wrote = cell_done x (column_at x.header i) c.loop-i.out.items c.put_cell.new.out.items c.put_cell.result c.in_ok-done.done c.put_cell.ensures.cell c.in_ok-done.was c.if-not-done.false in
     let lt : i < length (fact_columns_in x.header x.header.columns) =
     omega (arith, c.len-count.ensures, columns_length x.header c.args.self.now.maker.cells.list.items c.args.self.now.columns.items c.requires.row.columns) in
-    let part = part_next x c.args.from i c.args.out.now.items c.loop-i.out.items c.put_cell.new.out.items c.args.ends.now.items c.loop-i.ends.items c.note_reserved.new.ends.items lt so.facts wrote
-    (λ h. c.note_reserved.ensures.more (omega (arith, h, c.len-before.ensures, c.len-end.ensures)) ∙ ap (λ (m : ℕ). c.loop-i.ends.items ++ m ∷ []) c.len-end.ensures)
-    (λ h. c.note_reserved.ensures.none (omega (arith, h, c.len-before.ensures, c.len-end.ensures))) in
+    let part = part_next x c.args.from i c.args.out.now.items c.loop-i.out.items c.put_cell.new.out.items c.args.ends.now.items c.loop-i.ends.items c.note_end.new.ends.items lt so.facts wrote
+    (λ h. c.note_end.ensures.more (omega (arith, h, c.len-before.ensures, c.len-end.ensures)) ∙ ap (λ (m : ℕ). c.loop-i.ends.items ++ m ∷ []) c.len-end.ensures)
+    (λ h. c.note_end.ensures.none (omega (arith, h, c.len-before.ensures, c.len-end.ensures))) in
     (part_stays part, part_ends_stay part)
 
 pub returns-then-end-most-clause-facts : goal.returns-then-end-most-clause-facts
@@ -69,15 +69,15 @@ returns-then-end-most-clause-facts c =
     let wrote = cell_done x (column_at x.header i) c.loop-i.out.items c.put_cell.new.out.items c.put_cell.result c.in_ok-done.done c.put_cell.ensures.cell c.in_ok-done.was c.if-not-done.false in
     let lt : i < length (fact_columns_in x.header x.header.columns) =
     omega (arith, c.len-count.ensures, columns_length x.header c.args.self.now.maker.cells.list.items c.args.self.now.columns.items c.requires.row.columns) in
-    part_next x c.args.from i c.args.out.now.items c.loop-i.out.items c.put_cell.new.out.items c.args.ends.now.items c.loop-i.ends.items c.note_reserved.new.ends.items lt so.facts wrote
-    (λ h. c.note_reserved.ensures.more (omega (arith, h, c.len-before.ensures, c.len-end.ensures)) ∙ ap (λ (m : ℕ). c.loop-i.ends.items ++ m ∷ []) c.len-end.ensures)
-    (λ h. c.note_reserved.ensures.none (omega (arith, h, c.len-before.ensures, c.len-end.ensures)))
+    part_next x c.args.from i c.args.out.now.items c.loop-i.out.items c.put_cell.new.out.items c.args.ends.now.items c.loop-i.ends.items c.note_end.new.ends.items lt so.facts wrote
+    (λ h. c.note_end.ensures.more (omega (arith, h, c.len-before.ensures, c.len-end.ensures)) ∙ ap (λ (m : ℕ). c.loop-i.ends.items ++ m ∷ []) c.len-end.ensures)
+    (λ h. c.note_end.ensures.none (omega (arith, h, c.len-before.ensures, c.len-end.ensures)))
 
 pub returns-then-end-most-clause-long : goal.returns-then-end-most-clause-long
 returns-then-end-most-clause-long c = λ _. omega (arith, c.if-end-most.true, c.len-end.ensures)
 
-pub note_reserved-requires : goal.note_reserved-requires
-note_reserved-requires c = omega (arith, c.loop-i.invariant.room, c.loop-i-test.true)
+pub note_end-requires : goal.note_end-requires
+note_end-requires c = omega (arith, c.loop-i.invariant.room, c.loop-i-test.true)
 
 pub loop-i-preserved : goal.loop-i-preserved
 loop-i-preserved c =
@@ -89,10 +89,10 @@ loop-i-preserved c =
     omega (arith, c.len-count.ensures, columns_length x.header c.args.self.now.maker.cells.list.items c.args.self.now.columns.items c.requires.row.columns) in
     record {
       row = c.put_cell.ensures.row;
-      facts = part_next x c.args.from i c.args.out.now.items c.loop-i.out.items c.put_cell.new.out.items c.args.ends.now.items c.loop-i.ends.items c.note_reserved.new.ends.items lt so.facts wrote
-          (λ h. c.note_reserved.ensures.more (omega (arith, h, c.len-before.ensures, c.len-end.ensures)) ∙ ap (λ (m : ℕ). c.loop-i.ends.items ++ m ∷ []) c.len-end.ensures)
-          (λ h. c.note_reserved.ensures.none (omega (arith, h, c.len-before.ensures, c.len-end.ensures)));
-      room = omega (arith, so.room, c.note_reserved.ensures.len, c.note_reserved.ensures.capacity);
+      facts = part_next x c.args.from i c.args.out.now.items c.loop-i.out.items c.put_cell.new.out.items c.args.ends.now.items c.loop-i.ends.items c.note_end.new.ends.items lt so.facts wrote
+          (λ h. c.note_end.ensures.more (omega (arith, h, c.len-before.ensures, c.len-end.ensures)) ∙ ap (λ (m : ℕ). c.loop-i.ends.items ++ m ∷ []) c.len-end.ensures)
+          (λ h. c.note_end.ensures.none (omega (arith, h, c.len-before.ensures, c.len-end.ensures)));
+      room = omega (arith, so.room, c.note_end.ensures.len, c.note_end.ensures.capacity);
     }
 
 pub loop-i-init : goal.loop-i-init
@@ -103,6 +103,6 @@ loop-i-init c =
     omega (arith, c.requires.from, columns_length x.header c.args.self.now.maker.cells.list.items c.args.self.now.columns.items c.requires.row.columns) in
     record {
       row = c.requires.row;
-      facts = subst (λ (ns : List ℕ). WritesPart x from from c.args.out.now.items c.args.out.now.items c.args.ends.now.items ns) (sym c.reserve_ends.ensures.items) (part_none x from c.args.out.now.items c.args.ends.now.items within);
-      room = omega (arith, c.in_ok-reserve_ends.ensures.room, c.requires.from, c.len-count.ensures);
+      facts = subst (λ (ns : List ℕ). WritesPart x from from c.args.out.now.items c.args.out.now.items c.args.ends.now.items ns) (sym c.reserve.ensures.items) (part_none x from c.args.out.now.items c.args.ends.now.items within);
+      room = omega (arith, c.in_ok-reserve.ensures.ok, c.requires.from, c.len-count.ensures);
     }

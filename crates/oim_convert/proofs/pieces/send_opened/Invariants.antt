@@ -1,7 +1,7 @@
 use Rattle.std.proofs.Common.{◌≡◌, [], IfSome}
 use Rattle.oim_convert.specs.Histories.{facts_in}
-use Rattle.oim_convert.proofs.SentFacts.{IsReading}
-use Rattle.oim_convert.proofs.pieces.send_left.Given as goal
+use Rattle.oim_convert.specs.state.Reading.{IsReading}
+use Rattle.oim_convert.proofs.pieces.send_opened.Given as goal
 
 abbrev pub invariant-loop : goal.invariant-loop
 invariant-loop g l = record {
