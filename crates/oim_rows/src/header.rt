@@ -166,7 +166,7 @@ pub(crate) fn read_header<R: Read + Drop>(
 }
 
 /// Returns what `read_header` returns, for records that the `csv` crate reads. `row` takes the
-/// header's.
+/// header's record.
 pub(crate) fn read_csv_header<R: Read>(
     alloc: Global,
     report: &Report,

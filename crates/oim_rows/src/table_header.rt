@@ -82,7 +82,7 @@ impl<'a> TableHeader<'a> {
     }
 
     /// Reads the header as `read` does, for records that the `csv` crate reads. `row` takes the
-    /// header's.
+    /// header's record.
     pub(crate) fn read_csv<R: Read>(
         alloc: Global,
         report: &'a Report,

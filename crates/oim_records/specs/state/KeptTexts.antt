@@ -21,13 +21,14 @@ IsFirstOf (x ∷ rest) r = r ≡ x
 abbrev pub BeginsWith : List ℕ → Record → Type 0
 BeginsWith text r = 0 < length r → IsFirstOf (records_left state.StartRecord text) r
 
--- The current record begins at `start` in the file's text, whose bytes from `at` on are those of
--- the text.
+-- The file's text: as long as the text, the same from `at` on, and its record at `start`, if it
+-- has a field, is the current record.
 pub record IsKeptFileOf (text : List ℕ) (at start : ℕ) (current : Record) (file : List ℕ) : Type 0 where
   pub long : length file ≡ length text
   pub left : drop at file ≡ drop at text
   pub begins : BeginsWith (drop start file) current
 
--- What is kept of the text that ends at `end`.
+-- A text that ends at `end`, past `start`, and what is kept of it: if the file's text is known, the
+-- current record begins at `start` in it.
 abbrev pub HoldsFile : Option (Option (List ℕ)) → List ℕ → ℕ → ℕ → ℕ → Record → Type 0
 HoldsFile kept bytes end at start current = (start ≤ end) × ((file : List ℕ) → file_text kept (take end bytes) ≡ Some file → IsKeptFileOf (take end bytes) at start current file)
