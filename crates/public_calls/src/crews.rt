@@ -1,8 +1,8 @@
 //! Calls of `oim_crew`, except those that need a scope of threads, which `oim_convert` makes.
 
 use oim_crew::{
-    Claims, Crew, Posts, Room, Seat, Serve, Shift, ShiftOf, Shifts, Site, Station, UnderWay,
-    all_idle, crew_of,
+    Claims, Crew, Posts, Room, Seat, Serve, Shift, ShiftOf, Shifts, Station, UnderWay, all_idle,
+    crew_of,
 };
 use std::alloc::{AllocError, Global};
 
@@ -51,21 +51,6 @@ fn results_of(shift: Shift<char, char>, _promise: &ShiftOf<char, Echo, (), ()>) 
     shift.done
 }
 
-/// Returns the things that the workers share.
-fn site_of<'s>(
-    nothing: &'s (),
-    server: &'s Echo,
-    claims: &'s Claims<char>,
-) -> Site<'s, char, Echo, (), ()> {
-    Site {
-        rt: nothing,
-        shared: nothing,
-        server,
-        spare: server,
-        claims,
-    }
-}
-
 /// Returns the shifts of a crew without a started worker.
 fn shifts_of(room: Room<char, char, Echo, (), ()>) -> Shifts<char, char> {
     let crew = UnderWay {
@@ -83,7 +68,6 @@ fn shifts_of(room: Room<char, char, Echo, (), ()>) -> Shifts<char, char> {
 fn is_ready(alloc: Global) -> Result<bool, AllocError> {
     let items = vec![in alloc; 'a', 'b']?;
     let crew: Crew<char, char, Echo, (), ()> = crew_of(alloc, items, 2)?;
-    let _ = site_of(&(), &Echo, &crew.claims);
     let (stations, room) = stations_of(crew.posts);
     let shifts = shifts_of(room);
     Ok(stations.len() == 2 && crew.stops.len() == 2 && all_idle(shifts.list.as_slice()))

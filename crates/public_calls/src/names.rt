@@ -1,8 +1,8 @@
 //! Calls of `oim_names`.
 
 use oim_names::{
-    Items, NameFault, Namespaces, Text, UnitKind, find, find_in_order, is_identifier, is_ncname,
-    is_plain_path, is_row_identifier, language, qname, sqname, unit,
+    Items, NameFault, Namespaces, Text, UnitKind, is_identifier, is_ncname, is_row_identifier,
+    language, qname, sqname, unit,
 };
 use std::alloc::{AllocError, Global};
 
@@ -33,11 +33,6 @@ fn tells_names() -> bool {
     is_identifier("a-b_1") && is_row_identifier("1a") && is_ncname("a.b") && !is_identifier("1a")
 }
 
-/// Checks the test of paths.
-fn tells_paths() -> bool {
-    is_plain_path("a/t1.csv") && !is_plain_path("../t1.csv")
-}
-
 /// Returns whether a text is a language.
 fn is_language(alloc: Global, text: &str) -> bool {
     matches!(language(alloc, text), Ok(Some(_)))
@@ -54,12 +49,6 @@ fn lists(items: &Items<Text>) -> bool {
     !items.is_empty() && items.iter().count() == 1
 }
 
-/// Returns the value of a name in a list.
-fn finds(entries: &[(Text, u8)]) -> bool {
-    let none: &[(Text, u8)] = &[];
-    find(entries, "a").is_none() && find_in_order(none, "a").is_none()
-}
-
 /// Returns whether the calls for names with prefixes answer as they must.
 fn hold_of_prefixes(alloc: Global) -> bool {
     match bound(alloc) {
@@ -71,18 +60,14 @@ fn hold_of_prefixes(alloc: Global) -> bool {
 /// Returns whether the calls for lists answer as they must.
 fn hold_of_lists(alloc: Global) -> bool {
     match listed(alloc) {
-        Ok(items) => lists(&items) && finds(&[]),
+        Ok(items) => lists(&items),
         Err(_) => false,
     }
 }
 
 /// Returns whether all calls answer as they must.
 fn hold(alloc: Global) -> bool {
-    tells_names()
-        && tells_paths()
-        && is_language(alloc, "en-GB")
-        && hold_of_prefixes(alloc)
-        && hold_of_lists(alloc)
+    tells_names() && is_language(alloc, "en-GB") && hold_of_prefixes(alloc) && hold_of_lists(alloc)
 }
 
 #[test]
