@@ -17,8 +17,9 @@ The tests are the crates of `TESTS`, which compile and run. The rules:
 
 The libraries are those of the program in crates.txt. Their public names are those of `pub use` and
 `pub mod` in `src/lib.rt`, and the methods of these types. A file uses a name if it imports it and
-has it elsewhere too, and a method if it has its name after a dot, `::` or `fn`. Comments, texts and
-ghost code do not count. Python 3.9 or later.
+has it elsewhere too, and a method if it has its name after a dot, `::` or `fn`. If the method is
+published, the file uses its type too. Comments, texts and ghost code do not count. Python 3.9 or
+later.
 """
 from __future__ import annotations
 
@@ -38,7 +39,8 @@ TESTS: Final = ("public_calls", "conversion_tests", "run_tests", "ring_tests", "
 PROGRAMS: Final = ("xbrl_json_cli", "xbrl_json_c")
 PAGE, PROMISES = TOP / "docs/PROVED.md", "What each crate promises"
 
-# What another program may call, by library. They keep their names and answers.
+# What another program may call, by library. These keep their names and answers. The numbers and
+# names of faults are published too: tests/fault_table.py compares them with docs/FAULTS.md.
 PUBLISHED: Final[dict[str, str]] = {
     "oim_names": """
         is_identifier is_row_identifier is_ncname qname sqname unit UnitKind language NameFault
@@ -95,6 +97,8 @@ GIVEN = re.compile(r"^pub (?:mod |use ((?:\w+::)*))(\{[^}]*\}|\w+);", re.M)
 
 # A public name: its library, and the name or `Type::method`.
 Name = tuple[str, str]
+# What each file of some crates uses.
+Uses = list[set[Name]]
 
 
 def page_of(library: str) -> str:
@@ -169,36 +173,45 @@ def published(known: dict[Name, Name]) -> set[Name]:
 
 def calls(used: set[Name], name: Name) -> bool:
     """Returns whether one of the names used is this one, or may be this method."""
-    return (("", name[1].split("::")[1]) if "::" in name[1] else name) in used
+    owner, _, method = name[1].rpartition("::")
+    return (("", method) if owner else name) in used
+
+
+def calls_surely(used: set[Name], name: Name) -> bool:
+    """Returns whether one of the names used is this one, or this method and its type are there."""
+    owner = name[1].partition("::")[0]
+    return calls(used, name) and (name[0], owner) in used
+
+
+def flaw(name: Name, is_published: bool, tests: Uses, above: Uses) -> str:
+    """Returns what is wrong with how the tests and the other crates call a name, or nothing."""
+    if is_published:
+        is_called = any(calls_surely(it, name) for it in tests)
+        return "" if is_called else "is published, and no test calls it"
+    is_called = name in INTERNAL or any(calls(it, name) for it in (*tests, *above))
+    return "" if is_called else "is called by no test and no other crate"
 
 
 def main() -> None:
     """Prints each name that is not called as it must be, and exits with 1 if there is one."""
     libraries = crates_below()["xbrl_json_cli"]
     known = origins(libraries)
-    used = {
-        crate: {it for source in sources_of(crate) for it in used_in(source, known)}
-        for crate in (*libraries, *PROGRAMS, *TESTS)
-    }
-    tested = {it for crate in TESTS for it in used[crate]}
-    text = "\n".join(source for crate in TESTS for source in sources_of(crate))
     kept = published(known)
+    crates = (*libraries, *PROGRAMS, *TESTS)
+    uses = {crate: [used_in(it, known) for it in sources_of(crate)] for crate in crates}
+    tests = [it for crate in TESTS for it in uses[crate]]
+    text = "\n".join(source for crate in TESTS for source in sources_of(crate))
     wrong, alone, right = [], [], 0
     for library in libraries:
         names = {it for crate, it in known.values() if crate == library} | methods_of(library)
-        above = {it for crate in (*libraries, *PROGRAMS) if crate != library for it in used[crate]}
+        above = [it for c in (*libraries, *PROGRAMS) if c != library for it in uses[c]]
         for name in sorted(names | {it for crate, it in kept if crate == library}):
-            if name not in names:
-                wrong.append(f"{library}: {name} is published, and does not exist")
-            elif calls(tested, (library, name)):
-                right += 1
-            elif (library, name) in kept:
-                wrong.append(f"{library}: {name} is published, and no test calls it")
-            elif calls(above, (library, name)) or (library, name) in INTERNAL:
-                right += 1
+            this = library, name
+            what = flaw(this, this in kept, tests, above) if name in names else "does not exist"
+            wrong += [f"{library}: {name} {what}"] if what else []
+            right += not what
+            if not what and not any(calls(it, this) for it in tests):
                 alone.append(f"{library}: {name}")
-            else:
-                wrong.append(f"{library}: {name} is called by no test and no other crate")
         shown = examples_of(page_of(library))
         wrong += [] if shown else [f"{library}: no example on its page"]
         wrong += [f"{library}: in no test: {it.splitlines()[0]}" for it in shown if it not in text]

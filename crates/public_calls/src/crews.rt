@@ -13,14 +13,20 @@ fn shares_out(alloc: Global) -> Result<bool, AllocError> {
     Ok(made.1.len() == 1)
 }
 
-/// Returns whether the only seat of claims of one item draws it.
-fn draws_one(alloc: Global) -> Result<bool, AllocError> {
+/// Returns whether the only seat of claims of one item draws it and then nothing, which ends them.
+fn draws_all(alloc: Global) -> Result<bool, AllocError> {
     let items = vec![in alloc; 'a']?;
     let (claims, mut seats) = Claims::new(alloc, items, 1)?;
-    match seats.pop() {
-        Some(mut seat) => Ok(claims.draw(&mut seat).is_some()),
-        None => Ok(false),
+    let Some(mut seat) = seats.pop() else {
+        return Ok(false);
+    };
+    let is_drawn = claims.draw(&mut seat) == Some((0, 'a'));
+    let is_last = claims.draw(&mut seat).is_none();
+    if is_last {
+        seats.push(seat)?;
+        claims.close(seats);
     }
+    Ok(is_drawn && is_last)
 }
 
 /// A server that gives each item back.
@@ -75,7 +81,7 @@ fn is_ready(alloc: Global) -> Result<bool, AllocError> {
 
 /// Returns whether each of these calls gives `true`.
 fn hold(alloc: Global) -> bool {
-    are_true(shares_out(alloc), draws_one(alloc), is_ready(alloc))
+    are_true(shares_out(alloc), draws_all(alloc), is_ready(alloc))
 }
 
 /// Returns whether all three are `true`.

@@ -23,6 +23,7 @@ fn bound(alloc: Global) -> Result<Namespaces, NameFault> {
 /// Checks the other readers of names and units.
 fn reads_names(names: &Namespaces) -> bool {
     names.len() == 1
+        && names.at(0) == ("xbrli", "http://www.xbrl.org/2003/instance")
         && names.uri("eg").is_none()
         && matches!(unit(names, "xbrli:pure"), Some(UnitKind::Pure))
         && sqname(names, "xbrli:a:b").is_some()
