@@ -17,6 +17,8 @@ EG = "http://example.com/eg"
 EURO = "iso4217:EUR"
 SHARES = "xbrli:shares"
 INSTANT = "2021-12-31T00:00:00"
+# More than 128 bytes, so the program keeps its members in order.
+LONG_SET = " ".join(f"eg:m{it}" for it in range(40))
 
 NUMBER, VALUE, FORM = "BadNumber (40)", "BadValue (36)", "BadFactValue (44)"
 UNIT, WRONG, MEMBER = "BadUnit (45)", "WrongPeriod (46)", "UnknownMember (47)"
@@ -109,9 +111,9 @@ WORDS: dict[str, Cells] = {
     "hexBinary": OCTETS,
     "enumeration": ({**same("eg:a"), " eg:a ": "eg:a"}, FORM, ["a", "zz:a", "eg:a eg:b", "#empty"]),
     "enumerations": (
-        {**same("eg:b eg:a"), " eg:a\t eg:b\n": "eg:a eg:b", "#empty": "", " \t": ""},
+        {**same("eg:b eg:a", LONG_SET), " eg:a\t eg:b\n": "eg:a eg:b", "#empty": "", " \t": ""},
         FORM,
-        ["eg:a eg:a", "a", "zz:a", "eg:a,eg:b", "eg:a zz:b"],
+        ["eg:a eg:a", "a", "zz:a", "eg:a,eg:b", "eg:a zz:b", f"{LONG_SET} eg:m7"],
     ),
     "other": ({**same(" a ", "TRUE"), "#empty": ""}, "", []),
 }

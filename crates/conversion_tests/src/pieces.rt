@@ -38,7 +38,7 @@ fn first_piece<'s, E, T: Threads + Wait + Sync + 's>(
 
 /// Returns whether a table that was just opened needs no spares, and gives back what it was
 /// given.
-fn keeps_rooms(rt: &(impl AllocGlobal + Wait), report: &Report, file: &[u8]) -> bool {
+fn keeps_spares(rt: &(impl AllocGlobal + Wait), report: &Report, file: &[u8]) -> bool {
     let alloc = rt.alloc();
     if report.tables() == 0 {
         return false;
@@ -256,7 +256,7 @@ fn has_a_block(
 pub(crate) fn hold(rt: &(impl AllocGlobal + Threads + Wait + Sync), report: &Report) -> bool {
     let at_work = AtWork::new(4, PIECE_SIZE);
     at_work.start();
-    let are_good = keeps_rooms(rt, report, b"cash\n1\n")
+    let are_good = keeps_spares(rt, report, b"cash\n1\n")
         && has_a_block(rt, &at_work, report, b"cash\n1\n");
     at_work.rest();
     are_good

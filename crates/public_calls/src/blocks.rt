@@ -2,7 +2,7 @@
 
 use crate::held::{NIL_FACT, Over, holds, nil_block, nil_fact};
 use oim_json::{
-    Block, Layout, Mark, Marked, Member, Sink, TAIL, WriteFault, block_of, fact_lists_are_one_line,
+    Block, Layout, Marked, Member, Sink, TAIL, block_of, fact_lists_are_one_line,
     facts_are_one_line, head, lines_are_members, member_of, tail, write_all_of, write_members,
 };
 use oim_meta::Report;
@@ -108,21 +108,6 @@ pub(crate) fn hold(alloc: Global, report: &Report) -> bool {
 fn calls_of_documents(rt: HostRuntime) {
     lines_are_members();
     assert!(rt; holds(rt.alloc(), Over::Blocks));
-}
-
-/// Returns the fault of a write of no bytes, and the mark that it leaves.
-fn is_zero(fault: WriteFault, mark: Mark) -> bool {
-    fault == WriteFault::Zero && mark == Mark::Zero
-}
-
-/// Returns whether facts have a text.
-fn have_text(alloc: Global, facts: &[Fact]) -> bool {
-    matches!(text_of(alloc, facts), Ok(Some(_)))
-}
-
-#[test]
-fn calls_of_faults_of_writes(rt: HostRuntime) {
-    assert!(rt; is_zero(WriteFault::Zero, Mark::Zero) && !have_text(rt.alloc(), &[]));
 }
 
 /// A writer that counts its calls and the bytes that it is offered. It fails at first, then takes

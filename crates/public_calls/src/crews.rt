@@ -1,8 +1,8 @@
 //! Calls of `oim_crew`, except those that need a scope of threads, which `oim_convert` makes.
 
 use oim_crew::{
-    Claims, Crew, Posts, Room, Seat, Serve, Shift, ShiftOf, Shifts, Site, Station, UnderWay,
-    all_idle, crew_of,
+    Claims, Crew, Posts, Room, Seat, Serve, Shift, ShiftOf, Shifts, Station, UnderWay, all_idle,
+    crew_of,
 };
 use std::alloc::{AllocError, Global};
 
@@ -13,14 +13,20 @@ fn shares_out(alloc: Global) -> Result<bool, AllocError> {
     Ok(made.1.len() == 1)
 }
 
-/// Returns whether the only seat of claims of one item draws it.
-fn draws_one(alloc: Global) -> Result<bool, AllocError> {
+/// Returns whether the only seat of claims of one item draws it and then nothing, which ends them.
+fn draws_all(alloc: Global) -> Result<bool, AllocError> {
     let items = vec![in alloc; 'a']?;
     let (claims, mut seats) = Claims::new(alloc, items, 1)?;
-    match seats.pop() {
-        Some(mut seat) => Ok(claims.draw(&mut seat).is_some()),
-        None => Ok(false),
+    let Some(mut seat) = seats.pop() else {
+        return Ok(false);
+    };
+    let is_drawn = claims.draw(&mut seat) == Some((0, 'a'));
+    let is_last = claims.draw(&mut seat).is_none();
+    if is_last {
+        seats.push(seat)?;
+        claims.close(seats);
     }
+    Ok(is_drawn && is_last)
 }
 
 /// A server that gives each item back.
@@ -51,21 +57,6 @@ fn results_of(shift: Shift<char, char>, _promise: &ShiftOf<char, Echo, (), ()>) 
     shift.done
 }
 
-/// Returns the things that the workers share.
-fn site_of<'s>(
-    nothing: &'s (),
-    server: &'s Echo,
-    claims: &'s Claims<char>,
-) -> Site<'s, char, Echo, (), ()> {
-    Site {
-        rt: nothing,
-        shared: nothing,
-        server,
-        spare: server,
-        claims,
-    }
-}
-
 /// Returns the shifts of a crew without a started worker.
 fn shifts_of(room: Room<char, char, Echo, (), ()>) -> Shifts<char, char> {
     let crew = UnderWay {
@@ -83,7 +74,6 @@ fn shifts_of(room: Room<char, char, Echo, (), ()>) -> Shifts<char, char> {
 fn is_ready(alloc: Global) -> Result<bool, AllocError> {
     let items = vec![in alloc; 'a', 'b']?;
     let crew: Crew<char, char, Echo, (), ()> = crew_of(alloc, items, 2)?;
-    let _ = site_of(&(), &Echo, &crew.claims);
     let (stations, room) = stations_of(crew.posts);
     let shifts = shifts_of(room);
     Ok(stations.len() == 2 && crew.stops.len() == 2 && all_idle(shifts.list.as_slice()))
@@ -91,7 +81,7 @@ fn is_ready(alloc: Global) -> Result<bool, AllocError> {
 
 /// Returns whether each of these calls gives `true`.
 fn hold(alloc: Global) -> bool {
-    are_true(shares_out(alloc), draws_one(alloc), is_ready(alloc))
+    are_true(shares_out(alloc), draws_all(alloc), is_ready(alloc))
 }
 
 /// Returns whether all three are `true`.

@@ -1,13 +1,9 @@
 //! Calls of `oim_resolve`.
 
 use crate::held::{Over, holds};
-use oim_cells::{CellMeaning, NumberKind};
-use oim_meta::{ColumnKind, Kind, Level, Report, Side, Written};
+use oim_meta::{ColumnKind, Report};
 use oim_names::{Items, Text};
-use oim_resolve::{
-    CellFault, Entry, Fact, FactValue, Role, Row, ValueText, fact_value, is_known_member, levels,
-    read_concept, read_set, read_value, resolve, side_of,
-};
+use oim_resolve::{CellFault, Fact, Row, resolve};
 use std::alloc::{AllocError, Global};
 
 /// Returns the fact of a row's first cell.
@@ -62,74 +58,4 @@ pub(crate) fn hold(alloc: Global, report: &Report) -> bool {
 #[test]
 fn calls_of_facts(rt: HostRuntime) {
     assert!(rt; holds(rt.alloc(), Over::Facts));
-}
-
-/// Returns whether a fact cell of this kind has a value that is its text.
-fn is_value(report: &Report, kind: Kind, text: &str) -> bool {
-    let value: Result<FactValue<'_>, CellFault> = fact_value(report, kind, CellMeaning::Text(text));
-    match value {
-        Ok(
-            FactValue {
-                text: Some(ValueText::Plain(found)),
-                ..
-            },
-        ) => found == text,
-        _ => false,
-    }
-}
-
-/// Returns whether a set of members is one, and is written with one space between them.
-fn is_set(alloc: Global, report: &Report, text: &str, written: &str) -> bool {
-    match read_set(alloc, report, text) {
-        Ok(Ok(found)) => found.as_str() == written && is_known_member(report, text),
-        _ => false,
-    }
-}
-
-/// Returns whether a cell names a concept of numbers.
-fn is_number(report: &Report, text: &str) -> bool {
-    matches!(
-        read_concept(report, CellMeaning::Text(text)),
-        Ok(Kind::Number(_))
-    )
-}
-
-/// Returns whether a dimension of this name is a unit, with this value.
-fn reads_a_unit(alloc: Global, report: &Report, name: &str, text: &str) -> bool {
-    let role = Role::of(report, name);
-    let value = CellMeaning::Text(text);
-    let found: Result<Entry, CellFault> = match read_value(
-        alloc,
-        report,
-        role,
-        Side::Whole,
-        value,
-    ) {
-        Ok(found) => found,
-        Err(_) => return false,
-    };
-    role == Role::Unit && found.is_ok()
-}
-
-/// Returns whether a level writes three dimensions and no decimals.
-fn has_names(alloc: Global, level: &Level) -> bool {
-    match levels::names(alloc, &[level]) {
-        Ok(names) => names.len() == 3 && levels::written_decimals(&[level]).is_none(),
-        Err(_) => false,
-    }
-}
-
-/// Returns whether the calls for cells and levels answer as they must.
-pub(crate) fn hold_of_cells(alloc: Global, report: &Report) -> bool {
-    is_value(report, Kind::Number(NumberKind::Integer), "7")
-        && is_set(alloc, report, " eg:b  eg:a", "eg:b eg:a")
-        && is_number(report, "eg:Cash")
-        && reads_a_unit(alloc, report, "unit", "iso4217:EUR")
-        && has_names(alloc, report.report_level())
-        && side_of(&Written::Nil) == Side::Whole
-}
-
-#[test]
-fn calls_of_cells_and_levels(rt: HostRuntime) {
-    assert!(rt; holds(rt.alloc(), Over::Cells));
 }

@@ -2,8 +2,7 @@
 
 use crate::held::{METADATA, TYPES};
 use oim_files::{
-    EarlyFault, Folder, Texts, folder_of, metadata_at, parameters_in, path_in, report_of,
-    report_with, types_in, url_in,
+    EarlyFault, Texts, folder_of, metadata_at, parameters_in, report_of, types_in, url_in,
 };
 use oim_meta::Report;
 use std::alloc::Global;
@@ -18,14 +17,6 @@ fn gives_one_table(alloc: Global, folder: &mut Texts<'_>) -> bool {
         "t.csv",
     );
     report.is_ok_and(|report| report.tables() == 1)
-}
-
-/// Returns whether they give it after the metadata is read.
-fn gives_it_later(alloc: Global, folder: &mut Texts<'_>) -> bool {
-    match metadata_at(alloc, folder, "f/m.json") {
-        Ok(metadata) => report_with(alloc, folder, "f/", metadata, "t.csv").is_ok(),
-        Err(_) => false,
-    }
 }
 
 /// Returns whether the metadata has the name of a parameters file.
@@ -44,14 +35,6 @@ fn reads_entries(alloc: Global, folder: &mut Texts<'_>) -> bool {
     types_in(alloc, folder, "t.csv").is_ok() && parameters_in(alloc, folder, "f/", None).is_ok()
 }
 
-/// Returns whether a file exists at the path of a file in a folder.
-fn finds(alloc: Global, folder: &mut Texts<'_>) -> bool {
-    match path_in(alloc, "f/", "m.json") {
-        Ok(path) => folder.find(path).is_some(),
-        Err(_) => false,
-    }
-}
-
 /// Returns whether the calls over a folder of these files answer as they must.
 fn hold(alloc: Global) -> bool {
     let files = [
@@ -60,10 +43,8 @@ fn hold(alloc: Global) -> bool {
     ];
     let folder = &mut Texts { files: &files };
     gives_one_table(alloc, folder)
-        && gives_it_later(alloc, folder)
         && reads_entries(alloc, folder)
         && !names_parameters(alloc, folder)
-        && finds(alloc, folder)
 }
 
 #[test]

@@ -1,7 +1,7 @@
-//! Each public name of the libraries below `oim_pieces` and `oim_places` in one call, in the form
-//! in which an outside caller writes it. The first call of a file is the one on its library's own
-//! page (`tests/public_calls.py` compares them). The crates `conversion_tests` and `run_tests` have
-//! the others.
+//! The published names of the libraries below `oim_pieces` and `oim_places`, and those that the
+//! program does not use. Each is in one call, in the form in which an outside caller writes it. The
+//! first call of a file is the example on its library's own page. The crates `conversion_tests` and
+//! `run_tests` have the others. `tests/public_calls.py` has the rules and checks them.
 #![tactic(auto)]
 
 #[cfg(test)]

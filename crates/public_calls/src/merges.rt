@@ -4,7 +4,7 @@ ghost use Rattle.std.specs.Prelude.{◌≡◌, [], IfOk};
 
 use crate::held::{NIL_FACT, nil_block};
 use oim_json::{Block, Layout, Marked};
-use oim_merge::{DocumentWriter, MergeEnd, merge};
+use oim_merge::{MergeEnd, merge};
 use oim_ring::{Drain, Ending, lane};
 use std::alloc::{AllocError, Global};
 use std::sync::Wait;
@@ -29,26 +29,10 @@ fn filled(alloc: Global, block: Block) -> Result<Drain, AllocError>
     Ok(drain)
 }
 
-/// Writes the same document without a ring.
-fn writes(alloc: Global, block: &Block) -> Result<bool, AllocError> {
-    let mut faults = Vec::with_capacity(alloc, 1)?;
-    let mut document = Vec::new(alloc);
-    let sink = &mut Marked::new(&mut document);
-    let mut writer = DocumentWriter::begin(Layout::Compact, b"", sink);
-    writer.put(block, sink);
-    writer.end_table(Ending::Closed, &mut faults);
-    Ok(writer.finish(sink) == MergeEnd::Complete)
-}
-
-/// Returns whether the fact's document is written in both ways.
-fn are_written(rt: &(impl AllocGlobal + Wait), block: Block) -> bool {
-    matches!(writes(rt.alloc(), &block), Ok(true)) && matches!(merges(rt, block), Ok(true))
-}
-
-/// Returns whether the calls answer as they must.
+/// Returns whether the fact's document is written.
 fn hold(rt: &(impl AllocGlobal + Wait)) -> bool {
     match nil_block(rt.alloc()) {
-        Ok(block) => are_written(rt, block),
+        Ok(block) => matches!(merges(rt, block), Ok(true)),
         Err(_) => false,
     }
 }

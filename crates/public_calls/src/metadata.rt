@@ -6,11 +6,10 @@ use oim_entries::{
     read_parameters_at, read_types_at,
 };
 use oim_meta::{
-    Finding, Limits, MetaFault, Metadata, Parameters, Refusal, Report, Types,
-    a_text_writes_one_value, a_walk_finds_all_faults, fault_is_of_earliest_record,
-    faults_of_shape_are_parts_without_it, first_fault_is_least, first_finding_is_least,
-    parameter_url, read_parameters, read_report, read_report_at, read_types,
-    types_are_of_all_records,
+    Finding, Limits, MetaFault, Parameters, Refusal, Report, Types, a_text_writes_one_value,
+    a_walk_finds_all_faults, fault_is_of_earliest_record, faults_of_shape_are_parts_without_it,
+    first_fault_is_least, first_finding_is_least, parameter_url, read_parameters, read_report,
+    read_report_at, read_types, types_are_of_all_records,
 };
 use std::alloc::Global;
 
@@ -30,24 +29,6 @@ fn reads_a_report(alloc: Global) -> Result<Report, MetaFault> {
 /// Returns whether a metadata names no parameters file.
 fn names_no_parameters(alloc: Global, metadata: &[u8]) -> bool {
     matches!(parameter_url(alloc, metadata, &Limits::profile()), Ok(None))
-}
-
-/// Reads a metadata's JSON once.
-fn reads_once(alloc: Global, bytes: &[u8]) -> Result<Metadata, MetaFault> {
-    Metadata::read(alloc, bytes, &Limits::profile())
-}
-
-/// Returns whether a metadata that was read has no name of a parameters file.
-fn names_none(alloc: Global, metadata: &Metadata) -> bool {
-    matches!(metadata.parameter_url(alloc), Ok(None))
-}
-
-/// Returns whether a metadata that was read is a report without types.
-fn says_a_report(alloc: Global, metadata: Metadata) -> bool {
-    let (parameters, types) = (Parameters::none(alloc), Types::none(alloc));
-    metadata
-        .report_at(alloc, parameters, types, Limits::profile())
-        .is_ok()
 }
 
 /// Whether a parameters file has this name.
@@ -106,14 +87,6 @@ fn is_a_report(alloc: Global) -> bool {
     }
 }
 
-/// Returns whether a metadata that was read once has no name of a parameters file, and is a report.
-fn says_all(alloc: Global) -> bool {
-    match reads_once(alloc, METADATA.as_bytes()) {
-        Ok(metadata) => names_none(alloc, &metadata) && says_a_report(alloc, metadata),
-        Err(_) => false,
-    }
-}
-
 #[test]
 fn calls_of_metadata(rt: HostRuntime) {
     first_fault_is_least();
@@ -124,7 +97,7 @@ fn calls_of_metadata(rt: HostRuntime) {
     fault_is_of_first_bad_record();
     faults_of_shape_are_parts_without_it();
     a_text_writes_one_value();
-    assert!(rt; is_a_report(rt.alloc()) && says_all(rt.alloc()));
+    assert!(rt; is_a_report(rt.alloc()));
 }
 
 /// Returns whether the calls for other files answer as they must.

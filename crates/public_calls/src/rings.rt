@@ -4,7 +4,7 @@ ghost use Rattle.std.specs.Prelude.{◌≡◌, IfOk};
 
 use crate::held::{NIL_FACT, nil_block};
 use oim_json::Block;
-use oim_ring::{CloseFault, Closed, Drain, Drained, Ending, Feed, Item, LARGEST_RING, Lanes, lane};
+use oim_ring::{CloseFault, Closed, Drain, Drained, Ending, Feed, Item, lane};
 use std::alloc::{AllocError, Global};
 
 /// Passes a block and the table's ending through a ring.
@@ -14,15 +14,6 @@ fn hands_over(alloc: Global, block: Block) -> Result<bool, AllocError> {
     let is_closed = feed.close(Ending::Closed).is_ok();
     let is_taken = matches!(drain.take(), Some(Item::Block(block)) if block.bytes() == NIL_FACT);
     Ok(is_put && is_closed && is_taken)
-}
-
-/// Returns whether a block waits in a ring, and another is given back, if one block may wait.
-fn bounds(alloc: Global, block: Block, other: Block) -> Result<bool, AllocError> {
-    let (mut feed, _drain) = lane(alloc, 4)?;
-    let is_put = feed.put_below(block, 1).is_ok();
-    let waits = feed.waiting_blocks() == 1;
-    let comes_back = feed.put_below(other, 1).is_err();
-    Ok(is_put && waits && comes_back)
 }
 
 /// Returns the token of a feed that was closed.
@@ -43,21 +34,12 @@ fn settles(drain: Drain, closed: Closed) -> Option<Drained>
     }
 }
 
-/// Returns the next ring of a report.
-fn opens_another(alloc: Global) -> Result<bool, AllocError> {
-    let mut lanes = Lanes::new(alloc, 4)?;
-    let (feed, drain) = lanes.open(alloc, LARGEST_RING)?;
+/// Returns whether a ring whose ending was taken is settled.
+fn ends(alloc: Global) -> Result<bool, AllocError> {
+    let (feed, drain) = lane(alloc, 4)?;
     match closed(feed) {
         Ok(closed) => Ok(settles(drain, closed).is_some()),
         Err(fault) => Ok(fault.number() == 66),
-    }
-}
-
-/// Returns whether a ring limits the count of waiting blocks.
-fn bounds_blocks(alloc: Global) -> bool {
-    match (nil_block(alloc), nil_block(alloc)) {
-        (Ok(block), Ok(other)) => matches!(bounds(alloc, block, other), Ok(true)),
-        _ => false,
     }
 }
 
@@ -65,12 +47,12 @@ fn bounds_blocks(alloc: Global) -> bool {
 fn hold(alloc: Global) -> bool {
     match nil_block(alloc) {
         Ok(block) => matches!(hands_over(alloc, block), Ok(true))
-            && matches!(opens_another(alloc), Ok(true)),
+            && matches!(ends(alloc), Ok(true)),
         Err(_) => false,
     }
 }
 
 #[test]
 fn calls_of_rings(rt: HostRuntime) {
-    assert!(rt; hold(rt.alloc()) && bounds_blocks(rt.alloc()));
+    assert!(rt; hold(rt.alloc()));
 }

@@ -1,14 +1,10 @@
 //! Calls of `oim_row`.
 
 use crate::held::{Over, holds};
-use oim_cells::{Accuracy, meaning};
-use oim_meta::{Report, Side, Written, WrittenDecimals};
+use oim_cells::meaning;
+use oim_meta::Report;
 use oim_records::RecordReader;
-use oim_resolve::Role;
-use oim_row::{
-    Answer, Choice, GroupCell, GroupCells, Purpose, ReferenceTarget, References, TableRow,
-    is_same_side, put_decimals, source_of, source_of_decimals,
-};
+use oim_row::{Answer, Choice, GroupCell, GroupCells, Purpose, TableRow};
 use oim_rows::TableHeader;
 use oim_text::TextBuffer;
 use std::alloc::{AllocError, Global};
@@ -41,31 +37,6 @@ fn states_decimals(alloc: Global, row: &TableRow<'_, '_>) -> bool {
     first && matches!(decimals_at(alloc, row, 1), Ok(None))
 }
 
-/// Returns whether decimals have their text.
-fn puts_decimals(alloc: Global) -> bool {
-    let mut out = TextBuffer::new(alloc);
-    put_decimals(&mut out, Accuracy::Places(2)).is_ok()
-        && out.as_slice() == b"\"decimals\":2,".as_slice()
-}
-
-/// Returns whether the number of a row is referred to, and a text that is not written refers to
-/// nothing.
-fn refers(header: &TableHeader<'_>) -> bool {
-    let source: Option<ReferenceTarget<'_>> = source_of(header, &Written::RowNumber(Side::Start));
-    matches!(source, Some(ReferenceTarget::RowNumber))
-        && source_of_decimals(header, &WrittenDecimals::Absent).is_none()
-        && header.source(1) == Some(1)
-        && is_same_side(Side::Start, Side::Start)
-}
-
-/// Returns the count of bytes that the number of a row gives a typed dimension.
-fn bytes_of_number(alloc: Global, row: &TableRow<'_, '_>) -> Result<u32, AllocError> {
-    let mut references = References::new(alloc);
-    let purpose = Purpose::Dimension(Role::Typed, Side::Whole);
-    let _place = references.place_for(alloc, row, purpose, ReferenceTarget::RowNumber)?;
-    Ok(references.most())
-}
-
 /// Returns the choice of a row in the first column of its table's template, if that is one of
 /// property groups.
 fn first_choice(alloc: Global, row: &TableRow<'_, '_>) -> Result<Option<Choice>, AllocError> {
@@ -85,11 +56,7 @@ fn first_choice(alloc: Global, row: &TableRow<'_, '_>) -> Result<Option<Choice>,
 /// Returns whether a row answers as it must. Its first column is not one of property groups, so it
 /// has no choice there.
 fn answers(alloc: Global, row: &TableRow<'_, '_>) -> bool {
-    states_decimals(alloc, row)
-        && puts_decimals(alloc)
-        && refers(row.header())
-        && matches!(bytes_of_number(alloc, row), Ok(4))
-        && matches!(first_choice(alloc, row), Ok(Some(Choice::Unknown)))
+    states_decimals(alloc, row) && matches!(first_choice(alloc, row), Ok(Some(Choice::Unknown)))
 }
 
 /// Does the same for the next record of a table with this header.

@@ -371,7 +371,7 @@ fn comes_back<T: Wait>(rt: &T, block: Block, rings: &Rings) -> bool {
 }
 
 #[test]
-fn a_room_comes_back(rt: HostRuntime) {
+fn a_spare_comes_back(rt: HostRuntime) {
     let alloc = rt.alloc();
     let comes = match (&open_three(alloc, 2, 1), block(alloc)) {
         (Ok(rings), Ok(block)) => comes_back(&rt, block, rings),

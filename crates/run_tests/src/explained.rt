@@ -1,9 +1,9 @@
 //! Calls of `oim_explain`, and those of `oim_run` that are its own.
 
+use crate::words::FAULT;
 use oim_explain::explain_report;
 use oim_meta::{Finding, MetaFault};
 use oim_names::{Items, Text};
-use oim_rows::{TableFault, TableKind};
 use oim_run::{
     ExplainedFault, Explanation, FaultCause, FaultPlace, FileFault, METADATA, MOST_TABLES,
     ReportAgain, Source, TYPES, Texts, explain_metadata, explained_fault, explained_faults,
@@ -99,14 +99,6 @@ fn hold_of_reports(alloc: Global) -> bool {
 fn calls_of_explanations_of_reports(rt: HostRuntime) {
     assert!(rt; hold_of_reports(rt.alloc()));
 }
-
-/// A fault of the table `t1`.
-const FAULT: TableFault = TableFault {
-    table: 0,
-    row: 1,
-    column: 1,
-    kind: TableKind::BadNumber,
-};
 
 /// Returns whether the fault has this record in the file of faults.
 fn is_written(alloc: Global, place: &FaultPlace, record: &[u8]) -> bool {

@@ -1,5 +1,6 @@
 //! Calls of `oim_places`.
 
+use crate::words::FAULT;
 use csv::ByteRecord;
 use oim_files::Texts;
 use oim_meta::Records;
@@ -11,18 +12,10 @@ use oim_places::{
     more_faults_row, place_in_file, place_in_record, pointer, pointer_to, quoted, record_shown,
     report_again, standing, table_path, text_at,
 };
-use oim_rows::{TableFault, TableKind};
+use oim_rows::TableFault;
 use oim_run::{ListedFaults, METADATA, RefusedTable, TYPES, list_faults};
 use serde_json::Value;
 use std::alloc::{AllocError, Global};
-
-/// A fault of the first row of the first table.
-const FAULT: TableFault = TableFault {
-    table: 0,
-    row: 1,
-    column: 1,
-    kind: TableKind::BadNumber,
-};
 
 /// Returns whether the fault of a table's first row is in the second line of its file, which has
 /// `x` under `cash` there.

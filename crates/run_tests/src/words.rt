@@ -1,6 +1,7 @@
-//! The settings of these tests, and the lines of an outcome.
+//! The settings of these tests, a fault of a table, and the lines of an outcome.
 
 use crate::{runs, tests_flushes, tests_folders};
+use oim_rows::{TableFault, TableKind};
 use oim_run::{Outcome, Settings, job, line};
 use std::alloc::Global;
 use std::sync::Wait;
@@ -41,6 +42,14 @@ pub(crate) fn holds(
         Err(_) => false,
     }
 }
+
+/// A fault of the first row of the first table, `t1`.
+pub(crate) const FAULT: TableFault = TableFault {
+    table: 0,
+    row: 1,
+    column: 1,
+    kind: TableKind::BadNumber,
+};
 
 /// The arguments with the files of the held report.
 pub(crate) const WORDS: &[&str] = &["m.json", "--types", "t.csv"];
