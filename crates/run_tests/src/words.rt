@@ -42,7 +42,7 @@ pub(crate) fn holds(
     }
 }
 
-/// The arguments with the files of the held report.
+/// The arguments with the files of the built-in report.
 pub(crate) const WORDS: &[&str] = &["m.json", "--types", "t.csv"];
 
 /// Returns whether an outcome has these lines.
