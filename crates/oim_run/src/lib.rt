@@ -75,6 +75,7 @@ mod buffered;
 mod built_in;
 mod conversion;
 mod early;
+mod fault_records;
 mod outcome;
 mod output;
 mod request;
@@ -86,6 +87,7 @@ mod teller;
 pub use buffered::run_to;
 pub use built_in::{METADATA, TABLE, TYPES, built_in_told, convert_to};
 pub use conversion::{Course, convert_report};
+pub use fault_records::{write_report_fault, write_table_faults};
 pub use oim_explain::{
     ExplainedFault, Explanation, FaultCause, FaultPlace, ListedFaults, MOST_TABLES, RefusedTable,
     ReportAgain, explain_metadata, explain_report, explained_fault, explained_faults,

@@ -13,11 +13,10 @@ use crate::write_failure::WriteFailure;
 use oim_names::Text;
 use oim_rows::TableFault;
 use oim_run::{
-    EarlyFault, Explanation, FaultCause, FaultPlace, FileFault, ListedFaults, Outcome,
-    RefusedTable, ReportAgain, Request, Settings, Source, cannot_write, fault_header, fault_row,
-    list_faults, report_explanation, report_fault_row, status,
+    Explanation, FileFault, Outcome, Request, Settings, Source, cannot_write, fault_header,
+    report_explanation, status, write_report_fault, write_table_faults,
 };
-use std::alloc::{AllocError, Global};
+use std::alloc::Global;
 use std::io;
 use std::io::{BufWriter, Write};
 
@@ -55,28 +54,6 @@ pub fn refused_before(rt: &HostRuntime, alloc: Global, request: &Request) -> Opt
     Some(cannot_write(alloc, path))
 }
 
-/// Writes the records of a refused table whose place is not known. It has no place if the report
-/// was not read again.
-fn write_table<W: Write>(
-    alloc: Global,
-    files: &mut FilesAgain<'_>,
-    report: &Result<ReportAgain, EarlyFault>,
-    table: RefusedTable<'_>,
-    to: &mut W,
-) -> io::Result<ListedFaults> {
-    if let Ok(again) = report {
-        return list_faults(alloc, files, again, table, to);
-    }
-    let (place, cause) = (FaultPlace::unknown(alloc)?, FaultCause::none(alloc)?);
-    let row = fault_row(alloc, table.id, table.fault, &place, &cause)?;
-    to.write_all(row.as_slice())?;
-    Ok(ListedFaults {
-        count: 1,
-        is_cut: false,
-        rows: 0,
-    })
-}
-
 /// Writes the records of refused tables. Reads the report again for them, and returns what it found
 /// out.
 fn write_tables<W: Write>(
@@ -87,28 +64,9 @@ fn write_tables<W: Write>(
     to: &mut W,
 ) -> io::Result<KnownTables> {
     let mut known = KnownTables::read(alloc, &request.settings, files);
-    for (id, fault) in tables {
-        let table = RefusedTable {
-            meta: request.settings.meta.as_str(),
-            id: id.as_str(),
-            fault,
-            most: request.most_faults,
-        };
-        let listed = write_table(alloc, files, &known.report, table, to)?;
-        known.listed.push(listed)?;
-    }
+    let (meta, most) = (request.settings.meta.as_str(), request.most_faults);
+    known.listed = write_table_faults(alloc, meta, files, &known.report, tables, most, to)?;
     Ok(known)
-}
-
-/// Returns the record of a fault of the metadata, the types table or the parameters file, by its
-/// explanation.
-fn row_of_report(
-    alloc: Global,
-    fault: &FileFault,
-    told: &Explanation,
-) -> Result<Vec<u8>, AllocError> {
-    let (place, found) = (told.place.as_str(), told.found.as_str());
-    report_fault_row(alloc, fault.finding.fault, place, found)
 }
 
 /// Writes the record of a fault of the metadata, the types table or the parameters file. Returns
@@ -123,7 +81,7 @@ fn write_report<W: Write>(
 ) -> io::Result<Explanation> {
     let (meta, types) = (settings.meta.as_str(), settings.types.as_str());
     let told = report_explanation(alloc, meta, types, files, source, fault)?;
-    to.write_all(row_of_report(alloc, fault, &told)?.as_slice())?;
+    write_report_fault(alloc, fault, &told, to)?;
     Ok(told)
 }
 
