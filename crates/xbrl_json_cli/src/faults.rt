@@ -6,7 +6,7 @@ ghost use Rattle.std.specs.Prelude.{IfSome};
 ghost use Rattle.oim_run.specs.Outputs.{IsLeftUnwritten};
 
 use crate::files_again::FilesAgain;
-use crate::known::{Found, Known, KnownTables};
+use crate::known::{Known, KnownTables, Reread};
 use crate::target::Target;
 use crate::whole_file::{Content, can_be_made, write_whole};
 use crate::write_failure::WriteFailure;
@@ -91,7 +91,7 @@ struct FaultRecords<'a, 'b> {
     alloc: Global,
     request: &'a Request,
     outcome: &'a Outcome,
-    found: &'a mut Found<'b>,
+    reread: &'a mut Reread<'b>,
 }
 
 impl<'a, 'b> FaultRecords<'a, 'b> {
@@ -100,15 +100,15 @@ impl<'a, 'b> FaultRecords<'a, 'b> {
         let alloc = self.alloc;
         match self.outcome {
             Outcome::Tables(tables) => {
-                let files = &mut self.found.files;
+                let files = &mut self.reread.files;
                 let known = write_tables(alloc, self.request, files, tables.as_slice(), to)?;
-                self.found.known = Known::Tables(known);
+                self.reread.known = Known::Tables(known);
             }
             Outcome::Report(source, fault) => {
                 let settings = &self.request.settings;
-                let files = &mut self.found.files;
+                let files = &mut self.reread.files;
                 let told = write_report(alloc, settings, files, *source, fault, to)?;
-                self.found.known = Known::Report(told);
+                self.reread.known = Known::Report(told);
             }
             _ => {}
         }
@@ -144,14 +144,14 @@ fn write_file(
 /// Writes the file of the faults, if the command line names one and the exit status is 0 or 1.
 ///
 /// The file gets its header and the records of each refused table, or that of the fault of another
-/// file of the report. It is replaced only by a whole one. `found` gets what was found out for it.
+/// file of the report. It is replaced only by a whole one. `reread` gets what was found out for it.
 /// Returns the outcome that it cannot be written, if so; `failure` then gets why a write failed.
 pub fn write_faults(
     rt: &HostRuntime,
     alloc: Global,
     request: &Request,
     outcome: &Outcome,
-    found: &mut Found<'_>,
+    reread: &mut Reread<'_>,
     failure: &WriteFailure,
 ) -> Option<Outcome>
     ensures { IfSome result (λ last. IsLeftUnwritten request.now.faults outcome.now last) }
@@ -162,7 +162,7 @@ pub fn write_faults(
         alloc,
         request,
         outcome,
-        found,
+        reread,
     };
     if status(outcome) > 1 || write_file(rt, records, path, failure) {
         return None;
