@@ -123,8 +123,8 @@ impl<'a> Explainer<'a> {
         self.print(line);
     }
 
-    /// Prints the explanation below the line of an outcome without refused tables. `reread` has what
-    /// is known of its fault.
+    /// Prints the explanation below the line of an outcome without refused tables. `reread` has
+    /// what is known of its fault.
     pub fn explain_fault(&self, reread: &mut Reread<'_>, outcome: &Outcome) {
         let reason = match outcome {
             Outcome::Done | Outcome::Tables(_) => return,
@@ -140,13 +140,6 @@ impl<'a> Explainer<'a> {
             Outcome::Run(fault) => fault.explanation(),
         };
         let _ = eprint!(self.rt; "    {reason}\n");
-    }
-
-    /// Prints the line of a refused table, unless memory runs out for it.
-    fn print_line(&self, id: &str, fault: &TableFault) {
-        if let Ok(line) = table_line(self.alloc, id, fault) {
-            self.colours.print_faults(self.rt, line.as_str());
-        }
     }
 
     /// Returns the line that names how many more faults of a table the file of faults has.
@@ -197,7 +190,8 @@ impl<'a> Explainer<'a> {
         }
     }
 
-    /// Prints the line of each refused table, with what is told of each of the first `MOST_TABLES`.
+    /// Prints the line of each refused table, unless memory runs out for it, with what is told of
+    /// each of the first `MOST_TABLES`.
     fn explain_each(
         &self,
         files: &mut FilesAgain<'_>,
@@ -207,7 +201,9 @@ impl<'a> Explainer<'a> {
         let told = self.told_of(files, known, tables);
         let told = told.as_slice();
         for (index, (id, fault)) in tables.iter().enumerate() {
-            self.print_line(id.as_str(), fault);
+            if let Ok(line) = table_line(self.alloc, id.as_str(), fault) {
+                self.colours.print_faults(self.rt, line.as_str());
+            }
             if index < told.len() {
                 let listed = known.listed.as_slice();
                 self.print(lines_below(self.alloc, tables, told, listed, index));

@@ -37,18 +37,12 @@ pub fn is_taken(rt: &HostRuntime, settings: &Settings, path: &str) -> bool {
         || target.is_at(rt, document_path(settings))
 }
 
-/// Whether the file of the faults can be written, as far as can be known before the run. It must
-/// not be the metadata, the types table or the document.
-fn can_be_written(rt: &HostRuntime, alloc: Global, settings: &Settings, path: &str) -> bool {
-    !is_taken(rt, settings, path) && can_be_made(rt, alloc, path)
-}
-
 /// Returns the outcome of a run that cannot write the file of the faults, if that is known before
-/// the run.
+/// the run. It must not be the metadata, the types table or the document.
 pub fn refused_before(rt: &HostRuntime, alloc: Global, request: &Request) -> Option<Outcome> {
     let path = request.faults.as_ref()?;
     let path = path.as_str();
-    if can_be_written(rt, alloc, &request.settings, path) {
+    if !is_taken(rt, &request.settings, path) && can_be_made(rt, alloc, path) {
         return None;
     }
     Some(cannot_write(alloc, path))
