@@ -10,5 +10,4 @@ use Rattle.oim_run.specs.declared.outcome.Outcome.{Outcome}
 -- one worker, a ring of one block and the compact layout.
 abbrev pub RunsBuiltIn : (old new : Option (List ℕ)) → Outcome → Type 0
 RunsBuiltIn old new o =
-    let files = files_of ((META_PATH.now, METADATA.now) ∷ (TYPES_PATH.now, TYPES.now) ∷ (TABLE_PATH.now, TABLE.now) ∷ []) in
-    Buffered (EndsOver files META_PATH.now TYPES_PATH.now 1 1 layout.Compact) old new o
+    Buffered (EndsOver (files_of ((META_PATH.now, METADATA.now) ∷ (TYPES_PATH.now, TYPES.now) ∷ (TABLE_PATH.now, TABLE.now) ∷ [])) META_PATH.now TYPES_PATH.now 1 1 layout.Compact) old new o
