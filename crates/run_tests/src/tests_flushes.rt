@@ -51,7 +51,7 @@ fn ends_unflushed(
 }
 
 /// Returns whether the conversion of the built-in report reports the failed flush.
-fn is_held_unflushed(rt: &(impl AllocGlobal + Threads + Wait + Sync)) -> bool {
+fn is_built_in_unflushed(rt: &(impl AllocGlobal + Threads + Wait + Sync)) -> bool {
     let (outcome, _) = convert_to(rt, rt.alloc(), Unflushed);
     has_lines(rt.alloc(), &outcome, NOT_FLUSHED) && status(&outcome) == 3
 }
@@ -66,7 +66,7 @@ pub(crate) fn end_unflushed(
             return false;
         }
     }
-    is_held_unflushed(rt)
+    is_built_in_unflushed(rt)
 }
 
 #[test]

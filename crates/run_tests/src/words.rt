@@ -51,7 +51,7 @@ pub(crate) const FAULT: TableFault = TableFault {
     kind: TableKind::BadNumber,
 };
 
-/// The arguments with the files of the held report.
+/// The arguments with the files of the built-in report.
 pub(crate) const WORDS: &[&str] = &["m.json", "--types", "t.csv"];
 
 /// Returns whether an outcome has these lines.

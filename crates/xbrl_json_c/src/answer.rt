@@ -21,9 +21,9 @@ pub struct Answer {
     pub faults: &'static [u8],
 }
 
-/// What there is to tell of faults: the lines for a person, and the records.
+/// The texts of a run's faults: the lines for a person, and the records.
 #[derive(Drop)]
-pub(crate) struct Told {
+pub(crate) struct FaultTexts {
     pub(crate) lines: Vec<u8>,
     pub(crate) faults: Vec<u8>,
 }
@@ -53,11 +53,11 @@ impl Answer {
     }
 
     /// Returns the answer with this status, document and faults.
-    pub(crate) fn of(status: u8, document: Vec<u8>, told: Told) -> Answer
+    pub(crate) fn of(status: u8, document: Vec<u8>, texts: FaultTexts) -> Answer
         ensures status { result.status ≡ status }
         ensures document { result.document.now ≡ document.items }
     {
-        let Told { lines, faults } = told;
+        let FaultTexts { lines, faults } = texts;
         Answer {
             status: u32::from(status),
             document: handed_out(document),

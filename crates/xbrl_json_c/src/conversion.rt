@@ -4,7 +4,7 @@ ghost use Rattle.std.specs.Prelude.{◌≡◌};
 ghost use Rattle.xbrl_json_c.specs.Answers.{Answers, Gives, Runs, files_at, layout_at};
 
 use crate::answer::Answer;
-use crate::explained::told_of;
+use crate::explained::texts_of;
 use crate::files::{File, Files};
 use oim_json::{Layout, Marked};
 use oim_run::{Outcome, run_alone, status};
@@ -44,8 +44,8 @@ fn convert_at(alloc: Global, files: Files<'_>, meta: &str, types: &str, layout: 
     ensures { Gives (files_at files.entry.files.now) meta.now types.now layout result }
 {
     let (outcome, document) = run_over(alloc, files, meta, types, layout);
-    let told = told_of(alloc, files, meta, types, &outcome);
-    Answer::of(status(&outcome), document, told)
+    let texts = texts_of(alloc, files, meta, types, &outcome);
+    Answer::of(status(&outcome), document, texts)
 }
 
 /// Converts the report at these paths of these files, in the layout of this number.

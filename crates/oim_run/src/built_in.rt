@@ -58,7 +58,7 @@ pub const TABLE: &str = r#"cash,note
 "#;
 
 /// Returns the settings of a run over this folder, with one worker and a ring of one block.
-fn held_settings(alloc: Global) -> Result<Settings, AllocError>
+fn built_in_settings(alloc: Global) -> Result<Settings, AllocError>
     ensures paths { IfOk result (λ s. (s.meta ≡ META_PATH.now) × (s.types ≡ TYPES_PATH.now)) }
     ensures others { IfOk result (λ s. (s.workers ≡ 1) × (s.ring ≡ 1) × (s.layout ≡ layouts.Compact)) }
 {
@@ -77,7 +77,7 @@ fn held_settings(alloc: Global) -> Result<Settings, AllocError>
 pub fn convert_to<T: Threads + Wait + Sync, W: Write>(rt: &T, alloc: Global, to: W) -> (Outcome, W)
     ensures { RunsBuiltIn (W.contents to) (W.contents result.1) result.0 }
 {
-    let Ok(settings) = held_settings(alloc) else {
+    let Ok(settings) = built_in_settings(alloc) else {
         return (no_memory(), to);
     };
     let files = [
@@ -90,7 +90,7 @@ pub fn convert_to<T: Threads + Wait + Sync, W: Write>(rt: &T, alloc: Global, to:
 
 /// Converts the built-in report to a writer as [`convert_to`] does, and prints the lines of its
 /// outcome. Returns the exit status and the writer.
-pub fn held_told<T: Threads + Wait + Sync, W: Write, L: Teller>(
+pub fn built_in_told<T: Threads + Wait + Sync, W: Write, L: Teller>(
     rt: &T,
     alloc: Global,
     to: W,
