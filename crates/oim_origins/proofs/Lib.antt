@@ -1,0 +1,5 @@
+pub mod Readings
+pub mod FirstAnswers
+pub mod Levels
+pub mod Steps
+pub mod Found

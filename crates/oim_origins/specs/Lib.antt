@@ -1,0 +1,4 @@
+pub mod Writers
+pub mod Sources
+pub mod Origins
+pub mod ProgramOrigins
