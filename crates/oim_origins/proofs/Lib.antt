@@ -3,3 +3,4 @@ pub mod FirstAnswers
 pub mod Levels
 pub mod Steps
 pub mod Found
+mod Examples

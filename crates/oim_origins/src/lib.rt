@@ -9,6 +9,7 @@
 //! - `CellOf` is the cell of a fact.
 //! - `fault_origin` finds the origin of a fault. Each fault of a cell has one.
 //! - `CellOf::writer_of` and `CellOf::decimals_writer` find who writes a property.
+//! - `CellOf::concept_kind` returns the kind of its concept.
 //! - `CellOf::source_of` finds where the value of a reference comes from.
 //!
 //! In `specs/`, the file `ProgramOrigins` defines what contracts see of references. The others hold

@@ -145,3 +145,19 @@ pub fn fault_origin<'a>(
     }
     rest_origin(alloc, cell, read, kind, fault)
 }
+
+impl CellOf<'_> {
+    ghost use Rattle.oim_resolve.specs.Facts.{concept_kind};
+
+    /// Returns the kind of the concept of the cell's fact, or `Other` if its value names no
+    /// concept. It takes no memory.
+    pub fn concept_kind(&self) -> Kind
+        ensures { result ≡ concept_kind (seen_cell self.now) }
+    {
+        let mut buffer = Buffer::new();
+        let cell = *self;
+        let number = buffer.format(cell.row.number);
+        let (kind, _) = CellRead { cell, number }.concept();
+        kind
+    }
+}
