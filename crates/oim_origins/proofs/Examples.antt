@@ -193,7 +193,7 @@ first_dimension : causes fault.BadValue (concept (codes "eg:Cash") ∷ (codes "e
 unfolding on_literals
 first_dimension = refl
 
--- The types table names the member eg:North alone (XBRL Dimensions 1.0).
+-- The types table names only the member eg:North (XBRL Dimensions 1.0).
 abbrev region : List ℕ → Dimensions
 region t = concept (codes "eg:Note") ∷ (codes "eg:Region", text t) ∷ []
 
@@ -252,8 +252,8 @@ value_of_the_cell = refl
 
 -- WRITERS
 
--- Who writes the unit of the first cell, if these five levels write these dimensions. The cells of
--- g and h name the group a, first that of h.
+-- The level that writes the unit of the first cell, if these five write these dimensions. The
+-- cells of g and h name the group a, first that of h.
 abbrev unit_writer : (column g h template report : Dimensions) → Option (Writer × Written)
 unit_writer column g h template report =
     writer_of (cell_with (level report) (level template) (fact_column (level column) (2 ∷ 1 ∷ []) ∷ groups_column (codes "g") (level g) ∷ groups_column (codes "h") (level h) ∷ []) [] [] (codes "1" ∷ codes "a" ∷ codes "a" ∷ [])) (codes "unit")

@@ -1,4 +1,4 @@
--- Who writes a property, against what the levels of the cell write for it.
+-- The level that writes a property, against what the levels of the cell write for it.
 use Rattle.std.proofs.Common.{◌≡◌, ℕ, ◌+◌, ◌<◌, List, [], ◌∷◌, ◌++◌, Option, Some, None, drop, get_or, length, map, reverse, refl, sym, ap, ◌∙◌}
 use Rattle.std.specs.Borrow.{Bor}
 use Rattle.std.specs.List.{flat_map}
@@ -70,7 +70,7 @@ first_decimals_are (w ∷ ws) = by w.1.decimals (first_decimals_are ws)
     by None e = e
     by (Some x) e = refl
 
--- Who writes a property writes what the levels write for it.
+-- The level that writes a property writes what the levels write for it together.
 pub writer_writes : (c : Cell) (n : List ℕ) → option_map (λ (w : Writer × Written). w.1) (writer_of c n) ≡ written (levels c) n
 writer_writes c n = first_writes n (writers c) ∙ sym (written_reversed (map level_of (writers c)) n) ∙ ap (λ ls. written ls n) (writers_have_levels c)
 

@@ -15,7 +15,8 @@ use Rattle.oim_resolve.specs.Facts.{concept_faults, concept_faults_of, concept_k
 use Rattle.oim_resolve.specs.Faults.{fault_if, least, unless}
 use Rattle.oim_resolve.specs.Kinds.{concept_type_of}
 use Rattle.oim_resolve.proofs.Outcomes.{read_fault, read_none, read_value}
-use Rattle.oim_origins.specs.Origins.{Origin, fault_in, is_fault, origin_in}
+use Rattle.oim_origins.specs.Origins.{Origin, is_fault, origin_in}
+use Rattle.oim_origins.specs.state.Readings.{fault_in}
 
 -- The fault of a reading that has the least fault of a set.
 pub fault_unless : {A : Type 0} (o : Option CellFault) (a : A) → fault_in (unless o (Ok a)) ≡ o

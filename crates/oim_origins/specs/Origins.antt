@@ -2,7 +2,7 @@
 -- sources are in the order in which a cell is read: the cell itself, the row's cells that name
 -- property groups, the concept, and then the other dimensions, the decimals, the unit and the
 -- period that the concept wants, and the value. (xBRL-CSV 1.0, from cells to facts)
-use Rattle.std.specs.Prelude.{ℕ, codes, List, [], ◌∷◌, ◌++◌, map, Bool, false, Option, Some, None, Result, Ok, Err, nat_eq, if◌then◌else◌}
+use Rattle.std.specs.Prelude.{ℕ, codes, List, [], ◌∷◌, ◌++◌, map, Bool, false, Option, Some, None, nat_eq, if◌then◌else◌}
 use Rattle.std.specs.Option.{option_map_or}
 use Rattle.oim_report.specs.declared.kind.Kind.{Kind}
 use Rattle.oim_resolve.specs.declared.fact.CellFault.{CellFault}
@@ -60,11 +60,6 @@ rest_sources c k = dimension_sources c k (names (levels c)) ++ other_sources c k
 
 abbrev pub sources : Cell → Kind → List SourceFaults
 sources c k = (own_faults c, OwnCell) ∷ (group_sources c (column c).from ++ (concept_faults c, Dimension (codes "concept")) ∷ rest_sources c k)
-
--- The fault of a reading.
-abbrev pub fault_in : {A : Type 0} → Result A CellFault → Option CellFault
-fault_in (Ok a) = None
-fault_in (Err f) = Some f
 
 -- Whether a fault is the least of a source.
 abbrev pub is_fault : CellFault → Option CellFault → Bool

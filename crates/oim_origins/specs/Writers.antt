@@ -26,7 +26,7 @@ group_writer c i = option_map (λ l. (writer.Group i, l)) (group_of_cell c i)
 abbrev pub group_writers : Cell → List ℕ → List (Writer × Level)
 group_writers c is = flat_map (λ i. option_to_list (group_writer c i)) is
 
--- The levels of a cell, each with who it is, from the most specific to the most general.
+-- The levels of a cell, each with its name, from the most specific to the most general.
 abbrev pub writers : Cell → List (Writer × Level)
 writers c =
     (writer.Column, (column c).level)
@@ -39,10 +39,10 @@ writes n w = option_map (λ x. (w.0, x)) (value_at n w.1.dimensions)
 abbrev pub writes_decimals : Writer × Level → Option (Writer × WrittenDecimals)
 writes_decimals w = option_map (λ x. (w.0, x)) w.1.decimals
 
--- Who writes the dimension of a name, and what.
+-- The level that writes the dimension of a name, and what it writes.
 abbrev pub writer_of : Cell → List ℕ → Option (Writer × Written)
 writer_of c n = first_answer (writes n) (writers c)
 
--- Who writes the decimals, and what.
+-- The level that writes the decimals, and what it writes.
 abbrev pub decimals_writer : Cell → Option (Writer × WrittenDecimals)
 decimals_writer c = first_answer writes_decimals (writers c)

@@ -1,4 +1,5 @@
-//! Says where a fault of a cell comes from, and who writes a property of its fact (xBRL-CSV 1.0).
+//! Says where a fault of a cell comes from, and which level writes a property of its fact (xBRL-CSV
+//! 1.0).
 //!
 //! A cell has the fault that `oim_resolve` gives it. Its origin is the cell itself, the row's cell
 //! that names a property group, a dimension or the decimals (`specs/Origins.antt`). A dimension and
@@ -8,7 +9,7 @@
 //!
 //! - `CellOf` is the cell of a fact.
 //! - `fault_origin` finds the origin of a fault. Each fault of a cell has one.
-//! - `CellOf::writer_of` and `CellOf::decimals_writer` find who writes a property.
+//! - `CellOf::writer_of` and `CellOf::decimals_writer` find the level that writes a property.
 //! - `CellOf::concept_kind` returns the kind of its concept.
 //! - `CellOf::source_of` finds where the value of a reference comes from.
 //!

@@ -1,7 +1,7 @@
 //! The values that a row gives the fact of one of its cells, and their faults.
 
 ghost use Rattle.std.specs.Prelude.{◌≡◌, decimal};
-ghost use Rattle.oim_origins.specs.Origins.{fault_in};
+ghost use Rattle.oim_origins.specs.state.Readings.{fault_in};
 
 use crate::cell::CellOf;
 use crate::numerals::{is_numeric, suffix};

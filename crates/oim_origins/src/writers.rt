@@ -1,4 +1,4 @@
-//! Who writes a property of a fact: the most specific level that writes it.
+//! The level that writes a property of a fact: the most specific one.
 
 ghost use Rattle.std.specs.Prelude.{◌≡◌};
 ghost use Rattle.std.specs.Option.{option_map};
@@ -23,7 +23,7 @@ pub enum Writer {
     Report,
 }
 
-/// Returns what a level writes for a dimension, with who it is.
+/// Returns what a level writes for a dimension, with the level's name.
 fn written_at<'a>(writer: Writer, level: &'a Level, name: &str) -> Option<(Writer, &'a Written)>
     ensures { option_map seen_writer result ≡ writes name.now (writer, level.now) }
 {
@@ -33,7 +33,7 @@ fn written_at<'a>(writer: Writer, level: &'a Level, name: &str) -> Option<(Write
     }
 }
 
-/// Returns what a level writes for decimals, with who it is.
+/// Returns what a level writes for decimals, with the level's name.
 fn decimals_at<'a>(writer: Writer, level: &'a Level) -> Option<(Writer, &'a WrittenDecimals)>
     ensures { option_map seen_writer result ≡ writes_decimals (writer, level.now) }
 {
@@ -67,8 +67,8 @@ impl<'a> CellOf<'a> {
         None
     }
 
-    /// Returns who writes a dimension of the cell's fact, and what it writes. (xBRL-CSV 1.0,
-    /// dimensions and property groups)
+    /// Returns the level that writes a dimension of the cell's fact, and what it writes. (xBRL-CSV
+    /// 1.0, dimensions and property groups)
     ///
     /// It is the most specific level that writes the dimension: the column, else the first property
     /// group in the order of `propertiesFrom`, else the template, else the report. Returns `None`
@@ -103,7 +103,8 @@ impl<'a> CellOf<'a> {
         None
     }
 
-    /// Returns who writes the decimals of the cell's fact, and what it writes, as `writer_of` does.
+    /// Returns the level that writes the decimals of the cell's fact, and what it writes, as
+    /// `writer_of` does.
     pub fn decimals_writer(&self) -> Option<(Writer, &'a WrittenDecimals)>
         ensures writer { option_map seen_writer result ≡ decimals_writer (seen_cell self.now) }
         ensures written { option_map (λ w. w.1.now) result ≡ written_decimals (levels (seen_cell self.now)) }
