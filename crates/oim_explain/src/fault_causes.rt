@@ -4,9 +4,11 @@
 
 use crate::levels::RowOfFault;
 use crate::source_places::cause_of;
-use crate::sources::{SourcePlace, origin_of, sources};
+use crate::sources::{SourcePlace, sources};
 use crate::table_again::TableAgain;
+use oim_origins::fault_origin;
 use oim_places::{FaultCause, RowAgain, place_in_record, text_at};
+use oim_resolve::CellFault;
 use oim_rows::{TableFault, TableKind};
 use std::alloc::{AllocError, Global};
 
@@ -27,6 +29,22 @@ fn is_same(one: &FaultCause, other: &FaultCause) -> bool {
     one.line == other.line
         && one.cell.as_str() == other.cell.as_str()
         && one.file.as_str() == other.file.as_str()
+}
+
+/// Returns the cause of a fault of the cell at place `own` of the row's record.
+fn cause_in(
+    alloc: Global,
+    row: &RowOfFault<'_>,
+    fault: CellFault,
+    own: usize,
+) -> Result<FaultCause, AllocError> {
+    let origin = fault_origin(alloc, row.cell, fault)?;
+    let places = sources(alloc, row, origin)?;
+    match places.as_slice().last() {
+        None => FaultCause::none(alloc),
+        Some(SourcePlace::Cell(place)) if *place == own => FaultCause::none(alloc),
+        Some(source) => cause_of(alloc, row, source),
+    }
 }
 
 impl<'r> FaultCauses<'r> {
@@ -55,21 +73,10 @@ impl<'r> FaultCauses<'r> {
         let Some(column) = self.table.place_of(name) else {
             return FaultCause::none(alloc);
         };
-        let number = fault.row;
-        let number = format!(in alloc; "{number}")?;
-        let row = RowOfFault {
-            table: &self.table,
-            column,
-            cells,
-            number: number.as_str(),
-            line,
-        };
-        let origin = origin_of(alloc, &row, kind)?;
-        let places = sources(alloc, &row, origin)?;
-        match places.as_slice().last() {
+        let row = self.table.row_of(alloc, cells, fault.row)?;
+        match RowOfFault::new(&self.table, &row, column, cells, line) {
+            Some(row) => cause_in(alloc, &row, kind, own),
             None => FaultCause::none(alloc),
-            Some(SourcePlace::Cell(place)) if *place == own => FaultCause::none(alloc),
-            Some(source) => cause_of(alloc, &row, source),
         }
     }
 
