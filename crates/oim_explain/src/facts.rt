@@ -11,8 +11,7 @@ use crate::spreadsheet::{SPREADSHEET_ERROR, is_spreadsheet_error};
 use oim_files::Folder;
 use oim_meta::{Written, WrittenDecimals};
 use oim_names::{Items, Text};
-use oim_origins::{FaultOrigin, fault_origin};
-use oim_resolve::CellFault;
+use oim_resolve::{CellFault, FaultOrigin, fault_origin};
 use std::alloc::{AllocError, Global};
 use std::io::Read;
 

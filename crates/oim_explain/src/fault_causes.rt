@@ -6,9 +6,8 @@ use crate::levels::RowOfFault;
 use crate::source_places::cause_of;
 use crate::sources::{SourcePlace, sources};
 use crate::table_again::TableAgain;
-use oim_origins::fault_origin;
 use oim_places::{FaultCause, RowAgain, place_in_record, text_at};
-use oim_resolve::CellFault;
+use oim_resolve::{CellFault, Row, fault_origin};
 use oim_rows::{TableFault, TableKind};
 use std::alloc::{AllocError, Global};
 
@@ -16,6 +15,8 @@ use std::alloc::{AllocError, Global};
 #[derive(Drop)]
 pub(crate) struct FaultCauses<'r> {
     table: TableAgain<'r>,
+    /// The last row that had a fault of a cell, by the places of the template.
+    row: Option<Row>,
     /// The cause of the first fault.
     first: Option<FaultCause>,
     /// How many rows have it, if it is elsewhere.
@@ -52,13 +53,28 @@ impl<'r> FaultCauses<'r> {
     pub(crate) fn new(table: TableAgain<'r>) -> FaultCauses<'r> {
         FaultCauses {
             table,
+            row: None,
             first: None,
             rows: 0,
             last: 0,
         }
     }
 
-    /// Returns the cause of a fault of these records, of which the row begins at this line.
+    /// Makes the row of these records with this number, unless it is kept. So a row is copied once
+    /// for all its faults.
+    fn keep_row(&mut self, alloc: Global, cells: &RowAgain, number: u32) -> Result<(), AllocError> {
+        let is_kept = match &self.row {
+            Some(row) => row.number == number,
+            None => false,
+        };
+        if !is_kept {
+            self.row = Some(self.table.row_of(alloc, cells, number)?);
+        }
+        Ok(())
+    }
+
+    /// Returns the cause of a fault of these records, of which the row is kept and begins at this
+    /// line.
     fn found(
         &self,
         alloc: Global,
@@ -73,8 +89,10 @@ impl<'r> FaultCauses<'r> {
         let Some(column) = self.table.place_of(name) else {
             return FaultCause::none(alloc);
         };
-        let row = self.table.row_of(alloc, cells, fault.row)?;
-        match RowOfFault::new(&self.table, &row, column, cells, line) {
+        let Some(row) = &self.row else {
+            return FaultCause::none(alloc);
+        };
+        match RowOfFault::new(&self.table, row, column, cells, line) {
             Some(row) => cause_in(alloc, &row, kind, own),
             None => FaultCause::none(alloc),
         }
@@ -99,6 +117,9 @@ impl<'r> FaultCauses<'r> {
         cells: &RowAgain,
         line: Option<u64>,
     ) -> Result<FaultCause, AllocError> {
+        if let TableKind::Cell(_) = fault.kind {
+            self.keep_row(alloc, cells, fault.row)?;
+        }
         if self.first.is_none() {
             self.first = Some(self.found(alloc, fault, cells, line)?);
         }

@@ -5,9 +5,8 @@ ghost use Rattle.std.specs.Prelude.{◌≤◌};
 
 use crate::table_again::TableAgain;
 use oim_cells::{CellMeaning, meaning};
-use oim_origins::{CellOf, Source, Writer};
 use oim_places::{RowAgain, text_at};
-use oim_resolve::Row;
+use oim_resolve::{CellOf, Row, Source, Writer};
 use serde_json::Value;
 use std::alloc::{AllocError, Global};
 

@@ -3,7 +3,7 @@
 
 use crate::levels::RowOfFault;
 use oim_meta::{Written, WrittenDecimals};
-use oim_origins::{FaultOrigin, Source, Writer};
+use oim_resolve::{FaultOrigin, Source, Writer};
 use std::alloc::{AllocError, Global};
 
 /// A place that leads to a fault.
