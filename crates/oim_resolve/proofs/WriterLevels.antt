@@ -14,7 +14,7 @@ use Rattle.oim_resolve.specs.Written.{group_of_cell, levels, named_groups, writt
 use Rattle.oim_resolve.specs.declared.cell.writers.Writer.{Writer}
 use Rattle.oim_resolve.specs.declared.cell.writers.Writer.TheVariants as writer
 use Rattle.oim_resolve.specs.ProgramOrigins.{seen_writer}
-use Rattle.oim_resolve.specs.Writers.{decimals_writer, first_answer, group_writers, writer_of, writers, writes, writes_decimals}
+use Rattle.oim_resolve.specs.Writers.{decimals_writer, first_answer, group_writers, writer_of, writers}
 use Rattle.oim_resolve.proofs.FirstAnswers.{first_answer-append, or_none}
 use Rattle.oim_resolve.proofs.Overrides.{decimals_reversed, written_reversed}
 

@@ -158,13 +158,14 @@ impl<'a> CellDimensions<'a> {
         requires { All (λ l. LevelRises l.now) self.now.levels.items }
         ensures { result ≡ least (unit_faults (cell_at self.now.place) kind) }
     {
-        let report = self.place.cell.report;
+        let Kind::Concept(concept) = kind else {
+            return None;
+        };
         let (unit, _) = self.given("unit");
-        match kind {
-            Kind::Concept(concept) if lacks_unit(report, concept.value, unit) => Some(
-                CellFault::BadUnit,
-            ),
-            _ => None,
+        if lacks_unit(self.place.cell.report, concept.value, unit) {
+            Some(CellFault::BadUnit)
+        } else {
+            None
         }
     }
 
