@@ -18,11 +18,11 @@ const MOST_BYTES: usize = 4_194_304;
 
 /// Spares of one thread. They are still in its processor's cache.
 #[derive(Drop)]
-pub(crate) struct SpareVectors {
+pub(crate) struct ThreadSpares {
     spares: Arc<ArrayQueue<Spare>>,
 }
 
-impl SpareVectors {
+impl ThreadSpares {
     /// Lends a decoder at most `most` spares.
     pub(crate) fn lend<T: Wait>(&self, rt: &T, decoder: &mut PieceDecoder<'_>, most: usize)
         ensures { decoder.new ≡ decoder.old }
@@ -50,10 +50,10 @@ impl SpareVectors {
     }
 }
 
-/// The bins of a table's threads, and which thread wrote each block that is still out, in order.
+/// The spares of a table's threads, and which thread wrote each block that is still out, in order.
 #[derive(Drop)]
 pub(crate) struct SparesByThread {
-    by_thread: Vec<SpareVectors>,
+    by_thread: Vec<ThreadSpares>,
     // For each piece: its thread's number, and how many of its blocks are still out.
     written: VecDeque<(usize, usize)>,
     // How many blocks are still out.
@@ -61,7 +61,7 @@ pub(crate) struct SparesByThread {
 }
 
 impl SparesByThread {
-    /// Makes a list without a bin.
+    /// Makes a list without a thread.
     pub(crate) fn new(alloc: Global) -> SparesByThread {
         SparesByThread {
             by_thread: Vec::new(alloc),
@@ -70,23 +70,23 @@ impl SparesByThread {
         }
     }
 
-    /// Returns the number of bins: one for each thread that was started or could not be.
+    /// Returns the number of threads with spares: each that was started or could not be.
     pub(crate) fn count(&self) -> usize {
         self.by_thread.len()
     }
 
-    /// Makes a bin for one more thread, and returns it with the thread's number, or `None` if
-    /// memory runs out.
-    pub(crate) fn open(&mut self, alloc: Global) -> Option<(SpareVectors, usize)> {
+    /// Begins the spares of one more thread, and returns them with the thread's number, or `None`
+    /// if memory runs out.
+    pub(crate) fn open(&mut self, alloc: Global) -> Option<(ThreadSpares, usize)> {
         let queue = ArrayQueue::new(alloc, MOST_KEPT).ok()?;
         let spares = Arc::new(alloc, queue).ok()?;
         let theirs = Arc::try_clone(&spares).ok()?;
         let number = self.by_thread.len();
-        self.by_thread.push(SpareVectors { spares }).ok()?;
-        Some((SpareVectors { spares: theirs }, number))
+        self.by_thread.push(ThreadSpares { spares }).ok()?;
+        Some((ThreadSpares { spares: theirs }, number))
     }
 
-    /// Moves at most `most` spares to the last thread's bin.
+    /// Moves at most `most` spares to those of the last thread.
     pub(crate) fn supply<T: Wait>(&self, rt: &T, spares: &mut Vec<Spare>, most: usize) {
         let Some(kept) = self.by_thread.last() else {
             return;
@@ -127,7 +127,7 @@ impl SparesByThread {
     }
 
     /// Keeps the memory of the next block that returns, for the thread that wrote it, or drops it
-    /// if that thread's bin is full. Returns it if no helper thread wrote the block.
+    /// if that thread has enough. Returns it if no helper thread wrote the block.
     pub(crate) fn keep<T: Wait>(&mut self, rt: &T, spare: Spare) -> Option<Spare> {
         let Some((number, count)) = self.written.pop_front() else {
             return Some(spare);
@@ -147,7 +147,7 @@ impl SparesByThread {
         }
     }
 
-    /// Moves the spares of all bins to `spares`.
+    /// Moves the spares of all threads to `spares`.
     pub(crate) fn empty<T: Wait>(&self, rt: &T, spares: &mut Vec<Spare>) {
         for kept in self.by_thread.iter() {
             for _ in 0..MOST_KEPT {

@@ -1,5 +1,5 @@
 use Rattle.std.proofs.Common.{◌≡◌}
-use Rattle.oim_pieces.proofs.spare_vectors.SpareVectors.take_back.Given as goal
+use Rattle.oim_pieces.proofs.thread_spares.ThreadSpares.lend.Given as goal
 
 abbrev pub invariant-loop : goal.invariant-loop
 invariant-loop g l = record {

@@ -5,14 +5,14 @@ use std::alloc::Global;
 
 /// The memory of blocks to which texts are written.
 #[derive(Drop)]
-pub(crate) struct SpareVectors {
+pub(crate) struct PieceSpares {
     spares: Vec<Spare>,
 }
 
-impl SpareVectors {
+impl PieceSpares {
     /// Makes an empty list, without taking memory.
-    pub(crate) fn new(alloc: Global) -> SpareVectors {
-        SpareVectors {
+    pub(crate) fn new(alloc: Global) -> PieceSpares {
+        PieceSpares {
             spares: Vec::new(alloc),
         }
     }

@@ -1,5 +1,5 @@
 use Rattle.std.proofs.Common.{◌≡◌}
-use Rattle.oim_pieces.proofs.spare_vectors.SpareVectors.lend.Given as goal
+use Rattle.oim_pieces.proofs.thread_spares.ThreadSpares.take_back.Given as goal
 
 abbrev pub invariant-loop : goal.invariant-loop
 invariant-loop g l = record {
