@@ -79,10 +79,6 @@ PUBLISHED: Final[dict[str, str]] = {
     "oim_run": "job Settings run Outcome status line",
 }
 
-# A method that only its own crate calls. It need not be public, but a change there proves every
-# crate above again.
-INTERNAL: Final = frozenset({("oim_report", "Named::push_under")})
-
 # What a source has that is not code: comments, texts and characters.
 ASIDE = re.compile(
     r"""//[^\n]*|b?r(\#*)".*?"\1|b?"(?:\\.|[^"\\])*"|b?'(?:\\[^']+|[^'\\])'""", re.S
@@ -188,7 +184,7 @@ def flaw(name: Name, is_published: bool, tests: Uses, above: Uses) -> str:
     if is_published:
         is_called = any(calls_surely(it, name) for it in tests)
         return "" if is_called else "is published, and no test calls it"
-    is_called = name in INTERNAL or any(calls(it, name) for it in (*tests, *above))
+    is_called = any(calls(it, name) for it in (*tests, *above))
     return "" if is_called else "is called by no test and no other crate"
 
 

@@ -59,7 +59,7 @@ class TestExamples(CaseTest):
                 self.check_same(in_lines(document), written.read_bytes())
 
     def test_no_arguments(self) -> None:
-        """Converts the held report."""
+        """Converts the built-in report."""
         seen = self.run_program(cwd=EXAMPLES / "held")
         self.check_run(seen, 0, (EXAMPLES / "held/expected.json").read_bytes(), "")
 

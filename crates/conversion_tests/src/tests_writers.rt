@@ -123,9 +123,9 @@ fn writers_of_each_room(rt: HostRuntime) {
 
 /// Writers for a conversion on one thread, each by its bytes per call, its room, and whether it
 /// fails or answers 0 after that.
-type Writer = (usize, usize, bool);
+type WriterCase = (usize, usize, bool);
 
-const WRITERS: &[Writer] = &[
+const WRITERS: &[WriterCase] = &[
     (1, 4096, true),
     (1, 40, true),
     (7, 40, true),
@@ -133,7 +133,7 @@ const WRITERS: &[Writer] = &[
 ];
 
 /// Returns whether a table of one row fills such a writer.
-fn is_full_alone(alloc: Global, report: &Report, writer: &Writer, whole: &[u8]) -> bool {
+fn is_full_alone(alloc: Global, report: &Report, writer: &WriterCase, whole: &[u8]) -> bool {
     let (most, room, fails) = *writer;
     let mut narrow = taking(whole, most, room, fails);
     let merge = end_of(room, whole.len(), fails, MergeEnd::Complete);

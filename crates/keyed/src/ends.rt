@@ -2,7 +2,7 @@
 
 ghost use Rattle.std.specs.Prelude.{◌≡◌, ◌<◌, IfErr, IfOk, IfSome, IsSome};
 
-use crate::rule::{First, Fit, Keyed, More, Same, Took};
+use crate::rule::{First, Fit, Keyed, Later, Same, Took};
 use crossbeam_channel::{Pass, RuledReceiver, RuledSender, TryRecvError, bounded_with};
 use std::alloc::Global;
 use std::marker::Model;
@@ -103,7 +103,7 @@ impl<T: Drop, K, F: Fit<K, T>> Giver<T, K, F> {
         ensures same { self.new ≡ self.old }
         ensures err { IfErr result (λ back. back ≡ item) }
     {
-        match self.to.try_send_as::<More<F>, R>(rt, &mut self.pass, item) {
+        match self.to.try_send_as::<Later<F>, R>(rt, &mut self.pass, item) {
             Ok(()) => Ok(()),
             Err(e) => Err(e.into_inner()),
         }

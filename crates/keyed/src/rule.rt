@@ -45,17 +45,17 @@ impl<K, T, F: Fit<K, T>> Lesson<T, Option<K>> for First<F> {
 }
 
 /// A later item is sent.
-pub(crate) struct More<F> {
+pub(crate) struct Later<F> {
     of: F,
 }
 
-impl<K, T, F: Fit<K, T>> Outcome<T, Option<K>> for More<F> {
+impl<K, T, F: Fit<K, T>> Outcome<T, Option<K>> for Later<F> {
     ghost use Rattle.std.specs.Prelude.{◌≡◌};
 
     ghost then = { λ v x w. w ≡ v };
 }
 
-impl<K, T, F: Fit<K, T>> Lesson<T, Option<K>> for More<F> {
+impl<K, T, F: Fit<K, T>> Lesson<T, Option<K>> for Later<F> {
     ghost use Rattle.std.specs.Prelude.{⊤};
 
     ghost fact = { λ v items. ⊤ };

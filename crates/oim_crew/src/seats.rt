@@ -5,11 +5,11 @@ ghost use Rattle.oim_crew.specs.Claims.{fresh};
 ghost use Rattle.oim_crew.specs.state.Views.{opening_view, claiming, joined_seat};
 
 use crate::seat::Seat;
-use crate::view::{BoardSeat, Gather, SeatSplit, Shed, Steps};
+use crate::view::{BoardSeat, BoardShare, Gather, SeatSplit, Shed};
 
 /// Splits off the seats that the token represents, one by one.
 pub(crate) fn deal<V>(
-    steps: &Steps<V>,
+    steps: &BoardShare<V>,
     mut token: BoardSeat<V>,
     workers: usize,
     seats: &mut Vec<Seat<V>>,
@@ -29,7 +29,7 @@ pub(crate) fn deal<V>(
 
 /// Joins this seat into the token. A seat that has drawn carries the slots that it emptied, so its
 /// whole view is split off first.
-pub(crate) fn gather<V>(steps: &Steps<V>, whole: &mut BoardSeat<V>, seat: Seat<V>)
+pub(crate) fn gather<V>(steps: &BoardShare<V>, whole: &mut BoardSeat<V>, seat: Seat<V>)
     requires place { (whole.old.table_id ≡ steps.now.table_id) × (seat.claims.id ≡ steps.now.table_id) × (0 < steps.now.table_id.words) }
     requires share { 0 < whole.old.me.0.share }
     ensures place { whole.new.table_id ≡ whole.old.table_id }

@@ -44,7 +44,7 @@ impl<V> TableRule<Option<V>, View<V>, BoardPlan<V>> for Drawing {
 pub type Board<V> = Table<Option<V>, View<V>, BoardPlan<V>, Drawing, Global>;
 
 /// The part of the board that threads share.
-pub type Steps<V> = Shared<Option<V>, View<V>, BoardPlan<V>, Drawing>;
+pub type BoardShare<V> = Shared<Option<V>, View<V>, BoardPlan<V>, Drawing>;
 
 /// A seat at the board.
 pub type BoardSeat<V> = atomic_table::Seat<Option<V>, View<V>>;

@@ -105,7 +105,7 @@ before_the_cells = refl
 no_repetition : joined_piece header 5 (codes "b" ∷ []) both ≡ cut_at header 5 (Some 1) both
 no_repetition = refl
 
--- ONE AFTER THE OTHER (`stream_then`). Nothing follows a fault.
+-- ONE AFTER THE OTHER (`stream_then`). NoFacts follows a fault.
 abbrev one : Stream
 one = record { rows = [] ∷ []; fault = None }
 

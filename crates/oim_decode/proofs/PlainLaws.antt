@@ -12,7 +12,7 @@ use Rattle.oim_rows.specs.RowFacts.{TableHeaderValue, facts_from, row_of}
 use Rattle.oim_rows.specs.Streams.{OrNoMemory}
 use Rattle.oim_rows.specs.declared.fault.TableFault.{TableFault}
 
--- Nothing is appended or recorded yet.
+-- NoFacts is appended or recorded yet.
 pub nothing_put : (fs : List Fact) (old noted : List ℕ) → (old ≡ old ++ behind_commas (take 0 fs)) × (noted ≡ noted ++ ends_from (length old) (take 0 fs))
 unfolding behind_commas ends_from
 nothing_put fs old noted = (sym (append-nil old), sym (append-nil noted))

@@ -66,7 +66,7 @@ adds_row n g ids ids2 before now None new r took added kept = tt
 adds_row n g ids ids2 before now (Some rs) new r took added kept =
     (facts_of_answer (row_result g n ids r), added.1, gives_row n g ids ids2 (Some rs) new r (facts_of_answer (row_result g n ids r)) took (inr (sym added.0)) kept)
 
--- Nothing is left of the row before.
+-- NoFacts is left of the row before.
 pub adds_closed : (table : ℕ) (first : Option Stream) (before now : List Fact) (rest : Option RowRestValue) (result : Result Bool TableFault) (left : Option Stream) → rest ≡ None
     → IfSome first (λ s. AddsRow table s before now result left) → IfSome first (λ s. AddsRow table s before (with_rest now rest) result left)
 adds_closed table first before now rest result left closed adds =

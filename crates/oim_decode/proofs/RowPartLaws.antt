@@ -179,7 +179,7 @@ part_kept x rest next count old new noted notes after left part is are = subst (
 pub grown : (old new : List ℕ) → IsPrefix old new → length old ≤ length new
 grown old new front = omega (arith, ap length front.1, length-append old front.0)
 
--- Nothing is left of the last row.
+-- NoFacts is left of the last row.
 pub none_open : (x : RowValue) (rest : Option RowRestValue) → rest ≡ None → (IsSome rest → IsTextRecord x.fields) × IfSome rest (IsRestOf x)
 none_open x None is = (λ some. absurd (cc some), tt)
 none_open x (Some rest) is = absurd (cc is)

@@ -6,5 +6,5 @@ mod piece_blocks;
 pub(crate) mod piece_decoder;
 pub(crate) mod piece_join;
 mod piece_rows;
-mod spare_vectors;
+mod piece_spares;
 mod written_rows;

@@ -6,12 +6,12 @@ use crate::levels::RowOfFault;
 use crate::numbers::wrong_numeral;
 use crate::quotes::{UNCLOSED, unclosed_quote};
 use crate::source_places::line_of;
-use crate::sources::{Origin, origin_of, sources};
+use crate::sources::sources;
 use crate::spreadsheet::{SPREADSHEET_ERROR, is_spreadsheet_error};
 use oim_files::Folder;
 use oim_meta::{Written, WrittenDecimals};
 use oim_names::{Items, Text};
-use oim_resolve::{CellFault, read_concept};
+use oim_resolve::{CellFault, FaultOrigin, fault_origin};
 use std::alloc::{AllocError, Global};
 use std::io::Read;
 
@@ -27,16 +27,16 @@ pub(crate) struct Told {
 }
 
 /// Returns the text that has a fault, by what causes it.
-fn faulty_text<'r>(row: &RowOfFault<'r>, origin: Option<Origin<'r>>) -> &'r str {
+fn faulty_text<'r>(row: &RowOfFault<'r>, origin: Option<FaultOrigin<'r>>) -> &'r str {
     match origin {
-        None => row.own_cell(),
-        Some(Origin::Groups(place)) => row.cell_of(row.column_id(place)),
-        Some(Origin::Dimension(name)) => match row.written(name) {
+        Some(FaultOrigin::Cell) | None => row.own_cell(),
+        Some(FaultOrigin::GroupCell(place)) => row.cell_of(row.column_id(place)),
+        Some(FaultOrigin::Dimension(name)) => match row.cell.writer_of(name) {
             Some((_, Written::Text(text))) => text.as_str(),
             Some((_, Written::Named(name, _))) => row.text_referred(name.as_str()),
             _ => "",
         },
-        Some(Origin::Decimals) => match row.decimals() {
+        Some(FaultOrigin::Decimals) => match row.cell.decimals_writer() {
             Some((_, WrittenDecimals::Named(name))) => row.text_referred(name.as_str()),
             _ => "",
         },
@@ -50,10 +50,7 @@ fn wrong_text(row: &RowOfFault<'_>, fault: CellFault, text: &str) -> Option<&'st
         CellFault::BadNumber => wrong_numeral(text),
         CellFault::UnknownSpecial if is_spreadsheet_error(text) => Some(SPREADSHEET_ERROR),
         CellFault::BadPeriod => Some(PERIOD),
-        CellFault::BadFactValue => match read_concept(&row.table.again.report, row.concept()) {
-            Ok(kind) => form_of(kind),
-            Err(_) => None,
-        },
+        CellFault::BadFactValue => form_of(row.cell.concept_kind()),
         _ => None,
     }
 }
@@ -80,7 +77,7 @@ pub(crate) fn of_fact<R: Read + Drop, F: Folder<R>>(
     row: &RowOfFault<'_>,
     fault: CellFault,
 ) -> Result<Told, AllocError> {
-    let origin = origin_of(alloc, row, fault)?;
+    let origin = fault_origin(alloc, row.cell, fault)?;
     let text = faulty_text(row, origin);
     let places = sources(alloc, row, origin)?;
     let mut lines = Vec::new(alloc);
@@ -88,7 +85,7 @@ pub(crate) fn of_fact<R: Read + Drop, F: Folder<R>>(
         lines.push(line_of(alloc, row, place)?)?;
     }
     let mut advice = Items::new(alloc);
-    if let (CellFault::UnknownGroup, Some(Origin::Groups(place))) = (fault, origin) {
+    if let (CellFault::UnknownGroup, Some(FaultOrigin::GroupCell(place))) = (fault, origin) {
         if let Some(column) = row.table.columns.get(place) {
             advice.push(known_groups(alloc, column, text)?)?;
         }

@@ -4,9 +4,10 @@
 
 use crate::levels::RowOfFault;
 use crate::source_places::cause_of;
-use crate::sources::{SourcePlace, origin_of, sources};
+use crate::sources::{SourcePlace, sources};
 use crate::table_again::TableAgain;
 use oim_places::{FaultCause, RowAgain, place_in_record, text_at};
+use oim_resolve::{CellFault, Row, fault_origin};
 use oim_rows::{TableFault, TableKind};
 use std::alloc::{AllocError, Global};
 
@@ -14,6 +15,8 @@ use std::alloc::{AllocError, Global};
 #[derive(Drop)]
 pub(crate) struct FaultCauses<'r> {
     table: TableAgain<'r>,
+    /// The last row that had a fault of a cell, by the places of the template.
+    row: Option<Row>,
     /// The cause of the first fault.
     first: Option<FaultCause>,
     /// How many rows have it, if it is elsewhere.
@@ -29,18 +32,49 @@ fn is_same(one: &FaultCause, other: &FaultCause) -> bool {
         && one.file.as_str() == other.file.as_str()
 }
 
+/// Returns the cause of a fault of the cell at place `own` of the row's record.
+fn cause_in(
+    alloc: Global,
+    row: &RowOfFault<'_>,
+    fault: CellFault,
+    own: usize,
+) -> Result<FaultCause, AllocError> {
+    let origin = fault_origin(alloc, row.cell, fault)?;
+    let places = sources(alloc, row, origin)?;
+    match places.as_slice().last() {
+        None => FaultCause::none(alloc),
+        Some(SourcePlace::Cell(place)) if *place == own => FaultCause::none(alloc),
+        Some(source) => cause_of(alloc, row, source),
+    }
+}
+
 impl<'r> FaultCauses<'r> {
     /// Starts before the first fault.
     pub(crate) fn new(table: TableAgain<'r>) -> FaultCauses<'r> {
         FaultCauses {
             table,
+            row: None,
             first: None,
             rows: 0,
             last: 0,
         }
     }
 
-    /// Returns the cause of a fault of these records, of which the row begins at this line.
+    /// Makes the row of these records with this number, unless it is kept. So a row is copied once
+    /// for all its faults.
+    fn keep_row(&mut self, alloc: Global, cells: &RowAgain, number: u32) -> Result<(), AllocError> {
+        let is_kept = match &self.row {
+            Some(row) => row.number == number,
+            None => false,
+        };
+        if !is_kept {
+            self.row = Some(self.table.row_of(alloc, cells, number)?);
+        }
+        Ok(())
+    }
+
+    /// Returns the cause of a fault of these records, of which the row is kept and begins at this
+    /// line.
     fn found(
         &self,
         alloc: Global,
@@ -55,21 +89,12 @@ impl<'r> FaultCauses<'r> {
         let Some(column) = self.table.place_of(name) else {
             return FaultCause::none(alloc);
         };
-        let number = fault.row;
-        let number = format!(in alloc; "{number}")?;
-        let row = RowOfFault {
-            table: &self.table,
-            column,
-            cells,
-            number: number.as_str(),
-            line,
+        let Some(row) = &self.row else {
+            return FaultCause::none(alloc);
         };
-        let origin = origin_of(alloc, &row, kind)?;
-        let places = sources(alloc, &row, origin)?;
-        match places.as_slice().last() {
+        match RowOfFault::new(&self.table, row, column, cells, line) {
+            Some(row) => cause_in(alloc, &row, kind, own),
             None => FaultCause::none(alloc),
-            Some(SourcePlace::Cell(place)) if *place == own => FaultCause::none(alloc),
-            Some(source) => cause_of(alloc, &row, source),
         }
     }
 
@@ -92,6 +117,9 @@ impl<'r> FaultCauses<'r> {
         cells: &RowAgain,
         line: Option<u64>,
     ) -> Result<FaultCause, AllocError> {
+        if let TableKind::Cell(_) = fault.kind {
+            self.keep_row(alloc, cells, fault.row)?;
+        }
         if self.first.is_none() {
             self.first = Some(self.found(alloc, fault, cells, line)?);
         }

@@ -16,6 +16,8 @@
 //!   of the first rows and then the failure. If the file's first fault is another one or it cannot
 //!   be read again, it writes only the record of the run's fault.
 //!
+//! What causes a fault of a cell is found by `oim_resolve`, whose definitions say it exactly.
+//!
 //! It exports what `oim_places` has for the place of a fault and for the file of faults.
 //!
 //! Not proved, but tested: the sentences, what an explanation shows at a place, the sources of a

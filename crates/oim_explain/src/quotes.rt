@@ -15,7 +15,7 @@ const PIECE: usize = 65_536;
 
 /// Where the next byte of a file of records is.
 #[derive(Clone, Copy)]
-enum Spot {
+enum FieldPart {
     /// At the start of a field.
     Start,
     /// In a field without quotes, or after the closing quote of one.
@@ -29,7 +29,7 @@ enum Spot {
 /// Where the reading of a file is.
 #[derive(Clone, Copy)]
 struct Quotes {
-    spot: Spot,
+    spot: FieldPart,
     /// The line of the next byte, counted from 1.
     line: u64,
     /// Whether the byte before it is a CR.
@@ -40,16 +40,16 @@ struct Quotes {
 
 impl Quotes {
     /// Returns where the byte after this one is, and notes a quote that opens a text.
-    fn after(&mut self, byte: u8) -> Spot {
+    fn after(&mut self, byte: u8) -> FieldPart {
         match (self.spot, byte) {
-            (Spot::Start, b'"') => {
+            (FieldPart::Start, b'"') => {
                 self.opened = self.line;
-                Spot::Quoted
+                FieldPart::Quoted
             }
-            (Spot::Quoted, b'"') => Spot::Quote,
-            (Spot::Quote, b'"') | (Spot::Quoted, _) => Spot::Quoted,
-            (_, b',' | b'\n' | b'\r') => Spot::Start,
-            _ => Spot::Field,
+            (FieldPart::Quoted, b'"') => FieldPart::Quote,
+            (FieldPart::Quote, b'"') | (FieldPart::Quoted, _) => FieldPart::Quoted,
+            (_, b',' | b'\n' | b'\r') => FieldPart::Start,
+            _ => FieldPart::Field,
         }
     }
 
@@ -71,7 +71,7 @@ fn unclosed_line<R: Read + Drop>(alloc: Global, reader: R) -> Option<u64> {
         return None;
     }
     let mut quotes = Quotes {
-        spot: Spot::Start,
+        spot: FieldPart::Start,
         line: 1,
         after_cr: false,
         opened: 0,
@@ -88,8 +88,8 @@ fn unclosed_line<R: Read + Drop>(alloc: Global, reader: R) -> Option<u64> {
         }
     }
     match quotes.spot {
-        Spot::Quoted => Some(quotes.opened),
-        Spot::Start | Spot::Field | Spot::Quote => None,
+        FieldPart::Quoted => Some(quotes.opened),
+        FieldPart::Start | FieldPart::Field | FieldPart::Quote => None,
     }
 }
 

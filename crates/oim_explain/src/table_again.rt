@@ -3,8 +3,10 @@
 ghost use Rattle.std.specs.Prelude.{◌<◌, length};
 
 use csv::ByteRecord;
-use oim_meta::{Column, Level};
-use oim_places::{ReportAgain, text_at};
+use oim_meta::Column;
+use oim_names::{Items, Text};
+use oim_places::{ReportAgain, RowAgain, text_at};
+use oim_resolve::Row;
 use std::alloc::{AllocError, Global};
 
 /// A table, its file, and where the columns of its template are there.
@@ -22,8 +24,6 @@ pub(crate) struct TableAgain<'r> {
     pub(crate) table: usize,
     /// The identifier of the table.
     pub(crate) id: &'r str,
-    /// What the template writes.
-    pub(crate) template: &'r Level,
     /// The columns of the template.
     pub(crate) columns: &'r [Column],
     /// The place of each of them in the file's records, if the header has it.
@@ -79,7 +79,6 @@ impl<'r> TableAgain<'r> {
             line,
             table,
             id: report.table_id(table),
-            template: report.template_level(table),
             columns,
             places,
             unnamed: empty_cell(header),
@@ -112,5 +111,24 @@ impl<'r> TableAgain<'r> {
             Some(column) if column < self.places.len() => self.places[column],
             _ => None,
         }
+    }
+
+    /// Returns the row of these records with this number, by the places of the template. A column
+    /// that the file omits has the empty text, and the identifier is empty.
+    pub(crate) fn row_of(
+        &self,
+        alloc: Global,
+        cells: &RowAgain,
+        number: u32,
+    ) -> Result<Row, AllocError> {
+        let mut texts = Items::new(alloc);
+        for place in self.places.as_slice() {
+            let text = match place {
+                Some(place) => text_at(&cells.row, *place).unwrap_or(""),
+                None => "",
+            };
+            texts.push(Text::from_str(alloc, text)?)?;
+        }
+        Ok(Row::new(number, Text::from_str(alloc, "")?, texts))
     }
 }

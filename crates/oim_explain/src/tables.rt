@@ -226,19 +226,14 @@ fn told_of<R: Read + Drop, F: Folder<R>>(
     let Some(column) = report.place_of_column(fault.table, name.as_bytes()) else {
         return of_record(alloc, folder, table.path, columns, fault, cells, line);
     };
-    let number = fault.row;
-    let number = format!(in alloc; "{number}")?;
     let TablePath { again, meta, path } = table;
     let first = line_again(alloc, folder, path, 0);
     let table = TableAgain::new(alloc, again, meta, path, fault.table, &cells.header, first)?;
-    let row = RowOfFault {
-        table: &table,
-        column,
-        cells,
-        number: number.as_str(),
-        line,
-    };
-    of_fact(alloc, folder, &row, kind)
+    let row = table.row_of(alloc, cells, fault.row)?;
+    match RowOfFault::new(&table, &row, column, cells, line) {
+        Some(row) => of_fact(alloc, folder, &row, kind),
+        None => of_record(alloc, folder, path, columns, fault, cells, line),
+    }
 }
 
 /// Returns the explanation of a fault at a record of a table's file, which begins at this line.

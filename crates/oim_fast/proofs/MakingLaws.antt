@@ -30,8 +30,8 @@ use Rattle.oim_row.specs.Sources.{source_written}
 use Rattle.oim_row.specs.Answers.{kind_read}
 use Rattle.oim_row.specs.References.{Grows, Key, ReferenceValue, key_of}
 use Rattle.oim_fast.specs.declared.frame.frame.FrameBody.{FrameBody}
-use Rattle.oim_fast.specs.declared.frame.frame_maker.Concept.{Concept}
-use Rattle.oim_fast.specs.declared.frame.frame_maker.Concept.TheVariants as concept
+use Rattle.oim_fast.specs.declared.frame.frame_maker.FrameConcept.{FrameConcept}
+use Rattle.oim_fast.specs.declared.frame.frame_maker.FrameConcept.TheVariants as concept
 use Rattle.oim_fast.specs.declared.frame.part.FramePart.{FramePart}
 use Rattle.oim_row.specs.declared.group_cells.Choice.{Choice}
 use Rattle.oim_row.specs.declared.purpose.Purpose.TheVariants.{WantedPeriod, WantedUnit}
@@ -236,7 +236,7 @@ constant_made f keys ls p w k n e is v there =
       kind = ap (λ (q : Written). kind_read f.report (constant_meaning f q)) (sym written_same) ∙ kind;
     }
 
-pub concept_made : (f : TableHeaderValue) (keys : List Key) (ls : List Level) (p : FramePart) (w : Written) (n : Option Kind) (v : Concept) → entry_of p ≡ (codes "concept", w) → IsPart f keys p → SaysConcept p v
+pub concept_made : (f : TableHeaderValue) (keys : List Key) (ls : List Level) (p : FramePart) (w : Written) (n : Option Kind) (v : FrameConcept) → entry_of p ≡ (codes "concept", w) → IsPart f keys p → SaysConcept p v
     → written ls (codes "concept") ≡ Some w → IsConcept f keys ls n v
 concept_made f keys ls p w n (concept.Constant k) e is says there = inr (constant_made f keys ls p w k (codes "concept") e is says there)
 concept_made f keys ls p w n (concept.Reference i) e is says there = referred_made f keys ls p w i e is says there

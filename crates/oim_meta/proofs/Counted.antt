@@ -1,6 +1,6 @@
--- A `Map` has as many members as entries, a list with an item has some item, and an object whose
--- count is above 0 has some member.
-use Rattle.std.proofs.Common.{◌≡◌, ◌≤◌, suc, List, [], ◌∷◌, String, Global, true, length, refl, ap, arith}
+-- A `Map` has as many members as entries. A list that is not empty has some item, and an object
+-- whose count is above 0 has some member.
+use Rattle.std.proofs.Common.{◌≡◌, ◌==◌, suc, List, [], ◌∷◌, String, Global, true, not, length, refl, ap, arith}
 use Rattle.std.specs.Prelude.{nat_lt}
 use Rattle.serde_json.specs.Data.{Members, no_members, member}
 use Rattle.serde_json.specs.View.{members_view, items_view}
@@ -13,9 +13,9 @@ pub count_is : (es : List (String Global × Value)) → count_of (members_view e
 count_is [] = refl
 count_is (e ∷ es) = ap suc (count_is es)
 
-pub some_item : (vs : List Value) → 1 ≤ length vs → true ≡ any_item (λ _. true) (items_view vs)
-some_item [] h = absurd (omega arith)
-some_item (v ∷ vs) h = refl
+pub some_item : (vs : List Value) → any_item (λ _. true) (items_view vs) ≡ not (length vs == 0)
+some_item [] = refl
+some_item (v ∷ vs) = grind arith
 
 -- An object has some member exactly if its count is above 0.
 pub any_is_counted : (ms : Members) → any_member is_anything ms ≡ nat_lt 0 (count_of ms)

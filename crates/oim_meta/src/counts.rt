@@ -20,8 +20,5 @@ pub(crate) fn count(members: &Map<String, Value>) -> usize
 pub(crate) fn count_at(value: &Value, key: &str) -> usize
     ensures { result ≡ count_of (section key.now (view value.now)) }
 {
-    match object_at(value, key) {
-        Some(members) => count(members),
-        None => 0,
-    }
+    object_at(value, key).map_or(0, count)
 }

@@ -2,8 +2,7 @@
 
 ghost use Rattle.std.specs.Prelude.{◌≡◌, IfOk};
 ghost use Rattle.serde_json.specs.View.{view};
-ghost use Rattle.oim_cells.specs.Cells.{accuracy_of};
-ghost use Rattle.oim_meta.specs.Decimals.{in_range as range_of, whole_of, named_decimals, fixed_by, text_decimals as decimals_in, decimals_of};
+ghost use Rattle.oim_meta.specs.Decimals.{whole_of, named_decimals, text_decimals as decimals_in, decimals_of};
 
 use crate::written::strip_front;
 use oim_cells::Accuracy;
@@ -12,18 +11,12 @@ use oim_report::WrittenDecimals;
 use serde_json::Value;
 use std::alloc::{AllocError, Global};
 
-fn in_range(number: i64) -> Option<i32>
-    ensures { result ≡ range_of number }
-{
-    i32::try_from(number).ok()
-}
-
 /// Returns the whole number of a value, if it fits into 32 bits.
 pub(crate) fn whole(value: &Value) -> Option<i32>
     ensures { result ≡ whole_of (view value.now) }
 {
     match value.as_i64() {
-        Some(number) => in_range(number),
+        Some(number) => i32::try_from(number).ok(),
         None => None,
     }
 }
@@ -38,15 +31,6 @@ fn named(alloc: Global, name: &str) -> Result<WrittenDecimals, AllocError>
     }
 }
 
-fn fixed(text: &str) -> WrittenDecimals
-    ensures { result ≡ fixed_by (accuracy_of text.now) }
-{
-    match oim_cells::decimals(text) {
-        Some(accuracy) => WrittenDecimals::Fixed(accuracy),
-        None => WrittenDecimals::Absent,
-    }
-}
-
 #[tactic(auto, unfolding(crate::specs::Decimals::text_decimals))]
 fn text_decimals(alloc: Global, text: &str) -> Result<WrittenDecimals, AllocError>
     ensures { IfOk result (λ made. made ≡ decimals_in text.now) }
@@ -56,7 +40,10 @@ fn text_decimals(alloc: Global, text: &str) -> Result<WrittenDecimals, AllocErro
     }
     match strip_front(text, "$") {
         Some(name) => named(alloc, name),
-        None => Ok(fixed(text)),
+        None => match oim_cells::decimals(text) {
+            Some(accuracy) => Ok(WrittenDecimals::Fixed(accuracy)),
+            None => Ok(WrittenDecimals::Absent),
+        },
     }
 }
 

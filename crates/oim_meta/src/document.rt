@@ -1,11 +1,11 @@
 //! Faults of the whole document: its type, its namespaces, its taxonomy, and unsupported features.
 
-ghost use Rattle.std.specs.Prelude.{◌≡◌, ◌++◌, codes, true, OnOk};
+ghost use Rattle.std.specs.Prelude.{◌≡◌, ◌++◌, codes, OnOk};
 ghost use Rattle.serde_json.specs.Find.{get};
-ghost use Rattle.serde_json.specs.View.{view, items_view, members_view};
-ghost use Rattle.oim_meta.specs.Faults.{is_anything, is_bad_prefix, is_csv, has_no_report, lacks_taxonomy as without_taxonomy};
+ghost use Rattle.serde_json.specs.View.{view, members_view};
+ghost use Rattle.oim_meta.specs.Faults.{is_bad_prefix, has_no_report};
 ghost use Rattle.oim_meta.specs.Faults.{is_no_empty_list as not_empty_list, is_no_empty_object as not_empty_object};
-ghost use Rattle.oim_meta.specs.Members.{any_item, any_member, if_there};
+ghost use Rattle.oim_meta.specs.Members.{if_there};
 ghost use Rattle.oim_meta.specs.Walk.{in_members};
 ghost use Rattle.oim_meta.specs.WalkReport.{in_document, in_info, in_info_in, in_namespaces, in_prefix};
 
@@ -20,22 +20,16 @@ use oim_names::is_ncname;
 use serde_json::{Map, Value};
 use std::alloc::{AllocError, Global};
 
-fn is_csv_type(info: &Value) -> bool
-    ensures { result ≡ is_csv (view info.now) }
-{
-    match text_at(info, "documentType") {
-        Some(text) => text == "https://xbrl.org/2021/xbrl-csv",
-        None => false,
-    }
-}
-
 /// Returns whether the document information is missing, or its document type is another.
 #[tactic(auto, unfolding(crate::specs::Faults::has_no_report))]
 pub(crate) fn no_report(report: &Value) -> bool
     ensures { result ≡ has_no_report (view report.now) }
 {
-    match report.get("documentInfo") {
-        Some(info) => !is_csv_type(info),
+    let Some(info) = report.get("documentInfo") else {
+        return true;
+    };
+    match text_at(info, "documentType") {
+        Some(text) => text != "https://xbrl.org/2021/xbrl-csv",
         None => true,
     }
 }
@@ -93,36 +87,16 @@ fn find_namespaces<'v>(
     }
 }
 
-fn lacks_taxonomy(info: &Value) -> bool
-    ensures { result ≡ without_taxonomy (view info.now) }
-{
-    match info.get("taxonomy") {
-        Some(taxonomy) => is_no_texts(taxonomy),
-        None => true,
-    }
-}
-
-fn has_item(items: &[Value]) -> bool
-    ensures { result ≡ any_item (λ _. true) (items_view items.now) }
-{
-    matches!(items, [_, ..])
-}
-
-fn is_no_empty_list(value: &Value) -> bool
-    ensures { result ≡ not_empty_list (view value.now) }
-{
-    match value.as_array() {
-        Some(items) => has_item(items),
-        None => true,
-    }
-}
-
 /// Returns whether `extends` exists and is not an empty list.
+#[tactic(auto, using(crate::proofs::Counted::some_item))]
 fn extends_another(info: &Value) -> bool
     ensures { result ≡ if_there not_empty_list (get (codes "extends") (view info.now)) }
 {
     match info.get("extends") {
-        Some(extended) => is_no_empty_list(extended),
+        Some(extended) => match extended.as_array() {
+            Some(items) => !items.is_empty(),
+            None => true,
+        },
         None => false,
     }
 }
@@ -138,7 +112,7 @@ fn find_info<'v>(
 {
     find_namespaces(alloc, info, findings)?;
     findings.add_if(
-        lacks_taxonomy(info),
+        info.get("taxonomy").is_none_or(is_no_texts),
         MetaFault::BadTaxonomy,
         MetadataPart::Document.at("taxonomy"),
     );
@@ -169,27 +143,16 @@ fn find_info_in<'v>(
     }
 }
 
+/// Returns whether `links` exists and is not an empty object.
 #[tactic(auto, using(crate::proofs::Counted::any_is_counted))]
-fn has_member(members: &Map<String, Value>) -> bool
-    ensures { result ≡ any_member is_anything (members_view members.now.entries) }
-{
-    count(members) > 0
-}
-
-fn is_no_empty_object(value: &Value) -> bool
-    ensures { result ≡ not_empty_object (view value.now) }
-{
-    match value.as_object() {
-        Some(members) => has_member(members),
-        None => true,
-    }
-}
-
 fn has_links(report: &Value) -> bool
     ensures { result ≡ if_there not_empty_object (get (codes "links") (view report.now)) }
 {
     match report.get("links") {
-        Some(links) => is_no_empty_object(links),
+        Some(links) => match links.as_object() {
+            Some(members) => count(members) > 0,
+            None => true,
+        },
         None => false,
     }
 }

@@ -6,8 +6,8 @@ ghost use Rattle.std.specs.String.{string_bytes};
 ghost use Rattle.serde_json.specs.View.{view};
 ghost use Rattle.oim_meta.specs.FirstFault.{first_fault};
 ghost use Rattle.oim_meta.specs.Order.{IsInOrder};
-ghost use Rattle.oim_meta.specs.Reading.{IsJson, IsUnread, IsUrlFaultOf, IsUrlOf, Reads, first_url_fault};
-ghost use Rattle.oim_meta.specs.state.Reading.{IsNoJson, IsFaultOf};
+ghost use Rattle.oim_meta.specs.Reading.{IsUnread, IsUrlFaultOf, IsUrlOf, Reads};
+ghost use Rattle.oim_meta.specs.state.Reading.{IsFaultOf};
 ghost use Rattle.oim_meta.specs.Refusals.{IsFirstOf};
 ghost use Rattle.oim_meta.specs.Value.{report_of};
 ghost use Rattle.oim_meta.specs.WalkReport.{in_metadata};
@@ -59,33 +59,11 @@ fn fault_of(error: &Error) -> MetaFault
     }
 }
 
-/// Returns the JSON value of the bytes.
-fn parse(alloc: Global, bytes: &[u8]) -> Result<Value, MetaFault>
-    ensures json { IfOk result (λ v. IsJson bytes.now (view v)) }
-    ensures order { IfOk result (λ v. IsInOrder (view v)) }
-    ensures none { IfErr result (IsNoJson bytes.now) }
-{
-    let text = bytes.strip_prefix(b"\xef\xbb\xbf").unwrap_or(bytes);
-    match Value::from_slice(alloc, text) {
-        Ok(value) => Ok(value),
-        Err(error) => Err(fault_of(&error)),
-    }
-}
-
 /// Fails with `fault` if `is_there`.
 fn refuse_if(is_there: bool, fault: MetaFault) -> Result<(), MetaFault>
     ensures { result ≡ (if is_there then Err fault else Ok tt) }
 {
     if is_there { Err(fault) } else { Ok(()) }
-}
-
-/// Fails if the value is not a report, or if the name of the parameters file is not a plain path.
-fn check_url(report: &Value) -> Result<(), MetaFault>
-    ensures sound { OnOk result (first_url_fault (view report.now) ≡ None) }
-    ensures fault { IfErr result (λ fault. first_url_fault (view report.now) ≡ Some fault) }
-{
-    refuse_if(no_report(report), MetaFault::NotReport)?;
-    refuse_if(bad_parameter_url(report), MetaFault::BadParameter)
 }
 
 impl Metadata {
@@ -109,9 +87,11 @@ impl Metadata {
         if bytes.len() > limits.metadata {
             return Err(MetaFault::TooLarge);
         }
-        Ok(Metadata {
-            value: parse(alloc, bytes)?,
-        })
+        let text = bytes.strip_prefix(b"\xef\xbb\xbf").unwrap_or(bytes);
+        match Value::from_slice(alloc, text) {
+            Ok(value) => Ok(Metadata { value }),
+            Err(error) => Err(fault_of(&error)),
+        }
     }
 
     /// Returns the name of the parameters file that the metadata gives (xBRL-CSV 1.0,
@@ -128,7 +108,8 @@ impl Metadata {
         ensures value { IfOk result (λ url. IsUrlOf (view self.now) (option_map string_bytes url)) }
         ensures fault { IfErr result (IsUrlFaultOf (view self.now)) }
     {
-        check_url(&self.value)?;
+        refuse_if(no_report(&self.value), MetaFault::NotReport)?;
+        refuse_if(bad_parameter_url(&self.value), MetaFault::BadParameter)?;
         match text_at(&self.value, "parameterURL") {
             Some(url) => Ok(Some(String::from_str(alloc, url)?)),
             None => Ok(None),

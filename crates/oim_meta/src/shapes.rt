@@ -12,30 +12,21 @@ use serde_json::Value;
 pub(crate) fn is_no_object_at(value: &Value, key: &str) -> bool
     ensures { result ≡ if_there not_object (get key.now (view value.now)) }
 {
-    match value.get(key) {
-        Some(value) => !value.is_object(),
-        None => false,
-    }
+    !value.get(key).is_none_or(Value::is_object)
 }
 
 /// Returns whether the value at a key exists and is not a text.
 pub(crate) fn is_no_text_at(value: &Value, key: &str) -> bool
     ensures { result ≡ if_there not_text (get key.now (view value.now)) }
 {
-    match value.get(key) {
-        Some(value) => !value.is_string(),
-        None => false,
-    }
+    !value.get(key).is_none_or(Value::is_string)
 }
 
 /// Returns whether the value at a key exists and is not a truth value.
 pub(crate) fn is_no_flag_at(value: &Value, key: &str) -> bool
     ensures { result ≡ if_there not_flag (get key.now (view value.now)) }
 {
-    match value.get(key) {
-        Some(value) => !value.is_boolean(),
-        None => false,
-    }
+    !value.get(key).is_none_or(Value::is_boolean)
 }
 
 fn lacks_text(items: &[Value]) -> bool

@@ -24,8 +24,8 @@ use Rattle.oim_decode.specs.contracts.piece.piece_decoder.PieceDecoder as Decode
 use Rattle.keyed.proofs.ends.Giver.TheSendSync as giver
 use Rattle.keyed.proofs.ends.Taker.TheSendSync as taker
 use Rattle.keyed.specs.contracts.ends.Giver as Giver
-use Rattle.oim_pieces.proofs.spare_vectors.SpareVectors.TheSendSync as kept
-use Rattle.oim_pieces.specs.contracts.spare_vectors.SpareVectors as SpareVectors
+use Rattle.oim_pieces.proofs.thread_spares.ThreadSpares.TheSendSync as kept
+use Rattle.oim_pieces.specs.contracts.thread_spares.ThreadSpares as ThreadSpares
 use Rattle.oim_pieces.specs.contracts.decoded.Asked as Asked
 use Rattle.oim_pieces.specs.contracts.in_channel.OfPiece as OfPiece
 use Rattle.oim_pieces.specs.contracts.in_channel.OfPieceFitAskedInChannel.TheImpl as of_piece
@@ -68,8 +68,8 @@ ids_send = ids.the_send
 pub decoder_send : (a : NamedLft) → IsSend (Decoder.the_row a)
 decoder_send a = search (sendable, crosses, row_plan_send, header_send, writer_send, records_send, ids_send, spare_send) depth 20
 
-bin_send : IsSend SpareVectors.the_row
-bin_send = kept.the_send
+spares_send : IsSend ThreadSpares.the_row
+spares_send = kept.the_send
 
 decoded_send : IsSend DecodedPiece.the_row
 decoded_send = search (sendable, crosses, answer_send) depth 20
@@ -87,7 +87,7 @@ station_send : (a : NamedLft) → IsSend (HelperSetup.the_row a)
 station_send a =
     let job = Giver.the_row (InChannel.the_row a) (Asked.the_row a) OfPiece.the_row of_piece.ghosts in
     let share = taker.the_send job (Asked.the_row a) OfTable.the_row of_table.ghosts (job_send a) in
-    declared_send (HelperSetup.the_type a) (share, (bin_send, (search sendable, tt)))
+    declared_send (HelperSetup.the_type a) (share, (spares_send, (search sendable, tt)))
 
 pub post_send : (a : NamedLft) → IsSend (HelperThread.the_row a)
 post_send a = view_send (Inside.the_row a) _ _ _ _ (declared_send (Inside.the_type a) (decoder_send a, (station_send a, tt)))

@@ -8,7 +8,7 @@ ghost use Rattle.oim_pieces.specs.state.Channels.{IsPiece, IsReadBy};
 
 use crate::at_work::AtWork;
 use crate::in_channel::{DecodedPiece, InChannel, Job, PieceQueueEnd, PieceToDecode};
-use crate::spare_vectors::SpareVectors;
+use crate::thread_spares::ThreadSpares;
 use crossbeam_channel::TryRecvError;
 use oim_decode::PieceDecoder;
 use std::marker::Model;
@@ -19,7 +19,7 @@ use std::thread;
 #[derive(Drop)]
 pub(crate) struct HelperSetup<'a> {
     pub(crate) share: PieceQueueEnd<'a>,
-    pub(crate) kept: SpareVectors,
+    pub(crate) kept: ThreadSpares,
     pub(crate) number: usize,
 }
 

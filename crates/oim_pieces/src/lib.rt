@@ -22,7 +22,7 @@
 //! - `TableThreads`: a table's threads, which are its worker and its helper threads.
 //! - `PieceQueue`, `PieceQueueEnd`: the ends of a table's queue: the worker's, a helper thread's.
 //! - `HelperThread`, `HelperSetup`: what a helper thread is started with.
-//! - `SpareVectors`, `SparesByThread`: the memory of blocks, kept for the thread that last wrote to
+//! - `ThreadSpares`, `SparesByThread`: the memory of blocks, kept for the thread that last wrote to
 //!   it.
 //! - `Memory`: all spare memory of a table.
 //! - `TextGrowth`: how much longer than its rows a table's facts can be. It makes pieces small, and
@@ -68,10 +68,10 @@ mod memory;
 mod piece_under_way;
 mod pieces_under_way;
 mod small_reads;
-mod spare_vectors;
 mod table_pieces;
 mod table_threads;
 mod text_growth;
+mod thread_spares;
 
 pub use at_work::AtWork;
 pub use small_reads::SmallReads;

@@ -2,7 +2,7 @@
 
 ghost use Rattle.std.specs.Prelude.{◌≡◌};
 
-use crate::spare_vectors::{SpareVectors, SparesByThread};
+use crate::thread_spares::{SparesByThread, ThreadSpares};
 use oim_decode::PieceDecoder;
 use oim_json::Spare;
 use std::alloc::Global;
@@ -157,9 +157,9 @@ impl Memory {
         self.by_thread.count()
     }
 
-    /// Makes the bin of one more thread, and returns it with the thread's number, or `None` if
-    /// memory runs out.
-    pub(crate) fn open_kept(&mut self) -> Option<(SpareVectors, usize)> {
+    /// Begins the spares of one more thread, and returns them with the thread's number, or `None`
+    /// if memory runs out.
+    pub(crate) fn open_kept(&mut self) -> Option<(ThreadSpares, usize)> {
         self.by_thread.open(self.alloc)
     }
 

@@ -173,7 +173,7 @@ impl<V> Named<Named<V>> {
     }
 
     /// Adds a value under a name in a group, which is made if it does not exist.
-    pub fn push_under(
+    pub(crate) fn push_under(
         &mut self,
         alloc: Global,
         group: &str,

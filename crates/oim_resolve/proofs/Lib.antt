@@ -9,4 +9,10 @@ pub mod RowFacts
 pub mod Suffixes
 mod Examples
 mod ExamplesTypes
+mod ExamplesOrigins
 pub mod LevelOrder
+pub mod FirstAnswers
+pub mod Readings
+pub mod WriterLevels
+pub mod Steps
+pub mod Found

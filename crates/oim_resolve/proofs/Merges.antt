@@ -1,8 +1,7 @@
 -- Names of levels merged: the order in which they are inserted does not matter.
-use Rattle.std.proofs.Common.{◌≡◌, ◌<◌, ◌≤◌, ◌+◌, ◌-◌, ℕ, reverse, List, [], ◌∷◌, ◌++◌, take, drop, get_or, length, map, Option, Some, None, refl, sym, ap, subst, ◌∙◌, append_assoc, arith}
+use Rattle.std.proofs.Common.{◌≡◌, ◌<◌, ◌≤◌, ◌+◌, ◌-◌, ℕ, reverse, List, [], ◌∷◌, ◌++◌, take, drop, get_or, length, map, refl, sym, ap, subst, ◌∙◌, append_assoc, arith}
 use Rattle.std.specs.Borrow.{Bor}
-use Rattle.std.specs.List.{fold, flat_map}
-use Rattle.std.specs.Option.{option_or, option_to_list}
+use Rattle.std.specs.List.{fold}
 use Rattle.std.specs.Ordering.{match_ordering, ordering_reverse}
 use Rattle.std.specs.Cmp.{alike_right}
 use Rattle.std.specs.Cmp.Lexicographic.{nat_list_cmp_total}
@@ -10,15 +9,11 @@ use Rattle.std.specs.FinMap.{slice_cmp-IsAntisymmetric, nat_cmp-IsAntisymmetric}
 use Rattle.std.specs.declared.cmp.Ordering.{Ordering}
 use Rattle.std.specs.declared.cmp.Ordering.TheVariants.{Less, Equal, Greater}
 use Rattle.std.proofs.lemmas.List.{append-nil, at_drop_all, at_drop_more, length-drop, reverse-append, map-append, take_all, take-append-drop}
-use Rattle.oim_names.specs.Lookup.{value_at}
 use Rattle.oim_report.specs.declared.data.Level.{Level}
-use Rattle.oim_report.specs.declared.data.Written.{Written}
-use Rattle.oim_resolve.specs.Cell.{Cell}
 use Rattle.oim_resolve.specs.Order.{IsAscending}
 use Rattle.oim_resolve.specs.ProgramCell.{held}
-use Rattle.oim_resolve.specs.Written.{put_name, names, written, named_groups, group_of_cell}
+use Rattle.oim_resolve.specs.Written.{put_name, names}
 use Rattle.oim_resolve.proofs.Ascending.{order, Precedes, turned, earlier}
-use Rattle.oim_resolve.proofs.Overrides.{written-push, first_written, written_reversed}
 
 put : (k n : List ℕ) (ks : List (List ℕ)) (o : Ordering) → order n k ≡ o → put_name (k ∷ ks) n ≡ match_ordering o (n ∷ k ∷ ks) (k ∷ ks) (k ∷ put_name ks n)
 put k n ks o e = ap (λ q. match_ordering q (n ∷ k ∷ ks) (k ∷ ks) (k ∷ put_name ks n)) e
@@ -217,54 +212,3 @@ names_parted ls front back m v w front_is back_is v_is w_is =
     ap held (sym (take-append-drop m ls)) ∙ map-append (λ x. x.now) (take m ls) (drop m ls)
     ∙ ap (λ xs. held xs ++ held (drop m ls)) (sym front_is) ∙ ap (λ xs. held front ++ held xs) (sym back_is) in
     ap (λ xs. fold put_name xs (held w)) v_is ∙ ap (fold put_name (names (reverse (held front)))) w_is ∙ names_split (held front) (held back) (held ls) whole
-
--- WHAT LEVELS WRITE
-
-grouped : {V : Type 0} (a b c : Option V) → option_or a (option_or b c) ≡ option_or (option_or a b) c
-grouped None b c = refl
-grouped (Some v) b c = refl
-
--- What some levels write, or else the more general ones.
-pub first_written-append : (ls ms : List Level) (n : List ℕ) → first_written (ls ++ ms) n ≡ option_or (first_written ls n) (first_written ms n)
-first_written-append [] ms n = refl
-first_written-append (l ∷ ls) ms n = ap (option_or (value_at n l.dimensions)) (first_written-append ls ms n) ∙ grouped (value_at n l.dimensions) (first_written ls n) (first_written ms n)
-
--- What the column writes, else the groups (the first group first), else template and report.
-pub written_merged : (report template column : Level) (groups : List Level) (n : List ℕ)
-    → written (report ∷ template ∷ (reverse groups ++ column ∷ [])) n ≡ option_or (value_at n column.dimensions) (option_or (written (reverse groups) n) (written (report ∷ template ∷ []) n))
-written_merged report template column groups n =
-    written-push (report ∷ template ∷ reverse groups) column n
-    ∙ ap (option_or (value_at n column.dimensions))
-    (ap (λ ls. written ls n) (sym (reverse-append groups (template ∷ report ∷ []))) ∙ written_reversed (groups ++ template ∷ report ∷ []) n
-    ∙ first_written-append groups (template ∷ report ∷ []) n
-    ∙ ap (λ o. option_or o (first_written (template ∷ report ∷ []) n)) (sym (written_reversed groups n))
-    ∙ ap (option_or (written (reverse groups) n)) (sym (written_reversed (template ∷ report ∷ []) n)))
-
-or_none : {V : Type 0} (o : Option V) → option_or o None ≡ o
-or_none None = refl
-or_none (Some v) = refl
-
--- The same, from what column, groups and the others write.
-pub written_by : (report template column : Level) (groups : List Level) (n : List ℕ) (a b d : Option Written)
-    → a ≡ written (column ∷ []) n → b ≡ written (reverse groups) n → d ≡ written (report ∷ template ∷ []) n
-    → option_or a (option_or b d) ≡ written (report ∷ template ∷ (reverse groups ++ column ∷ [])) n
-written_by report template column groups n a b d ha hb hd =
-    ap (λ o. option_or o (option_or b d)) (ha ∙ or_none (value_at n column.dimensions))
-    ∙ ap (λ o. option_or (value_at n column.dimensions) (option_or o d)) hb
-    ∙ ap (λ o. option_or (value_at n column.dimensions) (option_or (written (reverse groups) n) o)) hd
-    ∙ sym (written_merged report template column groups n)
-
--- The groups of a row, searched for a name.
-module _ (c : Cell) (is : List ℕ) (i : ℕ) (n : List ℕ) where
-  abbrev pub from_group : List ℕ → Option Written
-  from_group js = first_written (flat_map (λ j. option_to_list (group_of_cell c j)) js) n
-
-  pub in_group : (d : ℕ) (l : Level) (w : Written) → i < length is → Some l ≡ group_of_cell c (get_or is i d) → Some w ≡ value_at n l.dimensions
-      → from_group (drop i is) ≡ first_written (named_groups c) n → Some w ≡ written (reverse (named_groups c)) n
-  in_group d l w h g v p =
-      ap (λ o. option_or o (from_group (drop (i + 1) is))) v
-      ∙ ap (λ o. first_written (option_to_list o ++ flat_map (λ j. option_to_list (group_of_cell c j)) (drop (i + 1) is)) n) g
-      ∙ sym (at_drop_more from_group is i d h) ∙ p ∙ sym (written_reversed (named_groups c) n)
-
-  pub in_no_group : length is ≤ i → from_group (drop i is) ≡ first_written (named_groups c) n → None ≡ written (reverse (named_groups c)) n
-  in_no_group h p = sym (at_drop_all from_group is i h) ∙ p ∙ sym (written_reversed (named_groups c) n)

@@ -11,15 +11,14 @@ use Rattle.oim_report.specs.declared.data.WrittenDecimals.{WrittenDecimals}
 use Rattle.std.specs.Borrow.{Bor}
 use Rattle.oim_resolve.specs.ProgramCell.{held}
 use Rattle.oim_resolve.specs.Written.{written, written_decimals, overridden, dimensions_at}
+use Rattle.oim_resolve.specs.Writers.{first_answer}
 
 -- What the first level that writes a name writes for it.
 abbrev pub first_written : List Level → List ℕ → Option Written
-first_written [] n = None
-first_written (l ∷ ls) n = option_or (value_at n l.dimensions) (first_written ls n)
+first_written ls n = first_answer (λ l. value_at n l.dimensions) ls
 
 abbrev pub first_decimals : List Level → Option WrittenDecimals
-first_decimals [] = None
-first_decimals (l ∷ ls) = option_or l.decimals (first_decimals ls)
+first_decimals ls = first_answer (λ l. l.decimals) ls
 
 pub written-push : (ls : List Level) (l : Level) (n : List ℕ) → written (ls ++ l ∷ []) n ≡ option_or (value_at n l.dimensions) (written ls n)
 written-push ls l n =

@@ -8,6 +8,10 @@ pub mod SimpleForms
 pub mod FactValues
 pub mod Facts
 pub mod Order
+pub mod Writers
+pub mod Sources
+pub mod Origins
 pub mod ProgramCell
+pub mod ProgramOrigins
 pub mod ProgramValues
 pub mod state

@@ -1,4 +1,3 @@
-pub mod ProgramCellAt
 pub mod ProgramDimensions
 pub mod ProgramLevels
 pub mod ProgramFaults

@@ -1,13 +1,16 @@
 //! One cell of a table, from its texts to its fact.
 
 mod cell_at;
-mod concept;
+mod cell_of;
 mod decimals;
 mod dimensions;
 mod groups;
+mod origins;
+mod sources;
 mod texts;
 mod value;
 mod wanted;
+mod writers;
 
 ghost use Rattle.std.specs.Prelude.{◌≡◌, ◌⊎◌, IfSome};
 ghost use Rattle.oim_cells.specs.Cells.{seen_meaning};
@@ -17,9 +20,13 @@ ghost use Rattle.oim_resolve.specs.Order.{HasNamesInOrder};
 ghost use Rattle.oim_resolve.specs.state.ProgramCell.{cell_at};
 
 use crate::cell::cell_at::CellAt;
+pub use crate::cell::cell_of::CellOf;
 use crate::cell::dimensions::CellDimensions;
+pub use crate::cell::origins::{FaultOrigin, fault_origin};
+pub use crate::cell::sources::CellSource;
 pub use crate::cell::texts::side_of;
 use crate::cell::value::CellValue;
+pub use crate::cell::writers::Writer;
 use crate::fact::{CellFault, Fact, Row};
 use itoa::Buffer;
 use oim_cells::CellMeaning;
@@ -37,11 +44,11 @@ fn fact_at(alloc: Global, place: CellAt<'_>) -> Result<Option<Fact>, CellFault>
     ensures early { IfSome (early_result (cell_at place.entry)) (λ answer. result ≡ answer) }
     ensures result { (result ≡ Err CellFault.Memory) ⊎ (result ≡ cell_result (cell_at place.entry)) }
 {
-    let meaning = place.fact_meaning();
+    let meaning = place.cell.fact_meaning();
     if is_absent(meaning) {
         return Ok(None);
     }
-    if let Some(fault) = place.cell_and_group_fault(meaning) {
+    if let Some(fault) = place.cell.cell_and_group_fault(meaning) {
         return Err(fault);
     }
     let kind = match place.read_concept() {
@@ -84,12 +91,6 @@ pub fn resolve(
 {
     let mut buffer = Buffer::new();
     let number = buffer.format(row.number);
-    let place = CellAt {
-        report,
-        table,
-        row,
-        column,
-        number,
-    };
-    fact_at(alloc, place)
+    let cell = CellOf::at(report, table, row, column);
+    fact_at(alloc, CellAt { cell, number })
 }

@@ -11,6 +11,11 @@
 //! - `levels` tells what several levels write: names, dimensions and decimals.
 //! - `read_value` reads one dimension, `read_concept` a concept, and `fact_value` the fact's cell
 //!   by the kind of its concept. `read_set` reads a set of members.
+//! - `fault_origin` finds the origin of a fault: the cell itself, the row's cell that names a
+//!   property group, a dimension or the decimals (`specs/Origins.antt`). Each fault has one.
+//! - `CellOf` is the cell of a fact. `writer_of` and `decimals_writer` find the level that writes a
+//!   property (`specs/Writers.antt`), `source_of` the cell or the parameter that gives a reference
+//!   its value (`specs/Sources.antt`), and `concept_kind` the kind of the concept.
 //!
 //! In `specs/`, the files named `Program..` define what contracts see of references and of the
 //! value that is read from a cell. The others hold the rules. `specs/state/` describes what the
@@ -43,7 +48,7 @@ pub mod levels;
 mod reading;
 mod role;
 
-pub use cell::{resolve, side_of};
+pub use cell::{CellOf, CellSource, FaultOrigin, Writer, fault_origin, resolve, side_of};
 pub use dimension::{Entry, read_concept, read_value};
 pub use fact::{CellFault, Fact, Row};
 pub use kinds::is_known_member;

@@ -126,7 +126,7 @@ impl KeptIds {
         }
     }
 
-    /// Returns whether there are no identifiers.
+    /// Returns whether no identifier is kept.
     #[inline(always)]
     pub(crate) fn is_empty(&self) -> bool
         ensures { result ≡ true → (id : List ℕ) → is_kept (self.now).hashed.keys (self.now).ordered id ≡ false }

@@ -14,7 +14,7 @@ use std::marker::Model;
 
 /// The text of an identifier, inside the value or on the heap.
 #[derive(Drop)]
-enum Kept {
+enum IdText {
     Short(ShortText),
     Long(String),
 }
@@ -24,7 +24,7 @@ enum Kept {
 /// Up to 30 bytes are kept in the value itself, so that a short identifier allocates nothing. The
 /// hash is not kept: to make it anew costs less than a larger value.
 pub struct RowId {
-    kept: Kept,
+    kept: IdText,
 }
 
 // Written by hand so that each place that drops one makes a single call.
@@ -75,7 +75,7 @@ impl RowId {
     {
         match ShortText::of(text) {
             Some(short) => Ok(RowId {
-                kept: Kept::Short(short),
+                kept: IdText::Short(short),
             }),
             None => RowId::long(alloc, text),
         }
@@ -88,7 +88,7 @@ impl RowId {
         ensures { IfOk result (λ id. id ≡ text.now) }
     {
         Ok(RowId {
-            kept: Kept::Long(String::from_str(alloc, text)?),
+            kept: IdText::Long(String::from_str(alloc, text)?),
         })
     }
 
@@ -98,8 +98,8 @@ impl RowId {
         ensures { result.now ≡ self.now }
     {
         match &self.kept {
-            Kept::Short(text) => text.as_str(),
-            Kept::Long(text) => text.as_str(),
+            IdText::Short(text) => text.as_str(),
+            IdText::Long(text) => text.as_str(),
         }
     }
 }

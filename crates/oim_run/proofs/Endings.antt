@@ -92,9 +92,9 @@ over_same files meta meta' types types' workers workers' ring ring' layout layou
     (subst (λ m. Buffered (EndsOver files m types workers ring layout) old new o) paths.0 ends))))
 
 -- A property of files in memory, by their lent texts.
-pub over_held : (p q r a b x : Bor (List ℕ)) (metadata types table : List ℕ) (P : Files → Type 0) → a.now ≡ metadata → b.now ≡ types → x.now ≡ table
+pub over_texts : (p q r a b x : Bor (List ℕ)) (metadata types table : List ℕ) (P : Files → Type 0) → a.now ≡ metadata → b.now ≡ types → x.now ≡ table
     → P (first_at ((p, a) ∷ (q, b) ∷ (r, x) ∷ [])) → P (files_of ((p.now, metadata) ∷ (q.now, types) ∷ (r.now, table) ∷ []))
-over_held p q r a b x metadata types table P one two three given =
+over_texts p q r a b x metadata types table P one two three given =
     subst (λ z. P (files_of ((p.now, metadata) ∷ (q.now, types) ∷ (r.now, z) ∷ []))) three
     (subst (λ z. P (files_of ((p.now, metadata) ∷ (q.now, z) ∷ (r.now, x.now) ∷ []))) two
     (subst (λ z. P (files_of ((p.now, z) ∷ (q.now, b.now) ∷ (r.now, x.now) ∷ []))) one given))

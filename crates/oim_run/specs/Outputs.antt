@@ -1,13 +1,12 @@
 -- The output of a document, what is done with it, which outcome its run has, and what is printed.
 use Rattle.std.specs.Prelude.{◌≡◌, ◌⊎◌, ◌≤◌, Bool, true, false, ℕ, List, [], ◌∷◌, ◌++◌, Option, Some, None, IfSome}
 use Rattle.oim_files.specs.Folders.{Files}
-use Rattle.oim_json.specs.declared.layout.Layout.TheVariants as layout
 use Rattle.oim_run.specs.Buffers.{Buffered, flushed}
 use Rattle.oim_run.specs.CommandLine.{IsInput}
 use Rattle.oim_run.specs.Early.{no_memory}
 use Rattle.oim_run.specs.Lines.{line_of, status_of, terminal_line_of}
 use Rattle.oim_run.specs.Outcomes.{Leaves}
-use Rattle.oim_run.specs.Runs.{EndsOver, files_of, range_fault}
+use Rattle.oim_run.specs.Runs.{EndsOver, range_fault}
 use Rattle.oim_run.specs.declared.run_end.RunEnd.{RunEnd}
 use Rattle.oim_run.specs.declared.run_end.RunEnd.TheVariants as ending
 use Rattle.oim_run.specs.declared.outcome.Outcome.{Outcome}
@@ -56,11 +55,6 @@ abbrev pub RunsTo : Option Files → Settings → (old new : Option (List ℕ)) 
 RunsTo told s old new o =
     IfSome told (λ files. Buffered (EndsOver files s.meta s.types s.workers s.ring s.layout) old new o)
     × Buffered (Leaves s.workers (range_fault s.workers s.ring)) old new o
-
--- A run over a folder in memory with the metadata, the types table and one table, each with its
--- path. It has one worker, a ring of one block and the compact layout.
-abbrev pub RunsHeld : (meta types table : List ℕ × List ℕ) → (old new : Option (List ℕ)) → Outcome → Type 0
-RunsHeld meta types table old new o = Buffered (EndsOver (files_of (meta ∷ types ∷ table ∷ [])) meta.0 types.0 1 1 layout.Compact) old new o
 
 -- One output is opened, standard output or the file at the path, one run is made to it, and it is
 -- ended. Nothing else is done with any output.

@@ -63,7 +63,7 @@
 //! ) -> Result<bool, AllocError> {
 //!     let mut document = Vec::new(rt.alloc());
 //!     let sink = &mut Marked::new(&mut document);
-//!     let outcome = run(rt, rt.alloc(), settings, &mut Held, sink);
+//!     let outcome = run(rt, rt.alloc(), settings, &mut BuiltIn, sink);
 //!     let line = line(rt.alloc(), &outcome)?;
 //!     Ok(status(&outcome) == 0 && line.as_str() == "" && document.as_slice().ends_with(b"}}\n"))
 //! }
@@ -72,9 +72,10 @@
 
 mod buffer;
 mod buffered;
+mod built_in;
 mod conversion;
 mod early;
-mod held;
+mod fault_records;
 mod outcome;
 mod output;
 mod request;
@@ -84,8 +85,9 @@ mod settings;
 mod teller;
 
 pub use buffered::run_to;
+pub use built_in::{METADATA, TABLE, TYPES, built_in_told, convert_to};
 pub use conversion::{Course, convert_report};
-pub use held::{METADATA, TABLE, TYPES, convert_to, held_told};
+pub use fault_records::{write_report_fault, write_table_faults};
 pub use oim_explain::{
     ExplainedFault, Explanation, FaultCause, FaultPlace, ListedFaults, MOST_TABLES, RefusedTable,
     ReportAgain, explain_metadata, explain_report, explained_fault, explained_faults,

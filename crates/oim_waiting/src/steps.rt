@@ -71,19 +71,19 @@ impl<S> Drop for Steps<S> {
     }
 }
 
-struct Nothing;
+struct NoSteps;
 
-impl<S> Denotes<LinkedList<S>> for Nothing {
+impl<S> Denotes<LinkedList<S>> for NoSteps {
     ghost denoted = { λ _. [] };
 }
 
 #[derive(Drop)]
-struct More<'a, S> {
+struct OneMore<'a, S> {
     before: &'a GhostValue<LinkedList<S>>,
     step: S,
 }
 
-impl<S> Denotes<LinkedList<S>> for More<'_, S> {
+impl<S> Denotes<LinkedList<S>> for OneMore<'_, S> {
     ghost denoted = { λ m. m.before.now.value ++ m.step ∷ [] };
 }
 
@@ -94,7 +94,7 @@ impl<S: Copy> Steps<S> {
         ensures { result ≡ [] }
     {
         Steps {
-            taken: GhostValue::of(&Nothing),
+            taken: GhostValue::of(&NoSteps),
         }
     }
 
@@ -103,7 +103,7 @@ impl<S: Copy> Steps<S> {
     pub fn take(&mut self, step: S)
         ensures { self.new ≡ self.old ++ step ∷ [] }
     {
-        self.taken = GhostValue::of(&More {
+        self.taken = GhostValue::of(&OneMore {
             before: &self.taken,
             step,
         });

@@ -1,6 +1,6 @@
 //! Calls of `oim_table_faults`.
 
-use crate::held::{Over, holds};
+use crate::held::{Library, holds};
 use oim_meta::{Limits, Report};
 use oim_rows::TableFault;
 use oim_table_faults::{
@@ -42,5 +42,5 @@ pub(crate) fn hold(alloc: Global, report: &Report) -> bool {
 
 #[test]
 fn calls_of_bad_rows(rt: HostRuntime) {
-    assert!(rt; holds(rt.alloc(), Over::BadRows));
+    assert!(rt; holds(rt.alloc(), Library::BadRows));
 }

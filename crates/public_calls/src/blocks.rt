@@ -1,6 +1,6 @@
 //! Calls of `oim_json`.
 
-use crate::held::{NIL_FACT, Over, holds, nil_block, nil_fact};
+use crate::held::{Library, NIL_FACT, holds, nil_block, nil_fact};
 use oim_json::{
     Block, Layout, Marked, Member, Sink, TAIL, block_of, fact_lists_are_one_line,
     facts_are_one_line, head, lines_are_members, member_of, tail, write_all_of, write_members,
@@ -107,7 +107,7 @@ pub(crate) fn hold(alloc: Global, report: &Report) -> bool {
 #[test]
 fn calls_of_documents(rt: HostRuntime) {
     lines_are_members();
-    assert!(rt; holds(rt.alloc(), Over::Blocks));
+    assert!(rt; holds(rt.alloc(), Library::Blocks));
 }
 
 /// A writer that counts its calls and the bytes that it is offered. It fails at first, then takes

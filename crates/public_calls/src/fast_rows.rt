@@ -1,6 +1,6 @@
 //! Calls of `oim_fast`.
 
-use crate::held::{Over, holds};
+use crate::held::{Library, holds};
 use oim_fast::{RowWriter, TableRow, TextBuffer};
 use oim_meta::Report;
 use oim_records::{RecordReader, TextFields};
@@ -66,5 +66,5 @@ pub(crate) fn hold(alloc: Global, report: &Report) -> bool {
 
 #[test]
 fn calls_of_fast_rows(rt: HostRuntime) {
-    assert!(rt; holds(rt.alloc(), Over::FastRows));
+    assert!(rt; holds(rt.alloc(), Library::FastRows));
 }

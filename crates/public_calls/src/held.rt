@@ -25,7 +25,7 @@ pub(crate) const TYPES: &str =
 
 /// A library whose calls are made over the report.
 #[derive(Clone, Copy)]
-pub(crate) enum Over {
+pub(crate) enum Library {
     BadRows,
     Blocks,
     Facts,
@@ -39,23 +39,23 @@ pub(crate) enum Over {
 }
 
 /// Returns whether the calls of a library over this report answer as they must.
-fn hold_over(alloc: Global, report: &Report, over: Over) -> bool {
+fn hold_over(alloc: Global, report: &Report, over: Library) -> bool {
     match over {
-        Over::BadRows => bad_rows::hold(alloc, report),
-        Over::Blocks => blocks::hold(alloc, report),
-        Over::Facts => facts::hold(alloc, report),
-        Over::FastRows => fast_rows::hold(alloc, report),
-        Over::Pieces => pieces::hold(alloc, report),
-        Over::Reads => rows::hold_of_reads(alloc, report),
-        Over::Reports => reports::hold(report),
-        Over::RowAnswers => row_answers::hold(alloc, report),
-        Over::Rows => rows::hold(alloc, report),
-        Over::Tables => tables::hold(alloc, report),
+        Library::BadRows => bad_rows::hold(alloc, report),
+        Library::Blocks => blocks::hold(alloc, report),
+        Library::Facts => facts::hold(alloc, report),
+        Library::FastRows => fast_rows::hold(alloc, report),
+        Library::Pieces => pieces::hold(alloc, report),
+        Library::Reads => rows::hold_of_reads(alloc, report),
+        Library::Reports => reports::hold(report),
+        Library::RowAnswers => row_answers::hold(alloc, report),
+        Library::Rows => rows::hold(alloc, report),
+        Library::Tables => tables::hold(alloc, report),
     }
 }
 
 /// Does the same over the report with these types.
-fn hold_with(alloc: Global, types: Types, over: Over) -> bool {
+fn hold_with(alloc: Global, types: Types, over: Library) -> bool {
     let (metadata, parameters) = (METADATA.as_bytes(), Parameters::none(alloc));
     match read_report(alloc, metadata, parameters, types, Limits::profile()) {
         Ok(report) => hold_over(alloc, &report, over),
@@ -64,7 +64,7 @@ fn hold_with(alloc: Global, types: Types, over: Over) -> bool {
 }
 
 /// Returns whether the calls of a library over the report answer as they must.
-pub(crate) fn holds(alloc: Global, over: Over) -> bool {
+pub(crate) fn holds(alloc: Global, over: Library) -> bool {
     match read_types(alloc, TYPES.as_bytes()) {
         Ok(types) => hold_with(alloc, types, over),
         Err(_) => false,

@@ -2,7 +2,7 @@
 
 ghost use Rattle.std.specs.Prelude.{◌≡◌, ◌≤◌, ◌+◌};
 
-use crate::held::{Over, holds};
+use crate::held::{Library, holds};
 use oim_decode::{
     JoinedPiece, PieceAnswer, PieceDecoder, PieceJoin, file_in_pieces, joined_pieces_are_read,
     rows_in_pieces,
@@ -85,5 +85,5 @@ fn calls_of_pieces(rt: HostRuntime) {
     rows_in_pieces();
     file_in_pieces();
     joined_pieces_are_read();
-    assert!(rt; holds(rt.alloc(), Over::Pieces));
+    assert!(rt; holds(rt.alloc(), Library::Pieces));
 }

@@ -1,6 +1,6 @@
 //! Calls of `oim_report`.
 
-use crate::held::{Over, holds};
+use crate::held::{Library, holds};
 use oim_report::{
     Column, ColumnKind, Info, Kind, Level, Limits, Report, Side, Template, TypedName, Written,
     WrittenDecimals,
@@ -87,7 +87,7 @@ pub(crate) fn hold(report: &Report) -> bool {
 
 #[test]
 fn calls_of_reports(rt: HostRuntime) {
-    assert!(rt; holds(rt.alloc(), Over::Reports));
+    assert!(rt; holds(rt.alloc(), Library::Reports));
 }
 
 /// Returns whether a caller's own parts are read.

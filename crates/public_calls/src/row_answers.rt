@@ -1,6 +1,6 @@
 //! Calls of `oim_row`.
 
-use crate::held::{Over, holds};
+use crate::held::{Library, holds};
 use oim_cells::meaning;
 use oim_meta::Report;
 use oim_records::RecordReader;
@@ -96,5 +96,5 @@ pub(crate) fn hold(alloc: Global, report: &Report) -> bool {
 
 #[test]
 fn calls_of_row_answers(rt: HostRuntime) {
-    assert!(rt; holds(rt.alloc(), Over::RowAnswers));
+    assert!(rt; holds(rt.alloc(), Library::RowAnswers));
 }

@@ -1,6 +1,6 @@
 //! Calls of `oim_rows`.
 
-use crate::held::{Over, holds};
+use crate::held::{Library, holds};
 use oim_meta::{Limits, Report};
 use oim_rows::{
     RowFacts, Rows, TableFault, fact_identifiers_differ, stream_is_of_all_rows,
@@ -38,18 +38,18 @@ pub(crate) fn hold(alloc: Global, report: &Report) -> bool {
 fn calls_of_rows(rt: HostRuntime) {
     stream_is_of_all_rows();
     table_stream_is_of_all_rows();
-    assert!(rt; holds(rt.alloc(), Over::Rows));
+    assert!(rt; holds(rt.alloc(), Library::Rows));
 }
 
 /// A reader that counts its reads, and may fail at its end.
 #[derive(Clone, Copy)]
-struct Counted<'a> {
+struct CountedReader<'a> {
     bytes: &'a [u8],
     reads: &'a AtomicUsize,
     fails: bool,
 }
 
-impl Read for Counted<'_> {
+impl Read for CountedReader<'_> {
     fn read(&mut self, buf: &mut [u8]) -> io::Result<usize> {
         self.reads.fetch_add(1, Ordering::SeqCst);
         if self.fails && self.bytes.is_empty() {
@@ -60,7 +60,7 @@ impl Read for Counted<'_> {
 }
 
 /// Returns the number of rows before the end or a fault, which is at most three.
-fn rows_before_end(rows: &mut Rows<'_, Counted<'_>>) -> usize {
+fn rows_before_end(rows: &mut Rows<'_, CountedReader<'_>>) -> usize {
     for count in 0..4usize {
         match rows.next() {
             Ok(Some(_)) => {}
@@ -71,7 +71,7 @@ fn rows_before_end(rows: &mut Rows<'_, Counted<'_>>) -> usize {
 }
 
 /// Returns whether there are this many rows, and nothing is read after that.
-fn are_all(rows: &mut Rows<'_, Counted<'_>>, reads: &AtomicUsize, count: usize) -> bool {
+fn are_all(rows: &mut Rows<'_, CountedReader<'_>>, reads: &AtomicUsize, count: usize) -> bool {
     let given = rows_before_end(rows);
     let before = reads.load(Ordering::SeqCst);
     given == count
@@ -81,21 +81,21 @@ fn are_all(rows: &mut Rows<'_, Counted<'_>>, reads: &AtomicUsize, count: usize) 
 }
 
 /// A table, whether its reader fails at its end, and the number of its rows.
-type Case = (&'static [u8], bool, usize);
+type ReadCase = (&'static [u8], bool, usize);
 
-const CASES: &[Case] = &[
+const CASES: &[ReadCase] = &[
     (b"cash\n1\n2\n", false, 2),
     (b"cash\n1\nx\n2\n", false, 1),
     (b"cash\n1\n2\n", true, 2),
 ];
 
 /// Returns whether a report's first table has this many rows, and nothing is read after that.
-fn stops_reading(alloc: Global, report: &Report, case: &Case) -> bool {
+fn stops_reading(alloc: Global, report: &Report, case: &ReadCase) -> bool {
     if report.tables() == 0 {
         return false;
     }
     let reads = AtomicUsize::new(0);
-    let reader = Counted {
+    let reader = CountedReader {
         bytes: case.0,
         reads: &reads,
         fails: case.1,
@@ -118,5 +118,5 @@ pub(crate) fn hold_of_reads(alloc: Global, report: &Report) -> bool {
 
 #[test]
 fn nothing_is_read_after_the_end(rt: HostRuntime) {
-    assert!(rt; holds(rt.alloc(), Over::Reads));
+    assert!(rt; holds(rt.alloc(), Library::Reads));
 }

@@ -1,6 +1,6 @@
 //! Calls of `oim_decode`.
 
-use crate::held::{Over, holds};
+use crate::held::{Library, holds};
 use oim_decode::{TableBlocks, settled_tables_stay};
 use oim_json::Spare;
 use oim_meta::{Limits, Report};
@@ -28,5 +28,5 @@ pub(crate) fn hold(alloc: Global, report: &Report) -> bool {
 
 #[test]
 fn calls_of_tables(rt: HostRuntime) {
-    assert!(rt; holds(rt.alloc(), Over::Tables));
+    assert!(rt; holds(rt.alloc(), Library::Tables));
 }

@@ -5,9 +5,9 @@ use std::alloc::Global;
 use std::test::Fail;
 
 /// A text, its last cut, the count of records that end before it, and the count of all its records.
-type Case<'a> = (&'a [u8], u64, u64, u64);
+type CutCase<'a> = (&'a [u8], u64, u64, u64);
 
-const CASES: &[Case<'static>] = &[
+const CASES: &[CutCase<'static>] = &[
     (b"a,b\r\n1,\"x\ny\"\r\n2,z", 14, 2, 3),
     (b"a,b\r", 4, 1, 1),
     (b"a,\"b\n\n", 0, 0, 1),

@@ -9,13 +9,13 @@ use std::test::Fail;
 
 /// A reader that gives these bytes, at most `step` per call, and then fails or is at its end.
 #[derive(Drop)]
-struct Cut<'a> {
+struct ShortReader<'a> {
     bytes: &'a [u8],
     step: usize,
     fails: bool,
 }
 
-impl Read for Cut<'_> {
+impl Read for ShortReader<'_> {
     fn read(&mut self, buf: &mut [u8]) -> io::Result<usize> {
         if self.fails && self.bytes.is_empty() {
             return Err(io::Error::from(io::ErrorKind::Other));
@@ -80,7 +80,7 @@ fn reads<R: Read + Drop>(
 #[test]
 fn a_few_bytes_a_time(rt: HostRuntime) -> Result<(), Fail> {
     for step in [1, 2, 3, 7, 64] {
-        let reader = Cut {
+        let reader = ShortReader {
             bytes: TABLE,
             step,
             fails: false,
@@ -108,7 +108,7 @@ fn fails_behind(alloc: Global, size: usize, step: usize) -> Result<bool, AllocEr
     let (Some(bytes), Some(expected)) = (TABLE.get(..size), RECORDS.get(..told_before(size))) else {
         return Ok(false);
     };
-    let reader = Cut {
+    let reader = ShortReader {
         bytes,
         step,
         fails: true,
@@ -131,12 +131,12 @@ fn records_before_a_failed_read(rt: HostRuntime) -> Result<(), Fail> {
 
 /// A reader that gives a few bytes per call, and counts its calls.
 #[derive(Drop)]
-struct Slow<'a> {
+struct FewBytes<'a> {
     bytes: &'a [u8],
     asked: &'a AtomicUsize,
 }
 
-impl Read for Slow<'_> {
+impl Read for FewBytes<'_> {
     fn read(&mut self, buf: &mut [u8]) -> io::Result<usize> {
         self.asked.fetch_add(1, Ordering::SeqCst);
         let most = buf.len().min(5);
@@ -148,7 +148,7 @@ impl Read for Slow<'_> {
 /// without another call of the reader.
 fn gives_at_once(alloc: Global) -> Result<bool, ReadFault> {
     let asked = AtomicUsize::new(0);
-    let reader = Slow {
+    let reader = FewBytes {
         bytes: b"a,b\nc,d\ne",
         asked: &asked,
     };
@@ -202,7 +202,7 @@ const SIZES: &[(usize, usize)] = &[(1, 1), (4, 4), (5, 1), (20, 3), (64, 1), (65
 fn splits(alloc: Global, size: usize, step: usize) -> Result<bool, AllocError> {
     let mut pieces = PieceReader::new(
         alloc,
-        Cut {
+        ShortReader {
             bytes: TABLE,
             step,
             fails: false,

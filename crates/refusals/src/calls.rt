@@ -1,7 +1,7 @@
 //! The calls that are refused memory, and the values that they are made over.
 
 use crate::report::{FIRST, report};
-use crate::scarcity::{Answer, Trial, are_refused};
+use crate::scarcity::{CallOutcome, RefusedCall, are_refused};
 use crate::{cells, conversions, metadata, names, rings, rows};
 use oim_meta::{Limits, Report};
 use oim_names::Text;
@@ -44,7 +44,7 @@ pub(crate) enum Call {
 
 /// The values that calls are made over.
 #[derive(Clone, Copy)]
-pub(crate) struct Over<'a> {
+pub(crate) struct CallValues<'a> {
     pub(crate) text: &'a Text,
     pub(crate) report: &'a Report,
     pub(crate) row: &'a Row,
@@ -52,7 +52,7 @@ pub(crate) struct Over<'a> {
 }
 
 /// Makes a call. Nothing else in it allocates memory.
-pub(crate) fn made(alloc: Global, call: Call, over: Over<'_>) -> Answer {
+pub(crate) fn made(alloc: Global, call: Call, over: CallValues<'_>) -> CallOutcome {
     match call {
         Call::Binds => names::binds(alloc),
         Call::Lowers => names::lowers(alloc),
@@ -72,13 +72,19 @@ pub(crate) fn made(alloc: Global, call: Call, over: Over<'_>) -> Answer {
 }
 
 /// Returns whether these calls are refused memory over a report, a row and its facts.
-fn over_facts(alloc: Global, report: &Report, row: &Row, facts: &[Fact], trials: &[Trial]) -> bool {
+fn over_facts(
+    alloc: Global,
+    report: &Report,
+    row: &Row,
+    facts: &[Fact],
+    trials: &[RefusedCall],
+) -> bool {
     let Ok(text) = Text::from_str(alloc, "http://example.com/eg") else {
         return false;
     };
     match text.share() {
         Ok(text) => {
-            let over = Over {
+            let over = CallValues {
                 text: &text,
                 report,
                 row,
@@ -91,7 +97,7 @@ fn over_facts(alloc: Global, report: &Report, row: &Row, facts: &[Fact], trials:
 }
 
 /// Does the same over a report and a row.
-fn over_row(alloc: Global, report: &Report, row: &Row, trials: &[Trial]) -> bool {
+fn over_row(alloc: Global, report: &Report, row: &Row, trials: &[RefusedCall]) -> bool {
     if report.tables() == 0 {
         return false;
     }
@@ -105,7 +111,7 @@ fn over_row(alloc: Global, report: &Report, row: &Row, trials: &[Trial]) -> bool
 }
 
 /// Does the same over a report.
-fn over_report(alloc: Global, report: &Report, trials: &[Trial]) -> bool {
+fn over_report(alloc: Global, report: &Report, trials: &[RefusedCall]) -> bool {
     match cells::first_row(alloc) {
         Ok(row) => over_row(alloc, report, &row, trials),
         Err(_) => false,
@@ -113,7 +119,7 @@ fn over_report(alloc: Global, report: &Report, trials: &[Trial]) -> bool {
 }
 
 /// Returns whether these calls are refused memory as often as they must.
-fn hold(alloc: Global, trials: &[Trial]) -> bool {
+fn hold(alloc: Global, trials: &[RefusedCall]) -> bool {
     match report(alloc) {
         Ok(report) => over_report(alloc, &report, trials),
         Err(_) => false,
@@ -123,7 +129,7 @@ fn hold(alloc: Global, trials: &[Trial]) -> bool {
 /// The count of bytes that suffices for most calls.
 const ROOM: usize = 65_536;
 
-const NAMES: &[Trial] = &[
+const NAMES: &[RefusedCall] = &[
     (Call::Binds, ROOM, 3),
     (Call::Lowers, ROOM, 1),
     (Call::WritesQuarter, ROOM, 1),
@@ -135,7 +141,7 @@ fn names_without_memory(rt: HostRuntime) {
     assert!(rt; hold(rt.alloc(), NAMES));
 }
 
-const READERS: &[Trial] = &[
+const READERS: &[RefusedCall] = &[
     (Call::ReadsUrl, 4 * ROOM, 20),
     (Call::ReadsReport, 4 * ROOM, 1_000),
     (Call::CopiesReport, ROOM, 20),
@@ -146,7 +152,7 @@ fn metadata_without_memory(rt: HostRuntime) {
     assert!(rt; hold(rt.alloc(), READERS));
 }
 
-const RINGS: &[Trial] = &[
+const RINGS: &[RefusedCall] = &[
     (Call::OpensRing(true), ROOM, 3),
     (Call::OpensRing(false), ROOM, 3),
     (Call::Claims, ROOM, 5),
@@ -157,7 +163,7 @@ fn rings_and_claims_without_memory(rt: HostRuntime) {
     assert!(rt; hold(rt.alloc(), RINGS));
 }
 
-const TABLES: &[Trial] = &[
+const TABLES: &[RefusedCall] = &[
     (Call::Resolves, ROOM, 20),
     (Call::ReadsTable(false), 4 * ROOM, 50),
     (Call::ReadsTable(true), 4 * ROOM, 50),
@@ -168,7 +174,7 @@ fn cells_and_tables_without_memory(rt: HostRuntime) {
     assert!(rt; hold(rt.alloc(), TABLES));
 }
 
-const TEXTS: &[Trial] = &[
+const TEXTS: &[RefusedCall] = &[
     (Call::WritesHead, ROOM, 10),
     (Call::WritesFacts(false), ROOM, 10),
     (Call::WritesFacts(true), ROOM, 20),
@@ -179,7 +185,7 @@ fn texts_without_memory(rt: HostRuntime) {
     assert!(rt; hold(rt.alloc(), TEXTS));
 }
 
-const CONVERSIONS: &[Trial] = &[(Call::Converts, 4 * ROOM, 50)];
+const CONVERSIONS: &[RefusedCall] = &[(Call::Converts, 4 * ROOM, 50)];
 
 #[test]
 fn a_conversion_on_one_thread_without_memory(rt: HostRuntime) {

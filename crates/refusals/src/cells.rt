@@ -1,6 +1,6 @@
 //! The fact of a cell while memory runs out.
 
-use crate::scarcity::Answer;
+use crate::scarcity::CallOutcome;
 use oim_meta::{ColumnKind, Report};
 use oim_names::{Items, Text};
 use oim_resolve::{CellFault, Fact, Row, resolve};
@@ -31,21 +31,21 @@ pub(crate) fn first_row(alloc: Global) -> Result<Row, AllocError> {
 }
 
 /// Returns what a call did that gives the fact of that row's first cell.
-fn of_fact(answer: Result<Option<Fact>, CellFault>) -> Answer {
+fn of_fact(answer: Result<Option<Fact>, CellFault>) -> CallOutcome {
     match answer {
-        Ok(Some(fact)) => Answer::same(fact.id() == "t1.r_1.cash"),
-        Err(CellFault::Memory) => Answer::Refused,
-        _ => Answer::Wrong,
+        Ok(Some(fact)) => CallOutcome::same(fact.id() == "t1.r_1.cash"),
+        Err(CellFault::Memory) => CallOutcome::Refused,
+        _ => CallOutcome::Wrong,
     }
 }
 
 /// Resolves the first cell of a row of the first table.
-pub(crate) fn resolves(alloc: Global, report: &Report, row: &Row) -> Answer {
+pub(crate) fn resolves(alloc: Global, report: &Report, row: &Row) -> CallOutcome {
     if report.tables() == 0 || report.columns(0) == 0 || row.cells.len() != report.columns(0) {
-        return Answer::Wrong;
+        return CallOutcome::Wrong;
     }
     if report.column(0, 0).kind != ColumnKind::Fact {
-        return Answer::Wrong;
+        return CallOutcome::Wrong;
     }
     of_fact(resolve(alloc, report, 0, row, 0))
 }

@@ -1,7 +1,7 @@
 //! Conversions while memory runs out, and a writer that takes no memory.
 
 use crate::report::{DOCUMENT, FIRST, HEAD, SECOND, TAIL};
-use crate::scarcity::Answer;
+use crate::scarcity::CallOutcome;
 use oim_convert::{ConvertFault, Layout, convert_serial};
 use oim_json::Marked;
 use oim_meta::{Limits, Report};
@@ -93,32 +93,32 @@ fn first_of(faults: &[TableFault]) -> Option<usize> {
 
 /// Returns what a conversion did whose refused tables were refused only for memory, of which
 /// `table` is the first.
-fn of_first(table: Option<usize>, writer: &Compared<'_>) -> Answer {
+fn of_first(table: Option<usize>, writer: &Compared<'_>) -> CallOutcome {
     match table {
-        Some(table) if writer.is_cut_at(table) => Answer::Refused,
-        _ => Answer::Wrong,
+        Some(table) if writer.is_cut_at(table) => CallOutcome::Refused,
+        _ => CallOutcome::Wrong,
     }
 }
 
 /// Returns what a conversion did that was refused memory before it began.
-fn of_nothing(writer: &Compared<'_>) -> Answer {
-    Answer::refused(writer.is_untouched())
+fn of_nothing(writer: &Compared<'_>) -> CallOutcome {
+    CallOutcome::refused(writer.is_untouched())
 }
 
 /// Returns what a conversion on one thread did.
-fn of_serial(answer: &Result<(), ConvertFault>, writer: &Compared<'_>) -> Answer {
+fn of_serial(answer: &Result<(), ConvertFault>, writer: &Compared<'_>) -> CallOutcome {
     match answer {
-        Ok(()) => Answer::same(writer.is_whole()),
+        Ok(()) => CallOutcome::same(writer.is_whole()),
         Err(ConvertFault::Memory) => of_nothing(writer),
         Err(ConvertFault::Tables(faults)) => of_first(first_of(faults.as_slice()), writer),
-        Err(_) => Answer::Wrong,
+        Err(_) => CallOutcome::Wrong,
     }
 }
 
 /// Converts a report on one thread.
-pub(crate) fn converts(alloc: Global, report: &Report) -> Answer {
+pub(crate) fn converts(alloc: Global, report: &Report) -> CallOutcome {
     let Ok(readers) = vec![in alloc; Some(FIRST), Some(SECOND)] else {
-        return Answer::Refused;
+        return CallOutcome::Refused;
     };
     let mut writer = comparing(DOCUMENT);
     let limits = Limits::profile();

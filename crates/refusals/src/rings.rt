@@ -1,36 +1,36 @@
 //! Rings and claims while memory runs out.
 
-use crate::scarcity::Answer;
+use crate::scarcity::CallOutcome;
 use oim_convert::Claims;
 use oim_ring::{Drain, Feed, Lanes, lane};
 use std::alloc::{AllocError, Global};
 
 /// Returns what opening a ring did.
-fn of_ring(made: Result<(Feed, Drain), AllocError>) -> Answer {
+fn of_ring(made: Result<(Feed, Drain), AllocError>) -> CallOutcome {
     match made {
-        Ok(_) => Answer::Enough,
-        Err(_) => Answer::Refused,
+        Ok(_) => CallOutcome::Enough,
+        Err(_) => CallOutcome::Refused,
     }
 }
 
 /// Opens a single ring, or the first ring of a report.
-pub(crate) fn opens(alloc: Global, is_alone: bool) -> Answer {
+pub(crate) fn opens(alloc: Global, is_alone: bool) -> CallOutcome {
     if is_alone {
         return of_ring(lane(alloc, 8));
     }
     match Lanes::new(alloc, 4) {
         Ok(mut lanes) => of_ring(lanes.open(alloc, 8)),
-        Err(_) => Answer::Refused,
+        Err(_) => CallOutcome::Refused,
     }
 }
 
 /// Returns what making such claims did.
-fn claim(alloc: Global, items: Vec<char>) -> Answer {
+fn claim(alloc: Global, items: Vec<char>) -> CallOutcome {
     let Ok((claims, mut seats)) = Claims::new(alloc, items, 3) else {
-        return Answer::Refused;
+        return CallOutcome::Refused;
     };
     let Some(mut seat) = seats.pop() else {
-        return Answer::Wrong;
+        return CallOutcome::Wrong;
     };
     let (first, second, last) = (
         claims.draw(&mut seat),
@@ -38,13 +38,13 @@ fn claim(alloc: Global, items: Vec<char>) -> Answer {
         claims.draw(&mut seat),
     );
     let are_drawn = first == Some((0, 'a')) && second == Some((1, 'b')) && last.is_none();
-    Answer::same(are_drawn && seats.len() == 2)
+    CallOutcome::same(are_drawn && seats.len() == 2)
 }
 
 /// Opens claims of two items for three workers, and draws them by the last worker's seat.
-pub(crate) fn claims(alloc: Global) -> Answer {
+pub(crate) fn claims(alloc: Global) -> CallOutcome {
     match vec![in alloc; 'a', 'b'] {
         Ok(items) => claim(alloc, items),
-        Err(_) => Answer::Refused,
+        Err(_) => CallOutcome::Refused,
     }
 }

@@ -1,6 +1,6 @@
 //! The tests' way to take all memory and to give it back a little at a time.
 
-use crate::calls::{Call, Over, made};
+use crate::calls::{Call, CallValues, made};
 use std::alloc::Global;
 
 /// The largest number of bytes that a call may be given.
@@ -11,7 +11,7 @@ const STEP: usize = 16;
 
 /// What a call did with the memory that it had.
 #[derive(Clone, Copy)]
-pub(crate) enum Answer {
+pub(crate) enum CallOutcome {
     /// It was refused memory, and nothing changed.
     Refused,
     /// It had enough memory, and answered as with ample memory.
@@ -20,23 +20,23 @@ pub(crate) enum Answer {
     Wrong,
 }
 
-impl Answer {
+impl CallOutcome {
     /// Returns what a call did that was not refused memory, and answered as with ample memory or
     /// not.
-    pub(crate) fn same(is_same: bool) -> Answer {
+    pub(crate) fn same(is_same: bool) -> CallOutcome {
         if is_same {
-            Answer::Enough
+            CallOutcome::Enough
         } else {
-            Answer::Wrong
+            CallOutcome::Wrong
         }
     }
 
     /// Returns what a call did that was refused memory, and answered so or not.
-    pub(crate) fn refused(is_refused: bool) -> Answer {
+    pub(crate) fn refused(is_refused: bool) -> CallOutcome {
         if is_refused {
-            Answer::Refused
+            CallOutcome::Refused
         } else {
-            Answer::Wrong
+            CallOutcome::Wrong
         }
     }
 }
@@ -86,15 +86,15 @@ fn reach_down(place: usize) -> u8 {
 /// A vector of which a call has a little memory and then ever more. It is separate, so that all
 /// other memory can be taken.
 #[derive(Drop)]
-struct Room {
+struct Grant {
     left: usize,
     _filler: Vec<u8>,
 }
 
-impl Room {
+impl Grant {
     /// Returns a room of `room` bytes, at most 1,048,576, of which a call has none yet. Returns
     /// `None` if there is no memory for it.
-    fn new(alloc: Global, room: usize) -> Option<Room> {
+    fn new(alloc: Global, room: usize) -> Option<Grant> {
         let left = room.min(MOST);
         // The system's first large block is outside its heap, and a second one inside.
         drop(Vec::<u8>::with_capacity(alloc, left).ok()?);
@@ -102,18 +102,18 @@ impl Room {
         if reach_down(left) > 1 {
             return None;
         }
-        Some(Room {
+        Some(Grant {
             left,
             _filler: filler,
         })
     }
 
     /// Returns the same room with 16 bytes more for the call, or `None` if the call has all of it.
-    fn eased(self, alloc: Global) -> Option<Room> {
+    fn eased(self, alloc: Global) -> Option<Grant> {
         let left = self.left.checked_sub(STEP)?;
         drop(self);
         let filler = Vec::with_capacity(alloc, left).ok()?;
-        Some(Room {
+        Some(Grant {
             left,
             _filler: filler,
         })
@@ -122,13 +122,13 @@ impl Room {
 
 /// Returns how often a call is refused memory while it has none, then 16 bytes, and so on, until it
 /// has enough. Returns `None` if it never has enough, or gives another answer before.
-fn refusals_in(alloc: Global, room: Room, call: Call, over: Over<'_>) -> Option<u32> {
+fn refusals_in(alloc: Global, room: Grant, call: Call, over: CallValues<'_>) -> Option<u32> {
     let mut room = room;
     for refused in 0..=(MOST / STEP) as u32 {
         match made(alloc, call, over) {
-            Answer::Refused => room = room.eased(alloc)?,
-            Answer::Enough => return Some(refused),
-            Answer::Wrong => return None,
+            CallOutcome::Refused => room = room.eased(alloc)?,
+            CallOutcome::Enough => return Some(refused),
+            CallOutcome::Wrong => return None,
         }
     }
     None
@@ -136,18 +136,18 @@ fn refusals_in(alloc: Global, room: Room, call: Call, over: Over<'_>) -> Option<
 
 /// Does the same while all other memory of the process is taken, so the process must do nothing
 /// else.
-fn refusals_of(alloc: Global, room: Room, call: Call, over: Over<'_>) -> Option<u32> {
+fn refusals_of(alloc: Global, room: Grant, call: Call, over: CallValues<'_>) -> Option<u32> {
     let mut hoard = Hoard::new(alloc)?;
     hoard.take_all(alloc)?;
     refusals_in(alloc, room, call, over)
 }
 
 /// A call, the memory that it may need, and the least count of refusals before it has enough.
-pub(crate) type Trial = (Call, usize, u32);
+pub(crate) type RefusedCall = (Call, usize, u32);
 
 /// Returns whether a call is refused memory at least this often before it has enough.
-fn is_refused(alloc: Global, trial: &Trial, over: Over<'_>) -> bool {
-    match Room::new(alloc, trial.1) {
+fn is_refused(alloc: Global, trial: &RefusedCall, over: CallValues<'_>) -> bool {
+    match Grant::new(alloc, trial.1) {
         Some(room) => {
             let count = refusals_of(alloc, room, trial.0, over);
             matches!(count, Some(count) if count >= trial.2)
@@ -157,7 +157,7 @@ fn is_refused(alloc: Global, trial: &Trial, over: Over<'_>) -> bool {
 }
 
 /// Returns whether each of these calls is.
-pub(crate) fn are_refused(alloc: Global, trials: &[Trial], over: Over<'_>) -> bool {
+pub(crate) fn are_refused(alloc: Global, trials: &[RefusedCall], over: CallValues<'_>) -> bool {
     for trial in trials {
         if !is_refused(alloc, trial, over) {
             return false;

@@ -5,12 +5,14 @@ use oim_explain::explain_report;
 use oim_meta::{Finding, MetaFault};
 use oim_names::{Items, Text};
 use oim_run::{
-    ExplainedFault, Explanation, FaultCause, FaultPlace, FileFault, METADATA, MOST_TABLES,
-    ReportAgain, Source, TYPES, Texts, explain_metadata, explained_fault, explained_faults,
-    explanation_text, fault_header, fault_place, fault_row, lines_are_of_records, lines_below,
-    report_again, report_explanation, report_fault_row, table_line,
+    EarlyFault, ExplainedFault, Explanation, FaultCause, FaultPlace, FileFault, METADATA,
+    MOST_TABLES, ReportAgain, Source, TYPES, Texts, explain_metadata, explained_fault,
+    explained_faults, explanation_text, fault_header, fault_place, fault_row, lines_are_of_records,
+    lines_below, report_again, report_explanation, report_fault_row, table_line,
+    write_report_fault, write_table_faults,
 };
 use std::alloc::{AllocError, Global};
+use std::io;
 
 /// Returns whether the fault of a metadata without a document type is explained at the missing
 /// key.
@@ -39,12 +41,28 @@ fn row_of_the_key(
     )
 }
 
-/// Returns whether it has its place.
+/// Writes the record of that fault.
+fn write_the_key(
+    alloc: Global,
+    folder: &mut Texts<'_>,
+    fault: &FileFault,
+    to: &mut Vec<u8>,
+) -> io::Result<()> {
+    let told = report_explanation(alloc, "m.json", "t.csv", folder, Source::Report, fault)?;
+    write_report_fault(alloc, fault, &told, to)
+}
+
+/// Returns whether it has its place, and is written.
 fn writes_the_key(alloc: Global, folder: &mut Texts<'_>, fault: &FileFault) -> bool {
+    let mut record = Vec::new(alloc);
+    if write_the_key(alloc, folder, fault, &mut record).is_err() {
+        return false;
+    }
     match row_of_the_key(alloc, folder, fault) {
         Ok(row) => {
-            row.as_slice()
-                == b",0,0,2,NotReport,,,(nothing),/documentInfo/documentType,,,,\n".as_slice()
+            row.as_slice() == record.as_slice()
+                && row.as_slice()
+                    == b",0,0,2,NotReport,,,(nothing),/documentInfo/documentType,,,,\n".as_slice()
         }
         Err(_) => false,
     }
@@ -161,6 +179,44 @@ fn tells_once(alloc: Global, folder: &mut Texts<'_>, again: &ReportAgain) -> boo
         Ok(line) => line.as_str() == "    the same cause as in table t1: t1.csv, line 2, cell 1\n",
         Err(_) => false,
     }
+}
+
+/// Returns whether the table has this record in the file of faults.
+fn lists(
+    alloc: Global,
+    folder: &mut Texts<'_>,
+    again: &Result<ReportAgain, EarlyFault>,
+    record: &[u8],
+) -> bool {
+    let Ok(id) = Text::from_str(alloc, "t1") else {
+        return false;
+    };
+    let tables = [(id, FAULT)];
+    let mut records = Vec::new(alloc);
+    match write_table_faults(alloc, "m.json", folder, again, &tables, 1, &mut records) {
+        Ok(listed) => listed.len() == 1 && records.as_slice() == record,
+        Err(_) => false,
+    }
+}
+
+/// Returns whether it has one with its place, and without that if the report is not read again.
+fn lists_a_table(alloc: Global) -> bool {
+    let files = [
+        ("m.json", METADATA.as_bytes()),
+        ("t.csv", TYPES.as_bytes()),
+        ("t1.csv", b"cash\nx\n".as_slice()),
+    ];
+    let folder = &mut Texts { files: &files };
+    let again = report_again(alloc, "m.json", "t.csv", folder);
+    let unread = Err(EarlyFault::Memory);
+    let record = b"t1,1,1,40,BadNumber,2,cash,x,,,,,\n";
+    lists(alloc, folder, &again, record)
+        && lists(alloc, folder, &unread, b"t1,1,1,40,BadNumber,,,,,,,,\n")
+}
+
+#[test]
+fn calls_of_records_of_tables(rt: HostRuntime) {
+    assert!(rt; lists_a_table(rt.alloc()));
 }
 
 /// Returns whether it is explained over a folder, and has a record with its place.

@@ -1,23 +1,23 @@
 //! Calls of `oim_run`.
 
-use crate::words::{Trial, WORDS, holds};
+use crate::words::{SettingTrial, WORDS, holds};
 use oim_files::{folder_of, report_of};
 use oim_json::{Layout, Marked};
 use oim_meta::{Limits, Report};
 use oim_run::{
     Course, EarlyFault, Folder, METADATA, Outcome, Outputs, Request, RunEnd, Settings, Source,
-    TABLE, TYPES, Teller, Texts, VERSION, cannot_write, convert_as, convert_report, convert_to,
-    held_told, line, request_of, run, run_alone, run_to, shown, status, tell, terminal_line,
+    TABLE, TYPES, Teller, Texts, VERSION, built_in_told, cannot_write, convert_as, convert_report,
+    convert_to, line, request_of, run, run_alone, run_to, shown, status, tell, terminal_line,
 };
 use std::alloc::{AllocError, Global};
 use std::sync::Wait;
 use std::thread::Threads;
 
-/// A caller's own folder: it opens the files of the held report.
+/// A caller's own folder: it opens the files of the built-in report.
 #[derive(Clone, Copy)]
-struct Held;
+struct BuiltIn;
 
-impl Folder<&'static [u8]> for Held {
+impl Folder<&'static [u8]> for BuiltIn {
     fn open(&mut self, path: &str) -> Option<&'static [u8]> {
         match path {
             "m.json" => Some(METADATA.as_bytes()),
@@ -35,7 +35,7 @@ fn runs(
 ) -> Result<bool, AllocError> {
     let mut document = Vec::new(rt.alloc());
     let sink = &mut Marked::new(&mut document);
-    let outcome = run(rt, rt.alloc(), settings, &mut Held, sink);
+    let outcome = run(rt, rt.alloc(), settings, &mut BuiltIn, sink);
     let line = line(rt.alloc(), &outcome)?;
     Ok(status(&outcome) == 0 && line.as_str() == "" && document.as_slice().ends_with(b"}}\n"))
 }
@@ -45,7 +45,7 @@ fn runs(
 fn runs_alone(alloc: Global) -> bool {
     let mut document = Vec::new(alloc);
     let sink = &mut Marked::new(&mut document);
-    let outcome = run_alone(alloc, "m.json", "t.csv", Layout::Lines, &mut Held, sink);
+    let outcome = run_alone(alloc, "m.json", "t.csv", Layout::Lines, &mut BuiltIn, sink);
     status(&outcome) == 0 && document.as_slice().ends_with(b"}}\n") && !VERSION.is_empty()
 }
 
@@ -122,11 +122,11 @@ fn converts(rt: &(impl AllocGlobal + Threads + Wait + Sync), request: &Request) 
         alloc: rt.alloc(),
         whole: 0,
     };
-    let outcome = convert_as(rt, rt.alloc(), request, &mut Held, &mut outputs);
+    let outcome = convert_as(rt, rt.alloc(), request, &mut BuiltIn, &mut outputs);
     status(&outcome) == 0 && outputs.whole == 1
 }
 
-/// Returns whether one document is converted, for the arguments of the held report.
+/// Returns whether one document is converted, for the arguments of the built-in report.
 fn converts_once(rt: &(impl AllocGlobal + Threads + Wait + Sync)) -> bool {
     match request_of(rt.alloc(), WORDS) {
         Ok(request) => converts(rt, &request),
@@ -159,7 +159,7 @@ fn is_told(alloc: Global) -> bool {
 /// Returns whether the built-in report is converted, and the teller is given nothing.
 fn is_silent(rt: &(impl AllocGlobal + Threads + Wait + Sync)) -> bool {
     let mut teller = Listening { bytes: 0 };
-    let (status, document) = held_told(rt, rt.alloc(), Vec::new(rt.alloc()), &mut teller);
+    let (status, document) = built_in_told(rt, rt.alloc(), Vec::new(rt.alloc()), &mut teller);
     status == 0 && teller.bytes == 0 && document.as_slice().ends_with(b"}}\n")
 }
 
@@ -170,7 +170,7 @@ pub(crate) fn hold(rt: &(impl AllocGlobal + Threads + Wait + Sync), settings: &S
 
 #[test]
 fn calls_of_runs(rt: HostRuntime) {
-    assert!(rt; holds(&rt, WORDS, Trial::Runs));
+    assert!(rt; holds(&rt, WORDS, SettingTrial::Runs));
 }
 
 /// Returns whether the calls without settings answer as they must.
@@ -207,7 +207,7 @@ fn converts_tables(
     status(&outcome) == 0 && document.as_slice().ends_with(b"}}\n")
 }
 
-/// Returns whether the held report is converted.
+/// Returns whether the built-in report is converted.
 fn converts_a_report(rt: &(impl AllocGlobal + Threads + Wait + Sync), report: &Report) -> bool {
     match vec![in rt.alloc(); Some(TABLE.as_bytes())] {
         Ok(tables) => converts_tables(rt, report, tables),
@@ -216,8 +216,8 @@ fn converts_a_report(rt: &(impl AllocGlobal + Threads + Wait + Sync), report: &R
 }
 
 /// Returns whether it is converted after its files are read.
-fn converts_the_held(rt: &(impl AllocGlobal + Threads + Wait + Sync)) -> bool {
-    let folder = &mut Held;
+fn converts_the_built_in(rt: &(impl AllocGlobal + Threads + Wait + Sync)) -> bool {
+    let folder = &mut BuiltIn;
     let report: Result<Report, EarlyFault> = report_of(
         rt.alloc(),
         folder,
@@ -233,5 +233,5 @@ fn converts_the_held(rt: &(impl AllocGlobal + Threads + Wait + Sync)) -> bool {
 
 #[test]
 fn calls_of_conversions_to_outcomes(rt: HostRuntime) {
-    assert!(rt; converts_the_held(&rt));
+    assert!(rt; converts_the_built_in(&rt));
 }

@@ -1,6 +1,6 @@
 //! Runs over files in memory, to a writer whose flush fails.
 
-use crate::words::{Trial, WORDS, has_lines, holds};
+use crate::words::{SettingTrial, WORDS, has_lines, holds};
 use oim_run::{METADATA, Settings, TYPES, Texts, convert_to, run_to, status};
 use std::io;
 use std::io::Write;
@@ -26,9 +26,9 @@ const NOT_FLUSHED: &str = "xbrl-json: output: Write (56)\n";
 
 /// The path of the types table, the bytes of the table, and the line: the document is whole, or a
 /// table is refused, or there is no types table.
-type Case = (&'static str, &'static [u8], &'static str);
+type FlushCase = (&'static str, &'static [u8], &'static str);
 
-const CASES: &[Case] = &[
+const CASES: &[FlushCase] = &[
     ("t.csv", b"cash\n1\n", NOT_FLUSHED),
     ("t.csv", b"cash\nx\n", NOT_FLUSHED),
     ("none.csv", b"cash\n1\n", "xbrl-json: cannot read t.csv\n"),
@@ -38,7 +38,7 @@ const CASES: &[Case] = &[
 fn ends_unflushed(
     rt: &(impl AllocGlobal + Threads + Wait + Sync),
     settings: &Settings,
-    case: &Case,
+    case: &FlushCase,
 ) -> bool {
     let files = [
         ("m.json", METADATA.as_bytes()),
@@ -51,7 +51,7 @@ fn ends_unflushed(
 }
 
 /// Returns whether the conversion of the built-in report reports the failed flush.
-fn is_held_unflushed(rt: &(impl AllocGlobal + Threads + Wait + Sync)) -> bool {
+fn is_built_in_unflushed(rt: &(impl AllocGlobal + Threads + Wait + Sync)) -> bool {
     let (outcome, _) = convert_to(rt, rt.alloc(), Unflushed);
     has_lines(rt.alloc(), &outcome, NOT_FLUSHED) && status(&outcome) == 3
 }
@@ -66,10 +66,10 @@ pub(crate) fn end_unflushed(
             return false;
         }
     }
-    is_held_unflushed(rt)
+    is_built_in_unflushed(rt)
 }
 
 #[test]
 fn runs_whose_flush_fails(rt: HostRuntime) {
-    assert!(rt; holds(&rt, WORDS, Trial::Flushes));
+    assert!(rt; holds(&rt, WORDS, SettingTrial::Flushes));
 }

@@ -1,6 +1,6 @@
 //! Runs over the test's own folder, which only opens files, and whose readers fail.
 
-use crate::words::{Trial, has_lines, holds};
+use crate::words::{SettingTrial, has_lines, holds};
 use oim_json::Marked;
 use oim_run::{Folder, METADATA, Settings, TABLE, TYPES, run};
 use std::io;
@@ -55,9 +55,9 @@ impl Folder<Failing> for Opening {
 }
 
 /// A file, its length, and the line for a failed read of it.
-type File = (&'static str, usize, &'static str);
+type FailingFile = (&'static str, usize, &'static str);
 
-const FILES: &[File] = &[
+const FILES: &[FailingFile] = &[
     ("m.json", METADATA.len(), "xbrl-json: report: Read (17)\n"),
     ("t.csv", TYPES.len(), "xbrl-json: types: Read (17)\n"),
     (
@@ -86,7 +86,7 @@ fn says(
 fn fails_anywhere(
     rt: &(impl AllocGlobal + Threads + Wait + Sync),
     settings: &Settings,
-    file: &File,
+    file: &FailingFile,
 ) -> bool {
     for left in 0..=file.1 {
         if !says(rt, settings, file.0, left, file.2) {
@@ -113,5 +113,5 @@ const TWO: &[&str] = &["m.json", "--types", "t.csv", "--workers", "2"];
 
 #[test]
 fn readers_that_fail_after_each_byte(rt: HostRuntime) {
-    assert!(rt; holds(&rt, ONE, Trial::Folders) && holds(&rt, TWO, Trial::Folders));
+    assert!(rt; holds(&rt, ONE, SettingTrial::Folders) && holds(&rt, TWO, SettingTrial::Folders));
 }

@@ -9,7 +9,7 @@ use std::thread::Threads;
 
 /// The trials of settings.
 #[derive(Clone, Copy)]
-pub(crate) enum Trial {
+pub(crate) enum SettingTrial {
     /// Calls of `oim_run`.
     Runs,
     /// Writers whose flush fails.
@@ -22,12 +22,12 @@ pub(crate) enum Trial {
 fn succeeds(
     rt: &(impl AllocGlobal + Threads + Wait + Sync),
     settings: &Settings,
-    trial: Trial,
+    trial: SettingTrial,
 ) -> bool {
     match trial {
-        Trial::Runs => runs::hold(rt, settings),
-        Trial::Flushes => tests_flushes::end_unflushed(rt, settings),
-        Trial::Folders => tests_folders::fail(rt, settings),
+        SettingTrial::Runs => runs::hold(rt, settings),
+        SettingTrial::Flushes => tests_flushes::end_unflushed(rt, settings),
+        SettingTrial::Folders => tests_folders::fail(rt, settings),
     }
 }
 
@@ -35,7 +35,7 @@ fn succeeds(
 pub(crate) fn holds(
     rt: &(impl AllocGlobal + Threads + Wait + Sync),
     words: &[&str],
-    trial: Trial,
+    trial: SettingTrial,
 ) -> bool {
     match job(rt.alloc(), words) {
         Ok(settings) => succeeds(rt, &settings, trial),
@@ -51,7 +51,7 @@ pub(crate) const FAULT: TableFault = TableFault {
     kind: TableKind::BadNumber,
 };
 
-/// The arguments with the files of the held report.
+/// The arguments with the files of the built-in report.
 pub(crate) const WORDS: &[&str] = &["m.json", "--types", "t.csv"];
 
 /// Returns whether an outcome has these lines.

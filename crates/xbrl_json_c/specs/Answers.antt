@@ -9,7 +9,7 @@ use Rattle.oim_json.specs.declared.mark.Mark.TheVariants as «marks»
 use Rattle.oim_run.specs.Lines.{status_of}
 use Rattle.oim_run.specs.Runs.{EndsOver}
 use Rattle.oim_run.specs.declared.outcome.Outcome.{Outcome}
-use Rattle.xbrl_json_c.specs.declared.answer.Answer.{Answer}
+use Rattle.xbrl_json_c.specs.declared.answer.CallAnswer.{CallAnswer}
 use Rattle.xbrl_json_c.specs.declared.files.File.{File}
 
 -- The files that were handed over, as a folder. The first of two files with one path counts.
@@ -34,13 +34,13 @@ pub record Runs (files : Files) (meta types : List ℕ) (layout : Layout) (o : O
   pub written : after.told ≡ Some document
 
 -- The answer has the exit status and the document of such a run.
-pub record Gives (files : Files) (meta types : List ℕ) (layout : Layout) (a : Answer) : Type 0 where
+pub record Gives (files : Files) (meta types : List ℕ) (layout : Layout) (a : CallAnswer) : Type 0 where
   pub ran : Outcome
   pub run : Runs files meta types layout ran a.document.now
   pub exit : a.status ≡ status_of ran
 
 -- The answer has no text.
-abbrev pub IsEmpty : Answer → Type 0
+abbrev pub IsEmpty : CallAnswer → Type 0
 IsEmpty a = (a.document.now ≡ []) × (a.lines.now ≡ []) × (a.faults.now ≡ [])
 
 -- A path is not UTF-8, or the number is that of no layout.
@@ -52,6 +52,6 @@ abbrev pub IsRight : (meta types : List ℕ) → ℕ → Layout → Type 0
 IsRight meta types number layout = IsUtf8 meta × IsUtf8 types × (layout_at number ≡ Some layout)
 
 -- The answer to a call: status 2 and no text if the call is wrong, and else what a run gives.
-abbrev pub Answers : Files → (meta types : List ℕ) → (number : ℕ) → Answer → Type 0
+abbrev pub Answers : Files → (meta types : List ℕ) → (number : ℕ) → CallAnswer → Type 0
 Answers files meta types number a = (IsWrong meta types number × (a.status ≡ 2) × IsEmpty a)
     ⊎ ((layout : Layout) × IsRight meta types number layout × Gives files meta types layout a)

@@ -6,7 +6,7 @@ ghost use Rattle.xbrl_json_c.specs.Answers.{IsEmpty};
 /// How a conversion ended. The caller frees each text by `free` if its length is not 0.
 #[repr(C)]
 #[derive(Clone, Copy)]
-pub struct Answer {
+pub struct CallAnswer {
     /// The exit status of the program: 0 if the document is written, 1 if the report has a fault or
     /// a table is refused, 2 if the call is wrong, 3 if memory ran out or a file does not exist.
     pub status: u32,
@@ -21,9 +21,9 @@ pub struct Answer {
     pub faults: &'static [u8],
 }
 
-/// What there is to tell of faults: the lines for a person, and the records.
+/// The texts of a run's faults: the lines for a person, and the records.
 #[derive(Drop)]
-pub(crate) struct Told {
+pub(crate) struct FaultTexts {
     pub(crate) lines: Vec<u8>,
     pub(crate) faults: Vec<u8>,
 }
@@ -38,13 +38,13 @@ fn handed_out(bytes: Vec<u8>) -> &'static [u8]
     bytes.leak()
 }
 
-impl Answer {
+impl CallAnswer {
     /// Returns the answer to a call that is wrong.
-    pub(crate) fn refused() -> Answer
+    pub(crate) fn refused() -> CallAnswer
         ensures status { result.status ≡ 2 }
         ensures empty { IsEmpty result }
     {
-        Answer {
+        CallAnswer {
             status: 2,
             document: b"",
             lines: b"",
@@ -53,12 +53,12 @@ impl Answer {
     }
 
     /// Returns the answer with this status, document and faults.
-    pub(crate) fn of(status: u8, document: Vec<u8>, told: Told) -> Answer
+    pub(crate) fn of(status: u8, document: Vec<u8>, texts: FaultTexts) -> CallAnswer
         ensures status { result.status ≡ status }
         ensures document { result.document.now ≡ document.items }
     {
-        let Told { lines, faults } = told;
-        Answer {
+        let FaultTexts { lines, faults } = texts;
+        CallAnswer {
             status: u32::from(status),
             document: handed_out(document),
             lines: handed_out(lines),

@@ -3,8 +3,8 @@
 ghost use Rattle.std.specs.Prelude.{◌≡◌};
 ghost use Rattle.xbrl_json_c.specs.Answers.{Answers, Gives, Runs, files_at, layout_at};
 
-use crate::answer::Answer;
-use crate::explained::told_of;
+use crate::answer::CallAnswer;
+use crate::explained::texts_of;
 use crate::files::{File, Files};
 use oim_json::{Layout, Marked};
 use oim_run::{Outcome, run_alone, status};
@@ -40,12 +40,18 @@ fn run_over(
 }
 
 /// Converts the report at these paths of these files.
-fn convert_at(alloc: Global, files: Files<'_>, meta: &str, types: &str, layout: Layout) -> Answer
+fn convert_at(
+    alloc: Global,
+    files: Files<'_>,
+    meta: &str,
+    types: &str,
+    layout: Layout,
+) -> CallAnswer
     ensures { Gives (files_at files.entry.files.now) meta.now types.now layout result }
 {
     let (outcome, document) = run_over(alloc, files, meta, types, layout);
-    let told = told_of(alloc, files, meta, types, &outcome);
-    Answer::of(status(&outcome), document, told)
+    let texts = texts_of(alloc, files, meta, types, &outcome);
+    CallAnswer::of(status(&outcome), document, texts)
 }
 
 /// Converts the report at these paths of these files, in the layout of this number.
@@ -55,17 +61,17 @@ pub(crate) fn convert_files(
     meta: &[u8],
     types: &[u8],
     number: u32,
-) -> Answer
+) -> CallAnswer
     ensures { Answers (files_at files.now) meta.now types.now number result }
 {
     let Ok(meta_path) = str::from_utf8(meta) else {
-        return Answer::refused();
+        return CallAnswer::refused();
     };
     let Ok(types_path) = str::from_utf8(types) else {
-        return Answer::refused();
+        return CallAnswer::refused();
     };
     let Some(layout) = layout_of(number) else {
-        return Answer::refused();
+        return CallAnswer::refused();
     };
     convert_at(alloc, Files { files }, meta_path, types_path, layout)
 }

@@ -1,14 +1,13 @@
 //! The faults of a run, for people and for programs. No contract says anything about these texts.
 
-use crate::answer::Told;
+use crate::answer::FaultTexts;
 use crate::files::Files;
 use oim_names::Text;
 use oim_rows::TableFault;
 use oim_run::{
-    EarlyFault, Explanation, FaultCause, FaultPlace, FileFault, MOST_TABLES, Outcome, RefusedTable,
-    ReportAgain, Source, explained_faults, explanation_text, fault_header, fault_row, line,
-    lines_below, list_faults, report_again, report_explanation, report_fault_row, status,
-    table_line,
+    EarlyFault, Explanation, FileFault, MOST_TABLES, Outcome, ReportAgain, Source,
+    explained_faults, explanation_text, fault_header, line, lines_below, report_again,
+    report_explanation, status, table_line, write_report_fault, write_table_faults,
 };
 use std::alloc::{AllocError, Global};
 
@@ -27,14 +26,6 @@ fn or_nothing(alloc: Global, text: Result<Vec<u8>, AllocError>) -> Vec<u8> {
 fn put(to: &mut Vec<u8>, text: Result<String, AllocError>) -> Result<(), AllocError> {
     match text {
         Ok(text) => to.extend_from_slice(text.as_str().as_bytes()),
-        Err(_) => Err(AllocError),
-    }
-}
-
-/// Appends a record.
-fn put_record(to: &mut Vec<u8>, record: Result<Vec<u8>, AllocError>) -> Result<(), AllocError> {
-    match record {
-        Ok(record) => to.extend_from_slice(record.as_slice()),
         Err(_) => Err(AllocError),
     }
 }
@@ -63,16 +54,7 @@ fn put_tables(
     Ok(())
 }
 
-/// Appends how many refused tables are not explained, if there are any.
-fn put_more(alloc: Global, count: usize, to: &mut Vec<u8>) -> Result<(), AllocError> {
-    if count <= MOST_TABLES {
-        return Ok(());
-    }
-    let more = count - MOST_TABLES;
-    put(to, format!(in alloc; "    (and {more} more)\n"))
-}
-
-/// Returns the lines of refused tables.
+/// Returns the lines of refused tables, and how many of these are not explained.
 fn lines_of_tables(
     alloc: Global,
     files: Files<'_>,
@@ -82,30 +64,15 @@ fn lines_of_tables(
 ) -> Result<Vec<u8>, AllocError> {
     let mut lines = Vec::new(alloc);
     put_tables(alloc, files, meta, again, tables, &mut lines)?;
-    put_more(alloc, tables.len(), &mut lines)?;
+    if tables.len() > MOST_TABLES {
+        let more = tables.len() - MOST_TABLES;
+        put(&mut lines, format!(in alloc; "    (and {more} more)\n"))?;
+    }
     Ok(lines)
 }
 
 /// How many faults of one table are listed at most, as without `--most-faults`.
 const MOST_FAULTS: usize = 1_000_000;
-
-/// Appends the records of a refused table's faults.
-fn put_faults(
-    alloc: Global,
-    files: &mut Files<'_>,
-    again: &Result<ReportAgain, EarlyFault>,
-    table: RefusedTable<'_>,
-    to: &mut Vec<u8>,
-) -> Result<(), AllocError> {
-    let Ok(again) = again else {
-        let (place, cause) = (FaultPlace::unknown(alloc)?, FaultCause::none(alloc)?);
-        return put_record(to, fault_row(alloc, table.id, table.fault, &place, &cause));
-    };
-    match list_faults(alloc, files, again, table, to) {
-        Ok(_) => Ok(()),
-        Err(_) => Err(AllocError),
-    }
-}
 
 /// Returns the header and the records of refused tables.
 fn records_of_tables(
@@ -116,30 +83,25 @@ fn records_of_tables(
     tables: &[(Text, TableFault)],
 ) -> Result<Vec<u8>, AllocError> {
     let mut records = Vec::from_slice(alloc, fault_header().as_bytes())?;
-    for (id, fault) in tables {
-        let table = RefusedTable {
-            meta,
-            id: id.as_str(),
-            fault,
-            most: MOST_FAULTS,
-        };
-        put_faults(alloc, &mut files, again, table, &mut records)?;
+    let to = &mut records;
+    match write_table_faults(alloc, meta, &mut files, again, tables, MOST_FAULTS, to) {
+        Ok(_) => Ok(records),
+        Err(_) => Err(AllocError),
     }
-    Ok(records)
 }
 
-/// Tells the faults of refused tables. The report is read again.
-fn told_of_tables(
+/// Returns the texts of refused tables. The report is read again.
+fn texts_of_tables(
     alloc: Global,
     mut files: Files<'_>,
     meta: &str,
     types: &str,
     tables: &[(Text, TableFault)],
-) -> Told {
+) -> FaultTexts {
     let again = report_again(alloc, meta, types, &mut files);
     let lines = lines_of_tables(alloc, files, meta, &again, tables);
     let faults = records_of_tables(alloc, files, meta, &again, tables);
-    Told {
+    FaultTexts {
         lines: or_nothing(alloc, lines),
         faults: or_nothing(alloc, faults),
     }
@@ -157,41 +119,22 @@ fn lines_of_report(
     Ok(lines)
 }
 
-/// Returns the record of a fault of the metadata, the types table or the parameters file, by its
-/// explanation.
+/// Returns the header and the record of a fault of the metadata, the types table or the parameters
+/// file, by its explanation.
 fn record_of_report(
     alloc: Global,
     fault: &FileFault,
-    told: &Result<Explanation, AllocError>,
+    told: &Explanation,
 ) -> Result<Vec<u8>, AllocError> {
-    match told {
-        Ok(told) => report_fault_row(
-            alloc,
-            fault.finding.fault,
-            told.place.as_str(),
-            told.found.as_str(),
-        ),
-        Err(_) => Err(AllocError),
-    }
-}
-
-/// Returns the lines of an explanation.
-fn text_of(alloc: Global, told: &Result<Explanation, AllocError>) -> Result<String, AllocError> {
-    match told {
-        Ok(told) => explanation_text(alloc, told),
-        Err(_) => Err(AllocError),
-    }
-}
-
-/// Returns the header and this record.
-fn with_header(alloc: Global, record: Result<Vec<u8>, AllocError>) -> Result<Vec<u8>, AllocError> {
     let mut records = Vec::from_slice(alloc, fault_header().as_bytes())?;
-    put_record(&mut records, record)?;
-    Ok(records)
+    match write_report_fault(alloc, fault, told, &mut records) {
+        Ok(()) => Ok(records),
+        Err(_) => Err(AllocError),
+    }
 }
 
-/// Tells a fault of the metadata, the types table or the parameters file.
-fn told_of_report(
+/// Returns the texts of a fault of the metadata, the types table or the parameters file.
+fn texts_of_report(
     alloc: Global,
     mut files: Files<'_>,
     meta: &str,
@@ -199,44 +142,49 @@ fn told_of_report(
     outcome: &Outcome,
     source: Source,
     fault: &FileFault,
-) -> Told {
-    let told = report_explanation(alloc, meta, types, &mut files, source, fault);
-    let lines = lines_of_report(alloc, outcome, text_of(alloc, &told));
-    let faults = with_header(alloc, record_of_report(alloc, fault, &told));
-    Told {
+) -> FaultTexts {
+    let Ok(told) = report_explanation(alloc, meta, types, &mut files, source, fault) else {
+        return FaultTexts {
+            lines: Vec::new(alloc),
+            faults: Vec::new(alloc),
+        };
+    };
+    let lines = lines_of_report(alloc, outcome, explanation_text(alloc, &told));
+    let faults = record_of_report(alloc, fault, &told);
+    FaultTexts {
         lines: or_nothing(alloc, lines),
         faults: or_nothing(alloc, faults),
     }
 }
 
-/// Tells an outcome that has no refused tables and no fault of the report's other files. There is a
-/// header with status 0, and no file of faults with status 3.
-fn told_plainly(alloc: Global, outcome: &Outcome) -> Told {
+/// Returns the texts of an outcome that has no refused tables and no fault of the report's other
+/// files. There is a header with status 0, and no file of faults with status 3.
+fn plain_texts(alloc: Global, outcome: &Outcome) -> FaultTexts {
     let lines = lines_of_report(alloc, outcome, Ok(String::new(alloc)));
     let header = if status(outcome) > 1 {
         Ok(Vec::new(alloc))
     } else {
         Vec::from_slice(alloc, fault_header().as_bytes())
     };
-    Told {
+    FaultTexts {
         lines: or_nothing(alloc, lines),
         faults: or_nothing(alloc, header),
     }
 }
 
-/// Tells how a run over these files ended.
-pub(crate) fn told_of(
+/// Returns the texts of the faults of a run over these files, which ended with this outcome.
+pub(crate) fn texts_of(
     alloc: Global,
     files: Files<'_>,
     meta: &str,
     types: &str,
     outcome: &Outcome,
-) -> Told {
+) -> FaultTexts {
     match outcome {
-        Outcome::Tables(tables) => { told_of_tables(alloc, files, meta, types, tables.as_slice()) }
+        Outcome::Tables(tables) => texts_of_tables(alloc, files, meta, types, tables.as_slice()),
         Outcome::Report(source, fault) => {
-            told_of_report(alloc, files, meta, types, outcome, *source, fault)
+            texts_of_report(alloc, files, meta, types, outcome, *source, fault)
         }
-        _ => told_plainly(alloc, outcome),
+        _ => plain_texts(alloc, outcome),
     }
 }

@@ -22,7 +22,7 @@ ghost use Rattle.xbrl_json_c.specs.Answers.{Answers, files_at};
 ghost use Rattle.oim_run.specs.declared.settings.TheConstants.{VERSION as program_version};
 
 use crate::conversion::convert_files;
-pub use answer::Answer;
+pub use answer::CallAnswer;
 pub use files::File;
 use oim_run::VERSION;
 use std::alloc::Global;
@@ -57,7 +57,7 @@ pub extern "C" fn xbrl_json_convert(
     meta: &[u8],
     types: &[u8],
     layout: u32,
-    answer: &mut Answer,
+    answer: &mut CallAnswer,
 ) -> u32
     ensures answers { Answers (files_at files.now) meta.now types.now layout answer.new }
     ensures status { result ≡ answer.new.status }

@@ -154,23 +154,7 @@ fn is_missing(metadata: &io::Result<fs::Metadata>) -> bool {
     }
 }
 
-/// Returns the size of a regular file, and `None` for any other file.
-fn size_of(metadata: &io::Result<fs::Metadata>) -> Option<u64> {
-    match metadata {
-        Ok(metadata) if metadata.is_file() => Some(metadata.len()),
-        _ => None,
-    }
-}
-
 impl<'a> Disk<'a> {
-    /// Returns what is counted in a file that is opened now.
-    fn counted_open(&self) -> Counted<'a> {
-        match self.counts {
-            Some(counts) if counts.opens_metadata() => Counted::Names(counts),
-            _ => Counted::Nothing,
-        }
-    }
-
     /// Returns what is counted in a table's file at a path.
     fn counted_table(&self, path: &str, is_missing: bool) -> Counted<'a> {
         let Some(counts) = self.counts else {
@@ -195,10 +179,14 @@ impl<'a> Folder<DiskFile<'a>> for Disk<'a> {
         if self.written.look_at_path(path, &file.metadata()) {
             return None;
         }
+        let counted = match self.counts {
+            Some(counts) if counts.opens_metadata() => Counted::Names(counts),
+            _ => Counted::Nothing,
+        };
         Some(DiskFile {
             source: DiskFileState::Open(file),
             progress: None,
-            counted: self.counted_open(),
+            counted,
         })
     }
 
@@ -207,7 +195,11 @@ impl<'a> Folder<DiskFile<'a>> for Disk<'a> {
         self.written.look_at_path(path.as_str(), &metadata);
         let is_missing = is_missing(&metadata);
         if let Some(progress) = self.progress {
-            progress.table_found(is_missing, size_of(&metadata));
+            let size = match &metadata {
+                Ok(metadata) if metadata.is_file() => Some(metadata.len()),
+                _ => None,
+            };
+            progress.table_found(is_missing, size);
         }
         let counted = self.counted_table(path.as_str(), is_missing);
         if is_missing {

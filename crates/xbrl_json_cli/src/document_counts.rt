@@ -2,7 +2,7 @@
 //!
 //! What a byte tells is proved (`document_marks`); that the counts follow is tested.
 
-use crate::document_marks::{DOCUMENT_START, DocumentMark, DocumentPlace, mark, marked};
+use crate::document_marks::{DOCUMENT_START, DocumentMark, DocumentPlace, after, mark};
 use std::alloc::{AllocError, Global};
 use std::mem;
 
@@ -113,7 +113,7 @@ impl DocumentCounts {
     pub fn take(&mut self, bytes: &[u8]) -> Result<(), AllocError> {
         for byte in bytes {
             let told = mark(self.place, *byte);
-            self.place = marked(self.place, *byte);
+            self.place = after(self.place, *byte);
             if told != DocumentMark::Nothing {
                 self.add(told, *byte)?;
             }

@@ -3,18 +3,19 @@
 ghost use Rattle.std.specs.Prelude.{◌≡◌};
 ghost use Rattle.xbrl_json_cli.specs.DocumentMarks.{facts_after, key_mark, mark_at, marked_after, named_after, property_mark};
 
-use crate::json_place::{JsonPlace, START, Within, after};
+use crate::json_place;
+use crate::json_place::{JsonPlace, START, Within};
 
 /// The number of the key `facts`, and of the keys of a fact that are counted.
-pub const FACTS: u64 = 0x66_61_63_74_73;
+const FACTS: u64 = 0x66_61_63_74_73;
 
-pub const DECIMALS: u64 = 0x64_65_63_69_6d_61_6c_73;
+const DECIMALS: u64 = 0x64_65_63_69_6d_61_6c_73;
 
-pub const ENTITY: u64 = 0x65_6e_74_69_74_79;
+const ENTITY: u64 = 0x65_6e_74_69_74_79;
 
-pub const PERIOD: u64 = 0x70_65_72_69_6f_64;
+const PERIOD: u64 = 0x70_65_72_69_6f_64;
 
-pub const UNIT: u64 = 0x75_6e_69_74;
+const UNIT: u64 = 0x75_6e_69_74;
 
 /// A place in a document.
 #[derive(Clone, Copy, Drop)]
@@ -114,11 +115,11 @@ fn ends_name(place: DocumentPlace, byte: u8) -> bool
 
 /// Returns the place after a byte.
 #[inline(always)]
-pub fn marked(place: DocumentPlace, byte: u8) -> DocumentPlace
+pub fn after(place: DocumentPlace, byte: u8) -> DocumentPlace
     ensures { result ≡ marked_after place byte }
 {
     DocumentPlace {
-        json: after(place.json, byte),
+        json: json_place::after(place.json, byte),
         are_facts: begin_facts(place, byte),
         is_named: ends_name(place, byte),
     }

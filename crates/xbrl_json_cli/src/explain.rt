@@ -4,7 +4,7 @@
 
 use crate::colours::Colours;
 use crate::files_again::FilesAgain;
-use crate::known::{Found, Known, KnownTables};
+use crate::known::{Known, KnownTables, Reread};
 use crate::reason::{why_unread, why_unwritten};
 use crate::write_failure::WriteFailure;
 use oim_meta::MetaFault;
@@ -75,23 +75,23 @@ impl<'a> Explainer<'a> {
     /// parameters file, which is made if it is not known.
     fn early_lines(
         &self,
-        found: &mut Found<'_>,
+        reread: &mut Reread<'_>,
         source: Source,
         fault: &FileFault,
     ) -> Result<String, AllocError> {
-        if let Known::Report(explanation) = &found.known {
+        if let Known::Report(explanation) = &reread.known {
             return explanation_text(self.alloc, explanation);
         }
         let (meta, types) = (self.settings.meta.as_str(), self.settings.types.as_str());
-        let files = &mut found.files;
+        let files = &mut reread.files;
         let told = report_explanation(self.alloc, meta, types, files, source, fault)?;
         explanation_text(self.alloc, &told)
     }
 
     /// Prints the explanation below the line of a fault of the metadata, the types table or the
     /// parameters file.
-    fn explain_early(&self, found: &mut Found<'_>, source: Source, fault: &FileFault) {
-        self.print(self.early_lines(found, source, fault));
+    fn explain_early(&self, reread: &mut Reread<'_>, source: Source, fault: &FileFault) {
+        self.print(self.early_lines(reread, source, fault));
         if matches!(source, Source::Report) && fault.finding.fault == MetaFault::Read {
             self.explain_folder(self.settings.meta.as_str());
         }
@@ -123,13 +123,13 @@ impl<'a> Explainer<'a> {
         self.print(line);
     }
 
-    /// Prints the explanation below the line of an outcome without refused tables. `found` has what
-    /// is known of its fault.
-    pub fn explain_fault(&self, found: &mut Found<'_>, outcome: &Outcome) {
+    /// Prints the explanation below the line of an outcome without refused tables. `reread` has
+    /// what is known of its fault.
+    pub fn explain_fault(&self, reread: &mut Reread<'_>, outcome: &Outcome) {
         let reason = match outcome {
             Outcome::Done | Outcome::Tables(_) => return,
             Outcome::Report(source, fault) => {
-                return self.explain_early(found, *source, fault);
+                return self.explain_early(reread, *source, fault);
             }
             Outcome::Output(_) => return self.explain_write(),
             Outcome::CannotRead(path) => why_unread(self.rt, path.as_str()),
@@ -140,13 +140,6 @@ impl<'a> Explainer<'a> {
             Outcome::Run(fault) => fault.explanation(),
         };
         let _ = eprint!(self.rt; "    {reason}\n");
-    }
-
-    /// Prints the line of a refused table, unless memory runs out for it.
-    fn print_line(&self, id: &str, fault: &TableFault) {
-        if let Ok(line) = table_line(self.alloc, id, fault) {
-            self.colours.print_faults(self.rt, line.as_str());
-        }
     }
 
     /// Returns the line that names how many more faults of a table the file of faults has.
@@ -197,7 +190,8 @@ impl<'a> Explainer<'a> {
         }
     }
 
-    /// Prints the line of each refused table, with what is told of each of the first `MOST_TABLES`.
+    /// Prints the line of each refused table, unless memory runs out for it, with what is told of
+    /// each of the first `MOST_TABLES`.
     fn explain_each(
         &self,
         files: &mut FilesAgain<'_>,
@@ -207,7 +201,9 @@ impl<'a> Explainer<'a> {
         let told = self.told_of(files, known, tables);
         let told = told.as_slice();
         for (index, (id, fault)) in tables.iter().enumerate() {
-            self.print_line(id.as_str(), fault);
+            if let Ok(line) = table_line(self.alloc, id.as_str(), fault) {
+                self.colours.print_faults(self.rt, line.as_str());
+            }
             if index < told.len() {
                 let listed = known.listed.as_slice();
                 self.print(lines_below(self.alloc, tables, told, listed, index));
@@ -221,8 +217,8 @@ impl<'a> Explainer<'a> {
 
     /// Prints the lines of all refused tables, and how many of them are not explained. The report
     /// is read again if nothing is known.
-    pub fn explain_tables(&self, found: &mut Found<'_>, tables: &[(Text, TableFault)]) {
-        let Found { files, known } = found;
+    pub fn explain_tables(&self, reread: &mut Reread<'_>, tables: &[(Text, TableFault)]) {
+        let Reread { files, known } = reread;
         match known {
             Known::Tables(known) => self.explain_each(files, known, tables),
             _ => {

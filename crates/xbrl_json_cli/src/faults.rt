@@ -6,18 +6,17 @@ ghost use Rattle.std.specs.Prelude.{IfSome};
 ghost use Rattle.oim_run.specs.Outputs.{IsLeftUnwritten};
 
 use crate::files_again::FilesAgain;
-use crate::known::{Found, Known, KnownTables};
+use crate::known::{Known, KnownTables, Reread};
 use crate::target::Target;
 use crate::whole_file::{Content, can_be_made, write_whole};
 use crate::write_failure::WriteFailure;
 use oim_names::Text;
 use oim_rows::TableFault;
 use oim_run::{
-    EarlyFault, Explanation, FaultCause, FaultPlace, FileFault, ListedFaults, Outcome,
-    RefusedTable, ReportAgain, Request, Settings, Source, cannot_write, fault_header, fault_row,
-    list_faults, report_explanation, report_fault_row, status,
+    Explanation, FileFault, Outcome, Request, Settings, Source, cannot_write, fault_header,
+    report_explanation, status, write_report_fault, write_table_faults,
 };
-use std::alloc::{AllocError, Global};
+use std::alloc::Global;
 use std::io;
 use std::io::{BufWriter, Write};
 
@@ -38,43 +37,15 @@ pub fn is_taken(rt: &HostRuntime, settings: &Settings, path: &str) -> bool {
         || target.is_at(rt, document_path(settings))
 }
 
-/// Whether the file of the faults can be written, as far as can be known before the run. It must
-/// not be the metadata, the types table or the document.
-fn can_be_written(rt: &HostRuntime, alloc: Global, settings: &Settings, path: &str) -> bool {
-    !is_taken(rt, settings, path) && can_be_made(rt, alloc, path)
-}
-
 /// Returns the outcome of a run that cannot write the file of the faults, if that is known before
-/// the run.
+/// the run. It must not be the metadata, the types table or the document.
 pub fn refused_before(rt: &HostRuntime, alloc: Global, request: &Request) -> Option<Outcome> {
     let path = request.faults.as_ref()?;
     let path = path.as_str();
-    if can_be_written(rt, alloc, &request.settings, path) {
+    if !is_taken(rt, &request.settings, path) && can_be_made(rt, alloc, path) {
         return None;
     }
     Some(cannot_write(alloc, path))
-}
-
-/// Writes the records of a refused table whose place is not known. It has no place if the report
-/// was not read again.
-fn write_table<W: Write>(
-    alloc: Global,
-    files: &mut FilesAgain<'_>,
-    report: &Result<ReportAgain, EarlyFault>,
-    table: RefusedTable<'_>,
-    to: &mut W,
-) -> io::Result<ListedFaults> {
-    if let Ok(again) = report {
-        return list_faults(alloc, files, again, table, to);
-    }
-    let (place, cause) = (FaultPlace::unknown(alloc)?, FaultCause::none(alloc)?);
-    let row = fault_row(alloc, table.id, table.fault, &place, &cause)?;
-    to.write_all(row.as_slice())?;
-    Ok(ListedFaults {
-        count: 1,
-        is_cut: false,
-        rows: 0,
-    })
 }
 
 /// Writes the records of refused tables. Reads the report again for them, and returns what it found
@@ -87,28 +58,9 @@ fn write_tables<W: Write>(
     to: &mut W,
 ) -> io::Result<KnownTables> {
     let mut known = KnownTables::read(alloc, &request.settings, files);
-    for (id, fault) in tables {
-        let table = RefusedTable {
-            meta: request.settings.meta.as_str(),
-            id: id.as_str(),
-            fault,
-            most: request.most_faults,
-        };
-        let listed = write_table(alloc, files, &known.report, table, to)?;
-        known.listed.push(listed)?;
-    }
+    let (meta, most) = (request.settings.meta.as_str(), request.most_faults);
+    known.listed = write_table_faults(alloc, meta, files, &known.report, tables, most, to)?;
     Ok(known)
-}
-
-/// Returns the record of a fault of the metadata, the types table or the parameters file, by its
-/// explanation.
-fn row_of_report(
-    alloc: Global,
-    fault: &FileFault,
-    told: &Explanation,
-) -> Result<Vec<u8>, AllocError> {
-    let (place, found) = (told.place.as_str(), told.found.as_str());
-    report_fault_row(alloc, fault.finding.fault, place, found)
 }
 
 /// Writes the record of a fault of the metadata, the types table or the parameters file. Returns
@@ -123,7 +75,7 @@ fn write_report<W: Write>(
 ) -> io::Result<Explanation> {
     let (meta, types) = (settings.meta.as_str(), settings.types.as_str());
     let told = report_explanation(alloc, meta, types, files, source, fault)?;
-    to.write_all(row_of_report(alloc, fault, &told)?.as_slice())?;
+    write_report_fault(alloc, fault, &told, to)?;
     Ok(told)
 }
 
@@ -133,7 +85,7 @@ struct FaultRecords<'a, 'b> {
     alloc: Global,
     request: &'a Request,
     outcome: &'a Outcome,
-    found: &'a mut Found<'b>,
+    reread: &'a mut Reread<'b>,
 }
 
 impl<'a, 'b> FaultRecords<'a, 'b> {
@@ -142,15 +94,15 @@ impl<'a, 'b> FaultRecords<'a, 'b> {
         let alloc = self.alloc;
         match self.outcome {
             Outcome::Tables(tables) => {
-                let files = &mut self.found.files;
+                let files = &mut self.reread.files;
                 let known = write_tables(alloc, self.request, files, tables.as_slice(), to)?;
-                self.found.known = Known::Tables(known);
+                self.reread.known = Known::Tables(known);
             }
             Outcome::Report(source, fault) => {
                 let settings = &self.request.settings;
-                let files = &mut self.found.files;
+                let files = &mut self.reread.files;
                 let told = write_report(alloc, settings, files, *source, fault, to)?;
-                self.found.known = Known::Report(told);
+                self.reread.known = Known::Report(told);
             }
             _ => {}
         }
@@ -186,14 +138,14 @@ fn write_file(
 /// Writes the file of the faults, if the command line names one and the exit status is 0 or 1.
 ///
 /// The file gets its header and the records of each refused table, or that of the fault of another
-/// file of the report. It is replaced only by a whole one. `found` gets what was found out for it.
+/// file of the report. It is replaced only by a whole one. `reread` gets what was found out for it.
 /// Returns the outcome that it cannot be written, if so; `failure` then gets why a write failed.
 pub fn write_faults(
     rt: &HostRuntime,
     alloc: Global,
     request: &Request,
     outcome: &Outcome,
-    found: &mut Found<'_>,
+    reread: &mut Reread<'_>,
     failure: &WriteFailure,
 ) -> Option<Outcome>
     ensures { IfSome result (λ last. IsLeftUnwritten request.now.faults outcome.now last) }
@@ -204,7 +156,7 @@ pub fn write_faults(
         alloc,
         request,
         outcome,
-        found,
+        reread,
     };
     if status(outcome) > 1 || write_file(rt, records, path, failure) {
         return None;

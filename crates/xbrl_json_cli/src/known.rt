@@ -33,17 +33,17 @@ impl Known {
 
 /// What is known of a run's faults, and the files that are read again for them.
 #[derive(Drop)]
-pub struct Found<'a> {
+pub struct Reread<'a> {
     /// The files.
     pub files: FilesAgain<'a>,
     /// What is known.
     pub known: Known,
 }
 
-impl<'a> Found<'a> {
+impl<'a> Reread<'a> {
     /// Knows nothing yet.
-    pub fn new(rt: &'a HostRuntime, alloc: Global) -> Found<'a> {
-        Found {
+    pub fn new(rt: &'a HostRuntime, alloc: Global) -> Reread<'a> {
+        Reread {
             files: FilesAgain::new(rt, alloc),
             known: Known::Nothing,
         }

@@ -68,7 +68,7 @@ use disk::Disk;
 use faults::refused_before;
 use noted::Noted;
 use oim_convert::ConvertFault;
-use oim_run::{Outcome, Request, held_told, request_of, tell};
+use oim_run::{Outcome, Request, built_in_told, request_of, tell};
 use output::SystemOutputs;
 use processors::fitted;
 use progress::Progress;
@@ -161,7 +161,12 @@ fn started<T: Threads + Wait + Sync>(
     words: &[&str],
 ) -> u8 {
     if words.is_empty() {
-        let (status, _) = held_told(threads, alloc, io::writer(rt), &mut StandardError::new(rt));
+        let (status, _) = built_in_told(
+            threads,
+            alloc,
+            io::writer(rt),
+            &mut StandardError::new(rt),
+        );
         return status;
     }
     match request_of(alloc, words) {

@@ -67,16 +67,6 @@ fn made(rt: &HostRuntime, alloc: Global, target: &str, mode: u32) -> Option<(Fil
 }
 
 impl NewFile {
-    /// Gives it the permissions of the file that it will replace. If the system refuses that,
-    /// removes it.
-    fn like(self, rt: &HostRuntime, old: &Metadata) -> Option<NewFile> {
-        if self.file.set_permissions(old.permissions()).is_ok() {
-            return Some(self);
-        }
-        self.remove(rt);
-        None
-    }
-
     /// Makes a new file next to the one at a path, with the permissions of that one if it exists.
     ///
     /// At no moment can anyone read it who could not read the old one. Returns `None` if the system
@@ -91,10 +81,13 @@ impl NewFile {
         let mode = if old.is_some() { PRIVATE } else { PUBLIC };
         let (file, path) = made(rt, alloc, target.as_str(), mode)?;
         let new = NewFile { file, path, target };
-        match old {
-            Some(old) => new.like(rt, old),
-            None => Some(new),
+        if let Some(old) = old {
+            if new.file.set_permissions(old.permissions()).is_err() {
+                new.remove(rt);
+                return None;
+            }
         }
+        Some(new)
     }
 
     /// Returns its identity, if the system gives it.

@@ -1,4 +1,4 @@
-//! What is noted during a run for what is told after it.
+//! The counts of a run, and why writes to its outputs failed.
 
 use crate::counts::Counts;
 use crate::write_failure::WriteFailure;

@@ -107,14 +107,6 @@ fn unmake(rt: &HostRuntime, path: &str) {
     }
 }
 
-/// Returns the identity of the regular file with this metadata, if there is one.
-fn id_of(metadata: &Option<Metadata>) -> Option<FileId> {
-    match metadata {
-        Some(metadata) => FileId::of(metadata),
-        None => None,
-    }
-}
-
 /// The outputs of a run over the system's files.
 ///
 /// Not proved: what they do.
@@ -174,8 +166,12 @@ impl<'a> SystemOutputs<'a> {
     /// Makes a new file next to the one at a path. Returns `None` if no such file can be made, or
     /// if the one at the path is the metadata or the types table.
     fn beside(&self, path: &str, old: &Option<Metadata>) -> Option<To<'a>> {
+        let id = match old {
+            Some(old) => FileId::of(old),
+            None => None,
+        };
         let new = NewFile::make(self.rt, self.rt.alloc(), path, old)?;
-        self.written.are(id_of(old), new.id());
+        self.written.are(id, new.id());
         if !self.reads_one() {
             return Some(To::Beside(new));
         }

@@ -9,7 +9,7 @@ use crate::colours::Colours;
 use crate::counts_file::write_counts;
 use crate::explain::Explainer;
 use crate::faults::write_faults;
-use crate::known::{Found, Known};
+use crate::known::{Known, Reread};
 use crate::noted::Noted;
 use crate::write_failure::WriteFailure;
 use oim_run::{Folder, Outcome, Outputs, Request, Teller, convert_as, shown, status, tell};
@@ -53,7 +53,7 @@ impl<'a> Teller for StandardError<'a> {
 }
 
 /// Tells the lines of an outcome, with the places of its faults if they are asked for. Then the
-/// lines of tables are printed one by one, past the teller. `found` has what is known of its
+/// lines of tables are printed one by one, past the teller. `reread` has what is known of its
 /// faults.
 fn told_as_asked<L: Teller>(
     rt: &HostRuntime,
@@ -61,7 +61,7 @@ fn told_as_asked<L: Teller>(
     request: &Request,
     failure: &WriteFailure,
     outcome: &Outcome,
-    found: &mut Found<'_>,
+    reread: &mut Reread<'_>,
     to: &mut L,
 )
     ensures says { Says (L.terminal to.old) outcome.now (L.said to.old) (L.said to.new) }
@@ -73,11 +73,11 @@ fn told_as_asked<L: Teller>(
     }
     let explainer = Explainer::new(rt, alloc, request, failure);
     if let Outcome::Tables(tables) = outcome {
-        explainer.explain_tables(found, tables.as_slice());
+        explainer.explain_tables(reread, tables.as_slice());
         return;
     }
     tell(to, alloc, outcome);
-    explainer.explain_fault(found, outcome);
+    explainer.explain_fault(reread, outcome);
 }
 
 /// Prints of how many tables the file of the faults has only the first ones, if there are any.
@@ -130,8 +130,8 @@ fn told_alone<L: Teller>(
     ensures status { result ≡ status_of outcome.now }
     ensures says { Says (L.terminal to.old) outcome.now (L.said to.old) (L.said to.new) }
 {
-    let found = &mut Found::new(rt, alloc);
-    told_as_asked(rt, alloc, request, failure, outcome, found, to);
+    let reread = &mut Reread::new(rt, alloc);
+    told_as_asked(rt, alloc, request, failure, outcome, reread, to);
     status(outcome)
 }
 
@@ -211,11 +211,11 @@ pub fn convert_and_tell<
 {
     let alloc = rt.alloc();
     let outcome = convert_apart(rt, threads, alloc, request, folder, outputs);
-    let found = &mut Found::new(rt, alloc);
-    let unwritten = write_faults(rt, alloc, request, &outcome, found, noted.beside);
+    let reread = &mut Reread::new(rt, alloc);
+    let unwritten = write_faults(rt, alloc, request, &outcome, reread, noted.beside);
     let failure = noted.failure_of(&outcome);
-    told_as_asked(rt, alloc, request, failure, &outcome, found, to);
-    tell_cut(rt, alloc, request, &found.known);
+    told_as_asked(rt, alloc, request, failure, &outcome, reread, to);
+    tell_cut(rt, alloc, request, &reread.known);
     let left = left_out(rt, alloc, request, &outcome, unwritten, noted);
     last_told(rt, alloc, request, &outcome, left, noted.beside, to)
 }

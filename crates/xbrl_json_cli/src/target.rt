@@ -44,14 +44,6 @@ pub enum Target {
 }
 
 impl Target {
-    /// Returns what a path leads to if nothing is there.
-    fn missing(rt: &HostRuntime, path: &str) -> Target {
-        match true_path(rt, rt.alloc(), path) {
-            Some(path) => Target::Missing(path),
-            None => Target::Other,
-        }
-    }
-
     /// Returns what a path leads to.
     pub fn of(rt: &HostRuntime, path: &str) -> Target {
         match fs::metadata(rt, path) {
@@ -59,7 +51,10 @@ impl Target {
                 Some(file) => Target::File(file),
                 None => Target::Other,
             },
-            Err(_) => Target::missing(rt, path),
+            Err(_) => match true_path(rt, rt.alloc(), path) {
+                Some(path) => Target::Missing(path),
+                None => Target::Other,
+            },
         }
     }
 

@@ -29,15 +29,6 @@ fn file_beside(rt: &HostRuntime, alloc: Global, path: &str) -> Option<Option<New
     }
 }
 
-/// Whether a file that is written directly can hold the content: any but a folder. It is not opened
-/// to find out.
-fn is_no_folder(rt: &HostRuntime, path: &str) -> bool {
-    match fs::metadata(rt, path) {
-        Ok(metadata) => !metadata.is_dir(),
-        Err(_) => true,
-    }
-}
-
 /// Whether the file at a path can be written, as far as can be known before the run: a new file can
 /// be made next to it, or it is neither a regular file nor a folder.
 ///
@@ -48,7 +39,10 @@ pub fn can_be_made(rt: &HostRuntime, alloc: Global, path: &str) -> bool {
             new.remove(rt);
             true
         }
-        Some(None) => is_no_folder(rt, path),
+        Some(None) => match fs::metadata(rt, path) {
+            Ok(metadata) => !metadata.is_dir(),
+            Err(_) => true,
+        },
         None => false,
     }
 }

@@ -8,7 +8,7 @@ ghost use Rattle.oim_decode.specs.PieceAnswers.{refused as no_memory};
 ghost use Rattle.oim_decode.specs.state.PieceAnswers.{AddsApart, cells_apart, no_rows};
 
 use crate::piece::piece_rows::PieceRows;
-use crate::piece::spare_vectors::SpareVectors;
+use crate::piece::piece_spares::PieceSpares;
 use crate::table::row_texts::RowTexts;
 use oim_fast::TableRow;
 use oim_json::Spare;
@@ -109,7 +109,7 @@ impl PieceAnswer {
         texts: &mut RowTexts<'a>,
         row: &TableRow<'a, '_>,
         fields: &Fields<'_>,
-        spares: &mut SpareVectors,
+        spares: &mut PieceSpares,
     ) -> bool
         requires header { row.now.header ≡ texts.old }
         requires fields { fields.now ≡ row.now.fields }

@@ -10,7 +10,7 @@ ghost use Rattle.oim_rows.specs.Streams.{stream_from};
 
 use crate::piece::first_records::FirstRecords;
 use crate::piece::piece_answer::PieceAnswer;
-use crate::piece::spare_vectors::SpareVectors;
+use crate::piece::piece_spares::PieceSpares;
 use crate::table::row_texts::RowTexts;
 use crate::table::text_rows::TextRows;
 use oim_fast::TableRow;
@@ -31,7 +31,7 @@ pub struct PieceDecoder<'a> {
     texts: RowTexts<'a>,
     records: PieceRecords,
     // Memory for texts.
-    spares: SpareVectors,
+    spares: PieceSpares,
     // The identifiers of other rows: always empty.
     ids: RowIds,
 }
@@ -91,7 +91,7 @@ impl<'a> PieceDecoder<'a> {
             header,
             texts,
             records: PieceRecords::new(alloc, Vec::new(alloc)),
-            spares: SpareVectors::new(alloc),
+            spares: PieceSpares::new(alloc),
             ids: RowIds::new(alloc),
         })
     }

@@ -6,7 +6,7 @@ ghost use Rattle.oim_rows.specs.RowFacts.{IsTextRecord};
 ghost use Rattle.oim_decode.specs.state.RowEnds.{IsEndIn, stretches};
 ghost use Rattle.oim_decode.specs.state.RowTexts.{AddsRowFacts};
 
-use crate::piece::spare_vectors::SpareVectors;
+use crate::piece::piece_spares::PieceSpares;
 use crate::piece::written_rows::WrittenRows;
 use crate::table::row_texts::RowTexts;
 use crate::table::table_blocks::has_room;
@@ -128,7 +128,7 @@ impl PieceRows {
         texts: &mut RowTexts<'a>,
         row: &TableRow<'a, '_>,
         fields: &Fields<'_>,
-        spares: &mut SpareVectors,
+        spares: &mut PieceSpares,
     ) -> Result<(), TableFault>
         requires header { row.now.header ≡ texts.old }
         requires fields { fields.now ≡ row.now.fields }

@@ -5,9 +5,9 @@ ghost use Rattle.std.specs.Prelude.{◌≡◌, ◌++◌, [], take, drop};
 use ghost_value::{Denotes, GhostValue};
 use oim_names::Items;
 
-struct Nothing;
+struct NoFacts;
 
-impl<T> Denotes<Items<T>> for Nothing {
+impl<T> Denotes<Items<T>> for NoFacts {
     ghost denoted = { λ _. [] };
 }
 
@@ -16,7 +16,7 @@ impl<T> Denotes<Items<T>> for Nothing {
 pub(crate) fn none<T>() -> GhostValue<Items<T>>
     ensures { result.value ≡ [] }
 {
-    GhostValue::of(&Nothing)
+    GhostValue::of(&NoFacts)
 }
 
 #[derive(Drop)]

@@ -15,8 +15,8 @@ use Rattle.oim_row.specs.References.{IsFresh, IsOfReport, Key, key_of}
 use Rattle.oim_row.specs.Rows.{RowValue}
 use Rattle.oim_fast.specs.declared.frame.frame.FrameBody.{FrameBody}
 use Rattle.oim_fast.specs.declared.frame.frame.FrameBody.TheVariants as body
-use Rattle.oim_fast.specs.declared.frame.frame_maker.Concept.{Concept}
-use Rattle.oim_fast.specs.declared.frame.frame_maker.Concept.TheVariants as concept
+use Rattle.oim_fast.specs.declared.frame.frame_maker.FrameConcept.{FrameConcept}
+use Rattle.oim_fast.specs.declared.frame.frame_maker.FrameConcept.TheVariants as concept
 use Rattle.oim_fast.specs.declared.frame.frame_maker.FrameMaker.{FrameMaker}
 use Rattle.oim_fast.specs.declared.frame.part.FramePart.{FramePart}
 use Rattle.oim_fast.specs.declared.frame.part.PartValue.TheVariants as part
@@ -45,13 +45,13 @@ pub record IsMaker (x : RowValue) (m : FrameMaker) : Type 0 where
   pub parts : All (IsPart x.header (map key_of m.references)) m.parts.list.items
 
 -- What the levels write for the concept, or the kind if it was given.
-abbrev pub IsConcept : TableHeaderValue → List Key → List Level → Option Kind → Concept → Type 0
+abbrev pub IsConcept : TableHeaderValue → List Key → List Level → Option Kind → FrameConcept → Type 0
 IsConcept f keys ls k (concept.Constant c) = (k ≡ Some c) ⊎ HasConstantKind f ls c
 IsConcept f keys ls k (concept.Reference i) = HasReferredKind f keys ls i
 IsConcept f keys ls k concept.Unknown = ⊤
 
 -- What a part gives for the concept.
-abbrev pub SaysConcept : FramePart → Concept → Type 0
+abbrev pub SaysConcept : FramePart → FrameConcept → Type 0
 SaysConcept p (concept.Constant k) = p.kind ≡ Some k
 SaysConcept p (concept.Reference i) = p.value ≡ part.Reference i
 SaysConcept p concept.Unknown = ⊤

@@ -50,7 +50,7 @@ pub(crate) struct FrameMaker<'a> {
 /// The kind of the concept that the levels write, if it is the same in each row, or the place of
 /// its reference.
 #[derive(Clone, Copy)]
-pub(crate) enum Concept {
+pub(crate) enum FrameConcept {
     Constant(Kind),
     Reference(usize),
     /// Nothing is known.
@@ -68,15 +68,15 @@ fn body_of(text: Option<FrameText>) -> FrameBody
 }
 
 /// Returns what a part gives for the concept.
-fn concept_of(part: &FramePart<'_>) -> Concept
+fn concept_of(part: &FramePart<'_>) -> FrameConcept
     ensures { SaysConcept part.now result }
 {
     if let PartValue::Reference(reference) = part.value {
-        return Concept::Reference(reference);
+        return FrameConcept::Reference(reference);
     }
     match part.kind {
-        Some(kind) => Concept::Constant(kind),
-        None => Concept::Unknown,
+        Some(kind) => FrameConcept::Constant(kind),
+        None => FrameConcept::Unknown,
     }
 }
 
@@ -275,7 +275,7 @@ impl<'a> FrameMaker<'a> {
         row: &TableRow<'a, '_>,
         levels: &[&'a Level],
         kind: Option<Kind>,
-    ) -> Result<Concept, AllocError>
+    ) -> Result<FrameConcept, AllocError>
         requires maker { IsMaker row.now self.old }
         requires rise { All (λ l. LevelRises l.now) levels.now }
         ensures concept { IfOk result (IsConcept row.now.header (keys_in self.new) (from_general levels.now) kind) }
@@ -284,10 +284,10 @@ impl<'a> FrameMaker<'a> {
         ensures cells { self.new.cells ≡ self.old.cells }
     {
         if let Some(kind) = kind {
-            return Ok(Concept::Constant(kind));
+            return Ok(FrameConcept::Constant(kind));
         }
         let Some(concept) = written(levels, "concept") else {
-            return Ok(Concept::Unknown);
+            return Ok(FrameConcept::Unknown);
         };
         let place = self
             .parts
@@ -503,12 +503,12 @@ impl<'a> FrameMaker<'a> {
         let levels = levels_of(alloc, row, column, &self.cells)?;
         let concept = self.concept(alloc, row, levels.as_slice(), kind)?;
         match concept {
-            Concept::Constant(kind) => {
+            FrameConcept::Constant(kind) => {
                 let text = self.text(alloc, row, &column.lead, levels.as_slice(), kind)?;
                 Ok(body_of(text))
             }
-            Concept::Reference(reference) => Ok(FrameBody::ByConcept(reference)),
-            Concept::Unknown => Ok(FrameBody::Unknown),
+            FrameConcept::Reference(reference) => Ok(FrameBody::ByConcept(reference)),
+            FrameConcept::Unknown => Ok(FrameBody::Unknown),
         }
     }
 

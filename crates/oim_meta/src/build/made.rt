@@ -1,8 +1,7 @@
 //! Building lists from an object's members and from lists.
 
-ghost use Rattle.std.specs.Prelude.{◌≡◌, ℕ, List, IfOk, OnOk, option_map, unwrap_or};
-ghost use Rattle.serde_json.specs.Data.{Data, no_items};
-ghost use Rattle.serde_json.specs.Find.{as_array};
+ghost use Rattle.std.specs.Prelude.{◌≡◌, ℕ, List, IfOk, OnOk, option_map};
+ghost use Rattle.serde_json.specs.Data.{Data};
 ghost use Rattle.serde_json.specs.View.{view, items_view, members_view};
 ghost use Rattle.oim_meta.specs.Members.{items_at, map_members, map_items, text_of as text_in};
 ghost use Rattle.oim_meta.specs.Order.{names_of};
@@ -83,16 +82,6 @@ fn texts(alloc: Global, items: Vec<Value>) -> Result<Vec<Text>, AllocError>
     Ok(made)
 }
 
-/// Moves the texts out of a list, in its order.
-fn into_texts(alloc: Global, value: Value) -> Result<Items<Text>, AllocError>
-    ensures { IfOk result (λ made. made ≡ map_items text_in (unwrap_or (as_array (view value)) no_items)) }
-{
-    match value {
-        Value::Array(items) => Ok(Items::from_vec(texts(alloc, items)?)),
-        _ => Ok(Items::new(alloc)),
-    }
-}
-
 /// Moves the texts out of the list at a key, in its order.
 pub(crate) fn take_texts(
     alloc: Global,
@@ -102,7 +91,10 @@ pub(crate) fn take_texts(
     ensures { IfOk result (λ made. made ≡ map_items text_in (items_at key.now (view value.old))) }
 {
     match value.get_mut(key) {
-        Some(list) => into_texts(alloc, list.take()),
+        Some(list) => match list.take() {
+            Value::Array(items) => Ok(Items::from_vec(texts(alloc, items)?)),
+            _ => Ok(Items::new(alloc)),
+        },
         None => Ok(Items::new(alloc)),
     }
 }

@@ -3,7 +3,7 @@
 ghost use Rattle.std.specs.Prelude.{◌≡◌, ◌++◌, IfOk, OnOk, codes};
 ghost use Rattle.serde_json.specs.View.{view, members_view};
 ghost use Rattle.oim_meta.specs.BadDimensions.{is_core as core_key, is_typed as typed, is_dimension as dimension_kind, kind_named, is_bad_meaning};
-ghost use Rattle.oim_meta.specs.BadDimensions.{is_bad_text, is_bad_dimension};
+ghost use Rattle.oim_meta.specs.BadDimensions.{is_bad_dimension};
 ghost use Rattle.oim_meta.specs.Members.{map_members, section};
 ghost use Rattle.oim_meta.specs.Value.{named_dimension};
 ghost use Rattle.oim_meta.specs.Written.{name_and_side};
@@ -66,15 +66,6 @@ fn name_of<'a>(key: &str, name: &'a str) -> &'a str
     strip_back(name, "@end").unwrap_or(name)
 }
 
-fn bad_text(kind: Option<Kind>, key: &str, text: &str) -> bool
-    ensures { result ≡ is_bad_text kind key.now text.now }
-{
-    let Some(rest) = strip_front(text, "$") else {
-        return bad_literal(kind, text);
-    };
-    strip_front(rest, "$").is_none() && !is_identifier(name_of(key, rest))
-}
-
 impl<'a> Walk<'a> {
     fn kind_of(&self, key: &str) -> Option<Kind>
         ensures { result ≡ kind_named self.now.types.now self.now.names.now key.now }
@@ -93,9 +84,12 @@ impl<'a> Walk<'a> {
         if !is_core(key) && !is_dimension(kind) {
             return true;
         }
-        match value.as_str() {
-            Some(text) => bad_text(kind, key, text),
-            None => true,
+        let Some(text) = value.as_str() else {
+            return true;
+        };
+        match strip_front(text, "$") {
+            Some(rest) => strip_front(rest, "$").is_none() && !is_identifier(name_of(key, rest)),
+            None => bad_literal(kind, text),
         }
     }
 

@@ -2,7 +2,7 @@
 
 ghost use Rattle.std.specs.Prelude.{◌≡◌, []};
 ghost use Rattle.serde_json.specs.View.{view};
-ghost use Rattle.oim_meta.specs.Faults.{is_comment as comment, is_mixed_column as mixed};
+ghost use Rattle.oim_meta.specs.Faults.{is_mixed_column as mixed};
 ghost use Rattle.oim_meta.specs.Value.{kind_of as kind_in};
 
 use crate::build::made::flag;
@@ -24,21 +24,12 @@ pub(crate) fn kind_of(column: &Value) -> ColumnKind
     }
 }
 
-fn is_comment(column: &Value) -> bool
-    ensures { result ≡ comment (view column.now) }
-{
-    match column.get("comment") {
-        Some(value) => value.as_bool().unwrap_or(false),
-        None => false,
-    }
-}
-
 /// Returns whether a column is of two or three of the kinds fact, property group and comment.
 pub(crate) fn is_mixed(column: &Value) -> bool
     ensures { result ≡ mixed [] (view column.now) }
 {
     let is_fact = column.get("dimensions").is_some();
     let is_groups = column.get("propertyGroups").is_some();
-    let is_comment = is_comment(column);
+    let is_comment = flag(column, "comment");
     (is_fact && is_groups) || (is_fact && is_comment) || (is_groups && is_comment)
 }

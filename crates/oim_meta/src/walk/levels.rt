@@ -4,7 +4,7 @@ ghost use Rattle.std.specs.Prelude.{◌≡◌, ◌++◌, IfOk, OnOk, option_map,
 ghost use Rattle.serde_json.specs.Find.{get};
 ghost use Rattle.serde_json.specs.View.{view};
 ghost use Rattle.oim_meta.specs.Decimals.{decimals_of};
-ghost use Rattle.oim_meta.specs.BadDecimals.{is_decimals_text as decimals_text, is_decimals as decimals_value, has_bad_decimals_there};
+ghost use Rattle.oim_meta.specs.BadDecimals.{is_decimals as decimals_value, has_bad_decimals_there};
 ghost use Rattle.oim_report.specs.Readers.{no_level as empty_level};
 ghost use Rattle.oim_meta.specs.Value.{level_of};
 ghost use Rattle.oim_meta.specs.state.Places.{part_path};
@@ -22,15 +22,6 @@ use oim_report::{Level, WrittenDecimals};
 use serde_json::Value;
 use std::alloc::{AllocError, Global};
 
-fn is_decimals_text(text: &str) -> bool
-    ensures { result ≡ decimals_text text.now }
-{
-    match strip_front(text, "$") {
-        Some(name) => is_identifier(name),
-        None => text == "#none" || oim_cells::decimals(text).is_some(),
-    }
-}
-
 #[tactic(auto, unfolding(crate::specs::BadDecimals::is_decimals))]
 fn is_decimals(value: &Value) -> bool
     ensures { result ≡ decimals_value (view value.now) }
@@ -38,9 +29,12 @@ fn is_decimals(value: &Value) -> bool
     if whole(value).is_some() {
         return true;
     }
-    match value.as_str() {
-        Some(text) => is_decimals_text(text),
-        None => false,
+    let Some(text) = value.as_str() else {
+        return false;
+    };
+    match strip_front(text, "$") {
+        Some(name) => is_identifier(name),
+        None => text == "#none" || oim_cells::decimals(text).is_some(),
     }
 }
 
@@ -48,10 +42,7 @@ fn is_decimals(value: &Value) -> bool
 pub(crate) fn bad_decimals(level: &Value) -> bool
     ensures { result ≡ has_bad_decimals_there (view level.now) }
 {
-    match level.get("decimals") {
-        Some(decimals) => !is_decimals(decimals),
-        None => false,
-    }
+    !level.get("decimals").is_none_or(is_decimals)
 }
 
 /// Makes the decimals of a level.

@@ -2,7 +2,7 @@
 
 ghost use Rattle.std.specs.Prelude.{◌≡◌, ◌++◌, IfOk, OnOk, codes};
 ghost use Rattle.serde_json.specs.View.{view, members_view};
-ghost use Rattle.oim_meta.specs.BadParameters.{is_bad_parameter, is_no_plain_path as not_plain_path, has_bad_parameter_url};
+ghost use Rattle.oim_meta.specs.BadParameters.{is_bad_parameter, has_bad_parameter_url};
 ghost use Rattle.oim_meta.specs.Members.{map_members, section};
 ghost use Rattle.oim_meta.specs.state.Places.{part_path};
 ghost use Rattle.oim_meta.specs.Value.{named_text};
@@ -21,23 +21,17 @@ use oim_names::{Items, Text, is_identifier, is_plain_path};
 use serde_json::{Map, Value};
 use std::alloc::AllocError;
 
-fn is_no_plain_path(url: &Value) -> bool
-    ensures { result ≡ not_plain_path (view url.now) }
-{
-    match url.as_str() {
-        Some(path) => !is_plain_path(path),
-        None => true,
-    }
-}
-
 /// Returns whether the name of the parameters file is not a plain path.
 #[tactic(auto, unfolding(crate::specs::BadParameters::has_bad_parameter_url))]
 pub(crate) fn bad_parameter_url(report: &Value) -> bool
     ensures { result ≡ has_bad_parameter_url (view report.now) }
 {
-    match report.get("parameterURL") {
-        Some(url) => is_no_plain_path(url),
-        None => false,
+    let Some(url) = report.get("parameterURL") else {
+        return false;
+    };
+    match url.as_str() {
+        Some(path) => !is_plain_path(path),
+        None => true,
     }
 }
 
@@ -108,31 +102,17 @@ impl<'a> Walk<'a> {
         }
     }
 
-    fn find_given_name<'v>(&self, name: &'v str, value: &Value, findings: &mut Findings<'v>)
-        ensures { findings.new ≡ findings.old ++ in_given self.now.given.now name.now (view value.now) }
-    {
-        let _ = value;
-        findings.add_if(
-            self.given.has_name(name),
-            MetaFault::BadParameter,
-            MetadataPart::Report.member("parameters", name),
-        );
-    }
-
-    fn find_given_in<'v>(&self, members: &'v Map<String, Value>, findings: &mut Findings<'v>)
-        ensures { findings.new ≡ findings.old ++ in_each (in_given self.now.given.now) members.now.entries }
-    {
-        for (name, value) in members.iter() {
-            self.find_given_name(name.as_str(), value, findings);
-        }
-    }
-
     /// Adds the report's parameters that the parameters file gives too.
     fn find_given<'v>(&self, report: &'v Value, findings: &mut Findings<'v>)
         ensures { findings.new ≡ findings.old ++ in_members (in_given self.now.given.now) (section (codes "parameters") (view report.now)) }
     {
-        if let Some(members) = object_at(report, "parameters") {
-            self.find_given_in(members, findings);
+        let Some(members) = object_at(report, "parameters") else {
+            return;
+        };
+        for (name, _) in members.iter() {
+            let is_given = self.given.has_name(name.as_str());
+            let place = MetadataPart::Report.member("parameters", name.as_str());
+            findings.add_if(is_given, MetaFault::BadParameter, place);
         }
     }
 

@@ -4,7 +4,7 @@ ghost use Rattle.std.specs.Prelude.{◌≡◌, ◌++◌, IfOk, option_map};
 ghost use Rattle.serde_json.specs.View.{view, items_view};
 ghost use Rattle.oim_meta.specs.Faults.{has_bad_sources};
 ghost use Rattle.oim_meta.specs.Members.{any_item};
-ghost use Rattle.oim_meta.specs.UnknownColumn.{column_at as column_named, lacks_groups as groups_lack, is_unknown_source, has_unknown_source};
+ghost use Rattle.oim_meta.specs.UnknownColumn.{column_at as column_named, is_unknown_source, has_unknown_source};
 ghost use Rattle.oim_meta.specs.Value.{sources_of as sources_in};
 ghost use Rattle.oim_meta.specs.Walk.{in_sources};
 ghost use Rattle.oim_meta.specs.state.Walks.{members_of};
@@ -25,13 +25,8 @@ use std::alloc::{AllocError, Global};
 fn bad_sources(column: &Value) -> bool
     ensures { result ≡ has_bad_sources (view column.now) }
 {
-    if column.get("dimensions").is_none() {
-        return false;
-    }
-    match column.get("propertiesFrom") {
-        Some(names) => is_no_texts(names),
-        None => false,
-    }
+    let is_fact = column.get("dimensions").is_some();
+    is_fact && column.get("propertiesFrom").is_some_and(is_no_texts)
 }
 
 /// A template whose columns are walked, with their names.
@@ -52,21 +47,16 @@ impl<'v> Columns<'v> {
         }
     }
 
-    fn lacks_groups(&self, name: &str) -> bool
-        ensures { result ≡ groups_lack (view self.now.value.now) name.now }
-    {
-        match self.named(name) {
-            Some(column) => !matches!(kind_of(column), ColumnKind::Groups),
-            None => true,
-        }
-    }
-
+    /// Returns whether a name is a text, but not that of a property group column.
     fn lacks_source(&self, name: &Value) -> bool
         ensures { result ≡ is_unknown_source (view self.now.value.now) (view name.now) }
     {
-        match name.as_str() {
-            Some(name) => self.lacks_groups(name),
-            None => false,
+        let Some(name) = name.as_str() else {
+            return false;
+        };
+        match self.named(name) {
+            Some(column) => !matches!(kind_of(column), ColumnKind::Groups),
+            None => true,
         }
     }
 
@@ -118,16 +108,6 @@ impl<'v> Columns<'v> {
         );
     }
 
-    fn named_sources(&self, alloc: Global, column: &Value) -> Result<Items<usize>, AllocError>
-        ensures { IfOk result
-            (λ made. made ≡ sources_in (members_of self.now.names) ColumnKind.Fact (view column.now)) }
-    {
-        match list_at(column, "propertiesFrom") {
-            Some(names) => Ok(Items::from_vec(places(alloc, &self.names, names)?)),
-            None => Ok(Items::new(alloc)),
-        }
-    }
-
     /// Returns the places of the columns that a column takes property groups from.
     pub(crate) fn sources(
         &self,
@@ -139,7 +119,10 @@ impl<'v> Columns<'v> {
             (λ made. made ≡ sources_in (members_of self.now.names) kind (view column.now)) }
     {
         match kind {
-            ColumnKind::Fact => self.named_sources(alloc, column),
+            ColumnKind::Fact => match list_at(column, "propertiesFrom") {
+                Some(names) => Ok(Items::from_vec(places(alloc, &self.names, names)?)),
+                None => Ok(Items::new(alloc)),
+            },
             ColumnKind::Groups | ColumnKind::Comment | ColumnKind::Plain => Ok(Items::new(alloc)),
         }
     }

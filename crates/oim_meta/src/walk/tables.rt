@@ -1,13 +1,11 @@
 //! Tables: making them, and finding their faults.
 
-ghost use Rattle.std.specs.Prelude.{◌≡◌, ◌++◌, IfOk, OnOk, codes};
-ghost use Rattle.serde_json.specs.Data.{no_members};
+ghost use Rattle.std.specs.Prelude.{◌≡◌, ◌++◌, IfOk, OnOk};
 ghost use Rattle.serde_json.specs.Find.{get};
 ghost use Rattle.serde_json.specs.View.{view, members_view};
 ghost use Rattle.oim_meta.specs.Faults.{lacks_template_of, lacks_url as without_url};
-ghost use Rattle.oim_meta.specs.Members.{map_members, section};
+ghost use Rattle.oim_meta.specs.Members.{map_members};
 ghost use Rattle.oim_meta.specs.Value.{table_of, tables_of};
-ghost use Rattle.oim_meta.specs.Walk.{in_members};
 ghost use Rattle.oim_meta.specs.WalkTables.{in_named_template, in_table, in_table_itself, in_tables};
 ghost use Rattle.oim_meta.specs.state.Walks.{in_each, members_of, value_of};
 
@@ -94,17 +92,6 @@ fn find<'v>(name: &'v str, table: &Value, findings: &mut Findings<'v>)
     );
 }
 
-/// Returns the templates of a report, or `nothing` if it has no object of templates.
-fn templates_of<'a>(report: &'a Value, nothing: &'a Map<String, Value>) -> &'a Map<String, Value>
-    requires { members_view nothing.now.entries ≡ no_members }
-    ensures { members_view result.now.entries ≡ section (codes "tableTemplates") (view report.now) }
-{
-    match object_at(report, "tableTemplates") {
-        Some(templates) => templates,
-        None => nothing,
-    }
-}
-
 impl<'a> Walk<'a> {
     #[tactic(auto, unfolding(crate::specs::WalkTables::in_table, crate::specs::Value::table_of))]
     fn table<'v>(
@@ -149,24 +136,6 @@ impl<'a> Walk<'a> {
         Ok(made)
     }
 
-    /// Makes the tables of a metadata, with the templates that they name.
-    fn tables_by<'v>(
-        &self,
-        templates: &Templates<'_>,
-        report: &'v Value,
-        findings: &mut Findings<'v>,
-    ) -> Result<Items<Table>, AllocError>
-        ensures value { IfOk result (λ made. made
-            ≡ map_members (table_of (members_of templates.now.names)) (section (codes "tables") (view report.now))) }
-        ensures found { OnOk result (findings.new
-            ≡ findings.old ++ in_members (in_table (value_of templates.now)) (section (codes "tables") (view report.now))) }
-    {
-        match object_at(report, "tables") {
-            Some(tables) => Ok(Items::from_vec(self.tables_in(templates, tables, findings)?)),
-            None => Ok(Items::new(self.alloc)),
-        }
-    }
-
     /// Makes the tables of a metadata.
     #[tactic(auto, unfolding(crate::specs::WalkTables::in_tables))]
     pub(crate) fn tables<'v>(
@@ -189,11 +158,14 @@ impl<'a> Walk<'a> {
             MetadataPart::Report.at("tables"),
         );
         let nothing = Map::new(self.alloc);
-        let names = Names::of(self.alloc, templates_of(report, &nothing))?;
+        let members = object_at(report, "tableTemplates").unwrap_or(&nothing);
         let templates = Templates {
             value: report.get("tableTemplates"),
-            names,
+            names: Names::of(self.alloc, members)?,
         };
-        self.tables_by(&templates, report, findings)
+        match object_at(report, "tables") {
+            Some(tables) => Ok(Items::from_vec(self.tables_in(&templates, tables, findings)?)),
+            None => Ok(Items::new(self.alloc)),
+        }
     }
 }

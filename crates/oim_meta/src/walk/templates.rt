@@ -5,7 +5,7 @@ ghost use Rattle.serde_json.specs.View.{view, members_view};
 ghost use Rattle.oim_meta.specs.Members.{map_members};
 ghost use Rattle.oim_meta.specs.UnknownColumn.{has_unknown_row_id};
 ghost use Rattle.oim_meta.specs.Value.{columns_of, row_id_of, template_of, templates_of};
-ghost use Rattle.oim_meta.specs.Walk.{in_columns, in_template, in_template_itself, in_templates, lacks_columns as without_columns};
+ghost use Rattle.oim_meta.specs.Walk.{in_columns, in_template, in_template_itself, in_templates};
 ghost use Rattle.oim_meta.specs.state.Walks.{in_each, known_to};
 
 use crate::build::names::Names;
@@ -22,15 +22,6 @@ use oim_names::{Items, Text, is_identifier};
 use oim_report::{Column, Template};
 use serde_json::{Map, Value};
 use std::alloc::AllocError;
-
-fn lacks_columns(template: &Value) -> bool
-    ensures { result ≡ without_columns (view template.now) }
-{
-    match template.get("columns") {
-        Some(columns) => !columns.is_object(),
-        None => true,
-    }
-}
 
 fn unknown_row_id(template: &Value) -> bool
     ensures { result ≡ has_unknown_row_id (view template.now) }
@@ -65,7 +56,7 @@ fn find<'v>(name: &'v str, template: &Value, findings: &mut Findings<'v>)
         here.itself(),
     );
     findings.add_if(
-        lacks_columns(template),
+        !template.get("columns").is_some_and(Value::is_object),
         MetaFault::BadTemplate,
         here.at("columns"),
     );

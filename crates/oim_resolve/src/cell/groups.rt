@@ -1,6 +1,6 @@
 //! The property groups that the row of a cell names.
 
-ghost use Rattle.std.specs.Prelude.{◌≡◌, ◌<◌, ◌++◌, length, reverse, IfSome, OnOk};
+ghost use Rattle.std.specs.Prelude.{◌≡◌, ◌<◌, ◌++◌, length, IfSome, OnOk};
 ghost use Rattle.std.specs.List.{All, list_any};
 ghost use Rattle.std.specs.Option.{option_map};
 ghost use Rattle.oim_cells.specs.Cells.{seen_meaning};
@@ -10,22 +10,21 @@ ghost use Rattle.oim_resolve.specs.Cell.{column, meaning_at};
 ghost use Rattle.oim_resolve.specs.Facts.{cell_and_group_faults, fact_meaning, is_unknown, names_no_group};
 ghost use Rattle.oim_resolve.specs.Faults.{least};
 ghost use Rattle.oim_resolve.specs.ProgramCell.{held};
-ghost use Rattle.oim_resolve.specs.state.ProgramCell.{cell_at};
-ghost use Rattle.oim_resolve.specs.Written.{group_of_cell, named_groups, written};
+ghost use Rattle.oim_resolve.specs.ProgramOrigins.{seen_cell};
+ghost use Rattle.oim_resolve.specs.Written.{group_of_cell, named_groups};
 
-use crate::cell::cell_at::CellAt;
+use crate::cell::cell_of::CellOf;
 use crate::fact::CellFault;
 use oim_cells::CellMeaning;
-use oim_names::find;
-use oim_report::{Level, Written};
+use oim_report::Level;
 use std::alloc::AllocError;
 
-impl<'a> CellAt<'a> {
+impl<'a> CellOf<'a> {
     /// Returns the group that the row's cell at index `i` names.
     #[tactic(auto, using(crate::proofs::LevelOrder::group_rises))]
-    fn named_group(&self, i: usize) -> Option<&'a Level>
+    pub(crate) fn named_group(&self, i: usize) -> Option<&'a Level>
         requires { i < length (columns_of self.now.report.now self.now.table) }
-        ensures group { option_map (λ l. l.now) result ≡ group_of_cell (cell_at self.now) i }
+        ensures group { option_map (λ l. l.now) result ≡ group_of_cell (seen_cell self.now) i }
         ensures rises { IfSome result (λ l. LevelRises l.now) }
     {
         let report = self.report;
@@ -38,9 +37,9 @@ impl<'a> CellAt<'a> {
     }
 
     /// Returns whether the row's cell at index `i` is not absent and names no group of its column.
-    fn names_no_group(&self, i: usize) -> bool
+    pub(crate) fn names_no_group(&self, i: usize) -> bool
         requires { i < length (columns_of self.now.report.now self.now.table) }
-        ensures { result ≡ names_no_group (cell_at self.now) i }
+        ensures { result ≡ names_no_group (seen_cell self.now) i }
     {
         match self.meaning_at(i) {
             CellMeaning::Text(_) => self.named_group(i).is_none(),
@@ -51,7 +50,7 @@ impl<'a> CellAt<'a> {
 
     /// Returns whether a group cell begins like a special value and is not one.
     fn has_unknown_group(&self) -> bool
-        ensures { result ≡ list_any (λ i. is_unknown (meaning_at (cell_at self.now) i)) (column (cell_at self.now)).from }
+        ensures { result ≡ list_any (λ i. is_unknown (meaning_at (seen_cell self.now) i)) (column (seen_cell self.now)).from }
     {
         let column = self.report.column(self.table, self.column);
         for i in column.from.as_slice() {
@@ -64,7 +63,7 @@ impl<'a> CellAt<'a> {
 
     /// Returns whether a group cell is not absent and names no group of its column.
     fn has_bad_group(&self) -> bool
-        ensures { result ≡ list_any (names_no_group (cell_at self.now)) (column (cell_at self.now)).from }
+        ensures { result ≡ list_any (names_no_group (seen_cell self.now)) (column (seen_cell self.now)).from }
     {
         let column = self.report.column(self.table, self.column);
         for i in column.from.as_slice() {
@@ -77,8 +76,8 @@ impl<'a> CellAt<'a> {
 
     /// Returns the least fault of the cell and its groups. It takes no memory.
     pub(crate) fn cell_and_group_fault(&self, meaning: CellMeaning<'a>) -> Option<CellFault>
-        requires { seen_meaning meaning ≡ fact_meaning (cell_at self.now) }
-        ensures { result ≡ least (cell_and_group_faults (cell_at self.now)) }
+        requires { seen_meaning meaning ≡ fact_meaning (seen_cell self.now) }
+        ensures { result ≡ least (cell_and_group_faults (seen_cell self.now)) }
     {
         if matches!(&meaning, CellMeaning::Unknown) || self.has_unknown_group() {
             Some(CellFault::UnknownSpecial)
@@ -89,25 +88,10 @@ impl<'a> CellAt<'a> {
         }
     }
 
-    /// Returns what the first group that writes a dimension writes for it.
-    pub(crate) fn written_in_groups(&self, name: &str) -> Option<&'a Written>
-        ensures { option_map (λ w. w.now) result ≡ written (reverse (named_groups (cell_at self.now))) name.now }
-    {
-        let column = self.report.column(self.table, self.column);
-        for i in column.from.as_slice() {
-            if let Some(level) = self.named_group(*i)
-                && let Some(written) = find(level.dimensions.as_slice(), name)
-            {
-                return Some(written);
-            }
-        }
-        None
-    }
-
     /// Appends the groups, in the order of `propertiesFrom`.
     pub(crate) fn push_groups(&self, levels: &mut Vec<&'a Level>) -> Result<(), AllocError>
         requires { All (λ l. LevelRises l.now) levels.old.items }
-        ensures groups { OnOk result (held levels.new.items ≡ held levels.old.items ++ named_groups (cell_at self.now)) }
+        ensures groups { OnOk result (held levels.new.items ≡ held levels.old.items ++ named_groups (seen_cell self.now)) }
         ensures rise { OnOk result (All (λ l. LevelRises l.now) levels.new.items) }
     {
         let column = self.report.column(self.table, self.column);

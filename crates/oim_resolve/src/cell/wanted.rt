@@ -3,18 +3,16 @@
 ghost use Rattle.std.specs.Prelude.{◌≡◌};
 ghost use Rattle.oim_cells.specs.Cells.{seen_meaning};
 ghost use Rattle.oim_period.specs.Reads.{reading_of};
-ghost use Rattle.oim_resolve.specs.Facts.{is_of_type as of_type, lacks_period as period_lacks, lacks_unit as unit_lacks, wanted_faults_of};
-ghost use Rattle.oim_resolve.specs.Faults.{least};
+ghost use Rattle.oim_resolve.specs.Facts.{is_of_type as of_type, lacks_period as period_lacks, lacks_unit as unit_lacks};
 
 use crate::dimension::sided;
-use crate::fact::CellFault;
 use oim_cells::CellMeaning;
 use oim_period::{Period, read};
-use oim_report::{Concept, PeriodType, Report, Side, ValueType};
+use oim_report::{PeriodType, Report, Side, ValueType};
 use oim_schema::{is_currency, is_shares};
 
 /// Returns whether a unit is missing or not the one that a type of values wants.
-fn lacks_unit(report: &Report, value: ValueType, unit: CellMeaning<'_>) -> bool
+pub(crate) fn lacks_unit(report: &Report, value: ValueType, unit: CellMeaning<'_>) -> bool
     ensures { result ≡ unit_lacks report.now value (seen_meaning unit.entry) }
 {
     match (value, unit) {
@@ -37,7 +35,7 @@ fn is_of_type(wanted: PeriodType, period: Period) -> bool
 
 /// Returns whether the side of a period is missing or not of the type that a concept wants. A text
 /// without such a period or such a side has another fault.
-fn lacks_period(wanted: PeriodType, side: Side, period: CellMeaning<'_>) -> bool
+pub(crate) fn lacks_period(wanted: PeriodType, side: Side, period: CellMeaning<'_>) -> bool
     ensures { result ≡ period_lacks wanted side (seen_meaning period.entry) }
 {
     match period {
@@ -50,24 +48,5 @@ fn lacks_period(wanted: PeriodType, side: Side, period: CellMeaning<'_>) -> bool
             None => false,
         },
         CellMeaning::Nil | CellMeaning::Empty | CellMeaning::Unknown => false,
-    }
-}
-
-/// Returns the least fault of a concept's unit and period.
-pub(crate) fn wanted_fault(
-    report: &Report,
-    concept: Concept,
-    unit: CellMeaning<'_>,
-    side: Side,
-    period: CellMeaning<'_>,
-) -> Option<CellFault>
-    ensures { result ≡ least (wanted_faults_of report.now concept (seen_meaning unit.entry) side (seen_meaning period.entry)) }
-{
-    if lacks_unit(report, concept.value, unit) {
-        return Some(CellFault::BadUnit);
-    }
-    match concept.period {
-        Some(wanted) if lacks_period(wanted, side, period) => Some(CellFault::WrongPeriod),
-        _ => None,
     }
 }

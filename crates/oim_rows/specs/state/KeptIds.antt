@@ -4,10 +4,10 @@ use Rattle.std.specs.BTreeSet.{BTreeSet, contains_text}
 use Rattle.std.specs.List.{list_any}
 use Rattle.std.specs.Str.{bytes_eq}
 use Rattle.std.specs.String.{string_bytes}
-use Rattle.oim_rows.specs.declared.row_id.Kept.{Kept}
-use Rattle.oim_rows.specs.declared.row_id.Kept.TheVariants as kept
+use Rattle.oim_rows.specs.declared.row_id.IdText.{IdText}
+use Rattle.oim_rows.specs.declared.row_id.IdText.TheVariants as kept
 
-abbrev pub bytes_kept : Kept → List ℕ
+abbrev pub bytes_kept : IdText → List ℕ
 bytes_kept (kept.Short s) = s
 bytes_kept (kept.Long s) = string_bytes s
 

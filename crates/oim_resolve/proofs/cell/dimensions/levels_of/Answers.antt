@@ -10,13 +10,13 @@ use Rattle.oim_resolve.proofs.cell.dimensions.levels_of.Goals as goal
 
 pub push_groups-requires : goal.push_groups-requires
 push_groups-requires c =
-    let p = c.args.place in
+    let p = c.args.cell in
     all_pushed_one (λ (l : Bor Level). LevelRises l.now) c.in_ok-levels.levels.items c.push.new.self.items _ c.in_ok-push.ensures.items c.in_ok-levels.ensures.items
     (subst (λ (k : Column). LevelRises k.level) (sym c.column-column.ensures.column) (column_level_rises p.report.now c.stands_in_order.ensures.order p.table p.column))
 
 pub returns-clause-rise : goal.returns-clause-rise
 returns-clause-rise c =
-    let p = c.args.place in
+    let p = c.args.cell in
     let template = subst LevelRises (sym c.template_level-template.ensures) (template_rises p.report.now c.stands_in_order.ensures.order p.table) in
     let general = subst LevelRises (sym c.report_level-general.ensures) (report_rises p.report.now c.stands_in_order.ensures.order) in
     let two = subst (All (λ (l : Bor Level). LevelRises l.now)) (sym c.in_ok-push-2.ensures.items)

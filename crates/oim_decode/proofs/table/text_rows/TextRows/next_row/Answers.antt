@@ -11,7 +11,7 @@ use Rattle.oim_decode.proofs.RowLaws.{adds_closed, adds_early, none_added, not_e
 use Rattle.oim_decode.proofs.RowPartLaws.{left_long, left_of_row, none_open, row_of_fields}
 use Rattle.oim_decode.proofs.table.text_rows.TextRows.next_row.Goals as goal
 
--- Nothing is left of the row before.
+-- NoFacts is left of the row before.
 pub invariant_of-self : goal.invariant_of-self
 invariant_of-self g c =
     let a = c.self.inside in

@@ -1,7 +1,0 @@
-use Rattle.std.proofs.Common.{◌≡◌}
-use Rattle.oim_pieces.proofs.spare_vectors.SpareVectors.lend.Given as goal
-
-abbrev pub invariant-loop : goal.invariant-loop
-invariant-loop g l = record {
-  decoder : l.decoder ≡ l.fn.decoder;
-}
