@@ -28,7 +28,7 @@ use Rattle.oim_entries.specs.KindWords.{Words}
 use Rattle.oim_entries.specs.TypeWords.{by_type, kind_given, plain_words, table_chosen, wider_words}
 use Rattle.oim_entries.specs.state.Held.{table_in}
 use Rattle.oim_entries.specs.TypesFile.{types_entries, types_file, types_result}
-use Rattle.oim_report.specs.Named.{value_under}
+use Rattle.oim_report.specs.state.Named.{value_under}
 use Rattle.oim_report.specs.Types.{kind_in}
 use Rattle.oim_entries.specs.declared.fault.MetaFault.TheVariants.{Syntax, NotReport, BadNamespaces, BadTaxonomy, Unsupported, BadIdentifier, BadTemplate, ColumnKinds, UnknownTemplate}
 use Rattle.oim_entries.specs.declared.fault.MetaFault.TheVariants.{UnknownColumn, BadDimension, BadDecimals, BadParameter, BadTypes, TooLarge, Memory, Read}

@@ -12,8 +12,7 @@ use Rattle.std.specs.Option.{IsSomeAnd, MatchOption, option_and_then, option_map
 use Rattle.std.specs.Ordering.{is_eq, nat_cmp}
 use Rattle.std.specs.Str.{bytes_eq}
 use Rattle.oim_names.specs.Lookup.{value_at}
-use Rattle.oim_report.specs.Named.{ExtendsUnder, value_under}
-use Rattle.oim_report.specs.state.Named.{AreFound, copied, found_more, with_value}
+use Rattle.oim_report.specs.state.Named.{AreFound, ExtendsUnder, copied, found_more, value_under, with_value}
 
 pub same-bytes : (a b : List ℕ) → bytes_eq a b ≡ true → a ≡ b
 same-bytes a b e = (bytes_eq-Decides a b).0 e

@@ -4,7 +4,7 @@ use Rattle.std.proofs.lemmas.List.Folds.{find-append, list_any-append}
 use Rattle.std.specs.Option.{option_map, option_or}
 use Rattle.std.specs.List.{find}
 use Rattle.std.specs.Str.{bytes_eq}
-use Rattle.oim_report.specs.Named.{ExtendsUnder, Grouped, value_under}
+use Rattle.oim_report.specs.state.Named.{ExtendsUnder, Grouped, value_under}
 use Rattle.oim_report.specs.Types.{TypesValue, has_members, is_member, is_of, kind_in}
 use Rattle.oim_report.specs.state.Types.{GivesKinds}
 use Rattle.oim_report.specs.Types.{with_kind}

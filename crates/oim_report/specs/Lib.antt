@@ -1,4 +1,3 @@
-pub mod Named
 pub mod Types
 pub mod Parameters
 pub mod Rising

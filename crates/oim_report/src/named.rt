@@ -3,9 +3,8 @@
 ghost use Rattle.std.specs.Prelude.{◌≡◌, ◌++◌, ◌==◌, ◌∷◌, [], List, ℕ, OnErr, OnOk, None, length};
 ghost use Rattle.std.specs.Option.{option_map};
 ghost use Rattle.std.specs.String.{string_bytes};
-ghost use Rattle.oim_report.specs.Named.{ExtendsUnder, value_under};
 ghost use Rattle.std.specs.BTreeMap.{get_by_text};
-ghost use Rattle.oim_report.specs.state.Named.{copied, found_more, with_value};
+ghost use Rattle.oim_report.specs.state.Named.{ExtendsUnder, copied, found_more, value_under, with_value};
 ghost use Rattle.oim_names.specs.Lookup.{value_at};
 
 use ghost_value::{Denotes, GhostValue};

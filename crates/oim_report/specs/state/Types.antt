@@ -1,6 +1,6 @@
 -- The types of concepts and dimensions, as the program keeps them.
 use Rattle.std.specs.Prelude.{◌≡◌, ℕ, List, Bool}
-use Rattle.oim_report.specs.Named.{Grouped, value_under}
+use Rattle.oim_report.specs.state.Named.{Grouped, value_under}
 use Rattle.oim_report.specs.declared.kind.Kind.{Kind}
 use Rattle.oim_report.specs.Types.{TypesValue, has_members, kind_in}
 
