@@ -1,9 +1,9 @@
 //! The explanation of a fault of the metadata, the types table or the parameters file.
 //!
-//! Not proved: what `report_explanation` and `explain_report` return. Tests cover it.
+//! Not proved: what `report_explanation` returns. Tests cover it.
 
 use crate::entries::{entry_found, wrong_entry};
-use crate::explanation::{Explanation, explanation_text};
+use crate::explanation::Explanation;
 use crate::files::{of_file, unread};
 use crate::metadata::explain_metadata;
 use crate::quotes::{UNCLOSED, unclosed_quote};
@@ -87,18 +87,4 @@ pub fn report_explanation<R: Read + Drop, F: Folder<R>>(
         MetaFault::Memory | MetaFault::Read => of_file(alloc, path, finding.fault.explanation()),
         _ => of_metadata(alloc, path, folder, finding),
     }
-}
-
-/// Returns the lines of the explanation that `report_explanation` gives: three lines, indented by
-/// four blanks, each with a line feed.
-pub fn explain_report<R: Read + Drop, F: Folder<R>>(
-    alloc: Global,
-    meta: &str,
-    types: &str,
-    folder: &mut F,
-    source: Source,
-    fault: &FileFault,
-) -> Result<String, AllocError> {
-    let explanation = report_explanation(alloc, meta, types, folder, source, fault)?;
-    explanation_text(alloc, &explanation)
 }

@@ -22,8 +22,8 @@
 //!
 //! Not proved, but tested: the sentences, what an explanation shows at a place, the sources of a
 //! fault, which of them a record has as its cause, what could be meant, explanations of a types
-//! table and a parameters file, all of `explain_report` and `report_explanation`, and how a cause
-//! of several tables is told.
+//! table and a parameters file, all of `report_explanation`, and how a cause of several tables is
+//! told.
 //!
 //! A call, which returns whether the fault of a metadata without a document type is explained at
 //! the missing key:
@@ -34,7 +34,8 @@
 //!     folder: &mut Texts<'_>,
 //!     fault: &FileFault,
 //! ) -> Result<bool, AllocError> {
-//!     let text = explain_report(alloc, "m.json", "t.csv", folder, Source::Report, fault)?;
+//!     let told = report_explanation(alloc, "m.json", "t.csv", folder, Source::Report, fault)?;
+//!     let text = explanation_text(alloc, &told)?;
 //!     let place = "    /documentInfo/documentType\n";
 //!     Ok(text.as_str().starts_with(place))
 //! }
@@ -67,13 +68,13 @@ mod spreadsheet;
 mod table_again;
 mod tables;
 
-pub use again::{explain_report, report_explanation};
+pub use again::report_explanation;
 pub use explanation::{Explanation, explanation_text};
 pub use fault_list::{ListedFaults, RefusedTable, list_faults};
 pub use metadata::explain_metadata;
 pub use oim_places::{
-    FaultCause, FaultPlace, ReportAgain, fault_header, fault_place, fault_row,
-    lines_are_of_records, report_again, report_fault_row, shown,
+    FaultCause, FaultPlace, ReportAgain, fault_header, fault_row, lines_are_of_records,
+    report_again, report_fault_row, shown,
 };
 pub use shared_causes::{MOST_TABLES, explained_faults, lines_below};
 pub use tables::{ExplainedFault, explained_fault};

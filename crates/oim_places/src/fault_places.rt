@@ -1,15 +1,14 @@
 //! What is at the place of a table's fault, for which the table's file is read again.
 
-ghost use Rattle.std.specs.Prelude.{◌≡◌, ◌⊎◌, ◌<◌, IfOk, IfSome, length, string_bytes, true};
+ghost use Rattle.std.specs.Prelude.{◌≡◌, ◌<◌, IfOk, IfSome, length, string_bytes, true};
 ghost use Rattle.oim_places.specs.FaultPlaces as spec;
-ghost use Rattle.oim_places.specs.FaultPlaces.{HasRecordOf, IsPlaceAt, IsPlaceOf, IsTablePath, column_place, unknown_place};
+ghost use Rattle.oim_places.specs.FaultPlaces.{HasRecordOf, IsPlaceAt, IsTablePath, column_place, unknown_place};
 ghost use Rattle.oim_places.specs.FaultLists.{AreReadersOf, IsStartOf};
 ghost use Rattle.oim_places.specs.FolderFiles.{FoundAt};
 ghost use Rattle.oim_places.specs.state.FaultPlaces.{IsFirstIn};
 
 use crate::bad_rows::BadRows;
 use crate::records::RowAgain;
-use crate::reread::ReportAgain;
 use oim_files::{Folder, folder_of, path_in};
 use oim_meta::Report;
 use oim_names::Text;
@@ -179,51 +178,5 @@ pub fn fault_record<R: Read + Drop, F: Folder<R>>(
     match bad_rows_at(alloc, folder, path, report, fault.table) {
         Some(mut rows) => first_record(alloc, &mut rows, fault),
         None => Ok(None),
-    }
-}
-
-/// Returns what is at the place of a fault in the table's file at this path, if it still has the
-/// fault there.
-fn place_at<R: Read + Drop, F: Folder<R>>(
-    alloc: Global,
-    folder: &mut F,
-    path: &str,
-    report: &Report,
-    fault: &TableFault,
-) -> Result<FaultPlace, AllocError>
-    requires { (fault.now).table < length report.now.tables }
-    ensures same { F.files folder.new ≡ F.files folder.old }
-    ensures place { IfOk result (λ p. IfSome (F.files folder.old) (λ files. (p ≡ unknown_place) ⊎ IsPlaceAt files path.now report.now fault.now p)) }
-{
-    match fault_record(alloc, folder, path, report, fault)? {
-        Some(record) => {
-            let FaultRecord { cells: _, place } = record;
-            Ok(place)
-        }
-        None => FaultPlace::unknown(alloc),
-    }
-}
-
-/// Returns what is at the place of a fault of a table of this report, whose metadata is at `meta`.
-/// The table's file is read again.
-///
-/// Nothing is known if the report has no such table, if the fault is of the whole file, or if the
-/// file cannot be read again or no longer has the fault. If a place is known, over a folder whose
-/// files are known, the file has the fault there. The line may be unknown even then.
-pub fn fault_place<R: Read + Drop, F: Folder<R>>(
-    alloc: Global,
-    meta: &str,
-    folder: &mut F,
-    again: &ReportAgain,
-    fault: &TableFault,
-) -> Result<FaultPlace, AllocError>
-    ensures same { F.files folder.new ≡ F.files folder.old }
-    ensures place { IfOk result (λ p. IfSome (F.files folder.old) (λ files. IsPlaceOf files meta.now again.now.report fault.now p)) }
-{
-    if fault.table < again.report.tables() {
-        let path = table_path(alloc, meta, &again.report, fault.table)?;
-        place_at(alloc, folder, path.as_str(), &again.report, fault)
-    } else {
-        FaultPlace::unknown(alloc)
     }
 }

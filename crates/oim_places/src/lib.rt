@@ -7,15 +7,13 @@
 //! - `BadRows` gives all faults of a table's file in order, by the definition of
 //!   `oim_table_faults`, row by row, each with its line and its cells of the header and of the row.
 //!   It ends early only if a reader fails or memory runs out (`specs/FaultLists.antt`);
-//! - over a folder whose files are known, `fault_place` names a place in a table's file only if the
-//!   file's first fault is that fault, by the definition of the table's stream. It gives the line
-//!   of the fault's record, if that is known, and the cells of the header and of the row in its
-//!   column (`specs/FaultPlaces.antt`). The same holds for `fault_record`, which also gives that
-//!   record and the header;
+//! - over a folder whose files are known, `fault_record` gives a record of a table's file only if
+//!   the file's first fault is that fault, by the definition of the table's stream. Its place has
+//!   the line of the record, if that is known, and the cells of the header and of the row in the
+//!   fault's column (`specs/FaultPlaces.antt`);
 //! - `report_again` gives the report that the files give (`specs/Reports.antt`);
 //! - the line of a record (`line_of_record`), which `line_again` and `BadRows` give, is that of its
-//!   first byte
-//!   (`lines_are_of_records`, `specs/LineNumbers.antt`);
+//!   first byte (`lines_are_of_records`, `specs/LineNumbers.antt`);
 //! - `fault_row` and `report_fault_row` give the record of a fault in the file of faults. It is
 //!   read as its thirteen fields, whatever follows it (`specs/FaultRows.antt`);
 //! - `shown` gives a text with an escape for each control character, and `excerpt` its first 80
@@ -37,9 +35,12 @@
 //!     again: &ReportAgain,
 //!     fault: &TableFault,
 //! ) -> Result<bool, AllocError> {
-//!     let place: FaultPlace = fault_place(alloc, "f/m.json", folder, again, fault)?;
-//!     let is_there = place.header.as_str() == "cash" && place.cell.as_str() == "x";
-//!     Ok(is_there && place.line == Some(2))
+//!     if fault.table >= again.report.tables() {
+//!         return Ok(false);
+//!     }
+//!     let path = table_path(alloc, "f/m.json", &again.report, fault.table)?;
+//!     let found = fault_record(alloc, folder, path.as_str(), &again.report, fault)?;
+//!     Ok(is_of_the_cell(&found))
 //! }
 //! ```
 #![tactic(auto)]
@@ -65,8 +66,7 @@ pub use cells::{cell_shown, field_as_text, record_shown, text_at};
 pub use excerpts::excerpt;
 pub use fault_cause::FaultCause;
 pub use fault_places::{
-    FaultPlace, FaultRecord, bad_rows_at, fault_place, fault_record, is_of_file, place_in_record,
-    table_path,
+    FaultPlace, FaultRecord, bad_rows_at, fault_record, is_of_file, place_in_record, table_path,
 };
 pub use fault_rows::{fault_header, fault_row, more_faults_row, report_fault_row};
 pub use file_places::{line_again, place_in_file};

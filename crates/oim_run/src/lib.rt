@@ -90,9 +90,9 @@ pub use conversion::{Course, convert_report};
 pub use fault_records::{write_report_fault, write_table_faults};
 pub use oim_explain::{
     ExplainedFault, Explanation, FaultCause, FaultPlace, ListedFaults, MOST_TABLES, RefusedTable,
-    ReportAgain, explain_metadata, explain_report, explained_fault, explained_faults,
-    explanation_text, fault_header, fault_place, fault_row, lines_are_of_records, lines_below,
-    list_faults, report_again, report_explanation, report_fault_row, shown,
+    ReportAgain, explain_metadata, explained_fault, explained_faults, explanation_text,
+    fault_header, fault_row, lines_are_of_records, lines_below, list_faults, report_again,
+    report_explanation, report_fault_row, shown,
 };
 pub use oim_files::{EarlyFault, FileFault, Folder, Source, Texts};
 pub use outcome::{Outcome, line, status, table_line, terminal_line};

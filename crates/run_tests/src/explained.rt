@@ -1,15 +1,14 @@
 //! Calls of `oim_explain`, and those of `oim_run` that are its own.
 
 use crate::words::FAULT;
-use oim_explain::explain_report;
 use oim_meta::{Finding, MetaFault};
 use oim_names::{Items, Text};
 use oim_run::{
     EarlyFault, ExplainedFault, Explanation, FaultCause, FaultPlace, FileFault, METADATA,
     MOST_TABLES, ReportAgain, Source, TYPES, Texts, explain_metadata, explained_fault,
-    explained_faults, explanation_text, fault_header, fault_place, fault_row, lines_are_of_records,
-    lines_below, report_again, report_explanation, report_fault_row, table_line,
-    write_report_fault, write_table_faults,
+    explained_faults, explanation_text, fault_header, fault_row, lines_are_of_records, lines_below,
+    report_again, report_explanation, report_fault_row, table_line, write_report_fault,
+    write_table_faults,
 };
 use std::alloc::{AllocError, Global};
 use std::io;
@@ -21,7 +20,8 @@ fn explains_the_key(
     folder: &mut Texts<'_>,
     fault: &FileFault,
 ) -> Result<bool, AllocError> {
-    let text = explain_report(alloc, "m.json", "t.csv", folder, Source::Report, fault)?;
+    let told = report_explanation(alloc, "m.json", "t.csv", folder, Source::Report, fault)?;
+    let text = explanation_text(alloc, &told)?;
     let place = "    /documentInfo/documentType\n";
     Ok(text.as_str().starts_with(place))
 }
@@ -137,15 +137,7 @@ fn is_written_without_a_place(alloc: Global) -> bool {
     }
 }
 
-/// Returns whether it has one with its place, which is read again.
-fn is_written_with_its_place(alloc: Global, folder: &mut Texts<'_>, again: &ReportAgain) -> bool {
-    match fault_place(alloc, "m.json", folder, again, &FAULT) {
-        Ok(place) => is_written(alloc, &place, b"t1,1,1,40,BadNumber,2,cash,x,,,,,\n"),
-        Err(_) => false,
-    }
-}
-
-/// Returns whether it is explained with the same place at once.
+/// Returns whether it is explained with its place, which is read again, and has a record with that.
 fn explains_at_once(alloc: Global, folder: &mut Texts<'_>, again: &ReportAgain) -> bool {
     let explained: Result<ExplainedFault, AllocError> = explained_fault(
         alloc, "m.json", folder, again, &FAULT,
@@ -229,9 +221,7 @@ fn explains_a_table(alloc: Global) -> bool {
     let folder = &mut Texts { files: &files };
     match report_again(alloc, "m.json", "t.csv", folder) {
         Ok(again) => {
-            tells_once(alloc, folder, &again)
-                && is_written_with_its_place(alloc, folder, &again)
-                && explains_at_once(alloc, folder, &again)
+            tells_once(alloc, folder, &again) && explains_at_once(alloc, folder, &again)
         }
         Err(_) => false,
     }

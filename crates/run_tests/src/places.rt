@@ -7,59 +7,48 @@ use oim_meta::Records;
 use oim_names::Text;
 use oim_places::{
     BadRows, FaultPlace, FaultRecord, LocatedFault, ParameterLines, ReportAgain, RowAgain,
-    after_mark, bad_rows_at, cell_shown, excerpt, fault_place, fault_record,
-    fault_records_are_by_row, field_as_text, first_record_with, is_of_file, line_again,
-    more_faults_row, place_in_file, place_in_record, pointer, pointer_to, quoted, record_shown,
-    report_again, standing, table_path, text_at,
+    after_mark, bad_rows_at, cell_shown, excerpt, fault_record, fault_records_are_by_row,
+    field_as_text, first_record_with, is_of_file, line_again, more_faults_row, place_in_file,
+    place_in_record, pointer, pointer_to, quoted, record_shown, report_again, standing, table_path,
+    text_at,
 };
 use oim_rows::TableFault;
 use oim_run::{ListedFaults, METADATA, RefusedTable, TYPES, list_faults};
 use serde_json::Value;
 use std::alloc::{AllocError, Global};
 
-/// Returns whether the fault of a table's first row is in the second line of its file, which has
-/// `x` under `cash` there.
+/// Returns whether the first cell of a row is `x`.
+fn has_the_cell(cells: &RowAgain) -> bool {
+    text_at(&cells.row, 0) == Some("x")
+}
+
+/// Returns whether a place is the cell `x` under the header `cash`, in line 2.
+fn is_the_cell(place: &FaultPlace) -> bool {
+    place.header.as_str() == "cash" && place.cell.as_str() == "x" && place.line == Some(2)
+}
+
+/// Returns whether a fault's record is found, with that cell and that place.
+fn is_of_the_cell(found: &Option<FaultRecord>) -> bool {
+    match found {
+        Some(record) => has_the_cell(&record.cells) && is_the_cell(&record.place),
+        None => false,
+    }
+}
+
+/// Returns whether the fault of a table's first row is in line 2 of its file, at a cell `x` under
+/// the header `cash`.
 fn finds_the_cell(
     alloc: Global,
     folder: &mut Texts<'_>,
     again: &ReportAgain,
     fault: &TableFault,
 ) -> Result<bool, AllocError> {
-    let place: FaultPlace = fault_place(alloc, "f/m.json", folder, again, fault)?;
-    let is_there = place.header.as_str() == "cash" && place.cell.as_str() == "x";
-    Ok(is_there && place.line == Some(2))
-}
-
-/// Returns whether the first cell of a row is `x`.
-fn has_the_cell(cells: &RowAgain) -> bool {
-    text_at(&cells.row, 0) == Some("x")
-}
-
-/// Returns whether a fault's record is found, with that cell.
-fn is_of_the_cell(found: &Option<FaultRecord>) -> bool {
-    match found {
-        Some(record) => has_the_cell(&record.cells),
-        None => false,
-    }
-}
-
-/// Returns whether the fault's record is in the file at a path.
-fn finds_a_record(
-    alloc: Global,
-    folder: &mut Texts<'_>,
-    again: &ReportAgain,
-    fault: &TableFault,
-) -> bool {
     if fault.table >= again.report.tables() {
-        return false;
+        return Ok(false);
     }
-    let Ok(path) = table_path(alloc, "f/m.json", &again.report, fault.table) else {
-        return false;
-    };
-    match fault_record(alloc, folder, path.as_str(), &again.report, fault) {
-        Ok(found) => is_of_the_cell(&found),
-        Err(_) => false,
-    }
+    let path = table_path(alloc, "f/m.json", &again.report, fault.table)?;
+    let found = fault_record(alloc, folder, path.as_str(), &again.report, fault)?;
+    Ok(is_of_the_cell(&found))
 }
 
 /// Returns whether these are one fault in the second line.
@@ -134,7 +123,6 @@ fn finds_the_fault(alloc: Global, folder: &mut Texts<'_>) -> bool {
         Ok(again) => {
             let is_there = matches!(finds_the_cell(alloc, folder, &again, &FAULT), Ok(true));
             is_there
-                && finds_a_record(alloc, folder, &again, &FAULT)
                 && lists_the_row(alloc, folder, &again)
                 && lists_the_record(alloc, folder, &again)
         }
