@@ -52,8 +52,8 @@
 //!   clause of `convert` can.
 //!
 //! Not proved, only tested: that workers are started and run in parallel, that each started worker
-//! is joined, and that memory, threads and tokens are given. `tests/refused.py` counts the threads
-//! that decode pieces of a table. No test shows that they run only while workers rest.
+//! is joined, and that memory, threads and tokens are given. `tests/test_refused.py` counts the
+//! threads that decode pieces of a table. No test shows that they run only while workers rest.
 //!
 //! A call:
 //!

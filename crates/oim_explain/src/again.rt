@@ -65,8 +65,8 @@ fn path_of<'p>(meta: &'p str, types: &'p str, source: Source, fault: &'p FileFau
     }
 }
 
-/// Returns the explanation of a fault of the metadata and the types table at these paths, or of the
-/// parameters file, as a run found it.
+/// Returns the explanation of a fault that a run found in the metadata at `meta`, in the types
+/// table at `types` or in the parameters file.
 ///
 /// The metadata is read again for what is at the fault's place, and a file of entries for the line
 /// of its bad record. If the metadata cannot be read again, the explanation is about that.

@@ -111,9 +111,8 @@ impl<'r> RowOfFault<'r> {
         }
     }
 
-    /// Returns whether the row's cell in the column of property groups at a place is absent or
-    /// names no group.
-    pub(crate) fn names_no_group(&self, place: usize) -> bool {
+    /// Returns whether the row's cell in the column of property groups at a place is absent.
+    pub(crate) fn is_group_absent(&self, place: usize) -> bool {
         meaning(self.cell_of(self.column_id(place))) == CellMeaning::Absent
     }
 

@@ -52,12 +52,12 @@ impl<'r, 's> Places<'r, 's> {
         }
     }
 
-    /// Puts the cells of the row that could name a property group and name none: such a group could
-    /// write what is missing.
+    /// Puts the cells of the row that could name a property group and are absent: such a group
+    /// could write what is missing.
     fn put_cells_without_group(&mut self) -> Result<(), AllocError> {
         let row = self.row;
         for place in row.from().iter().rev() {
-            if row.names_no_group(*place) {
+            if row.is_group_absent(*place) {
                 self.put_cell_or_none(row.column_id(*place))?;
             }
         }

@@ -78,7 +78,8 @@ impl<'v> Findings<'v> {
         self.first
     }
 
-    /// Appends a finding.
+    /// Notes a finding, and keeps it if its fault comes before that of the one kept. Contracts see
+    /// all of them.
     pub(crate) fn add(&mut self, fault: MetaFault, place: JsonPath<'v>)
         ensures { self.new ≡ self.old ++ finding fault (place_path place.entry) ∷ [] }
     {

@@ -23,7 +23,7 @@ pub(crate) struct HelperSetup<'a> {
     pub(crate) number: usize,
 }
 
-/// What a helper thread is started with: a decoder and a station.
+/// What a helper thread is started with: a decoder and its setup.
 ///
 /// Contracts see the table's header.
 #[derive(Drop)]
@@ -62,7 +62,7 @@ pub(crate) fn serve<'a, T: Wait>(rt: &T, at_work: &AtWork, helper: HelperThread<
 }
 
 impl<'a> HelperThread<'a> {
-    /// Makes a post from its parts.
+    /// Makes a helper thread of its parts.
     pub(crate) fn new(decoder: PieceDecoder<'a>, setup: HelperSetup<'a>) -> HelperThread<'a>
         requires { IsReadBy decoder.header setup.share }
     {

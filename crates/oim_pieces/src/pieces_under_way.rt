@@ -66,7 +66,7 @@ impl<'a, R: Read + Drop> Model for PiecesUnderWay<'a, R> {
     ghost invariant = { λ a. (a.threads.table ≡ a.cutter.table) × (a.threads.limit ≡ a.cutter.limit) × AreChained a.threads a.under_way.items a.cutter.next };
 }
 
-/// Opens the table's crew, with the rows of `head` as the only piece under way if there are any.
+/// Opens the table's threads, with the rows of `head` as the only piece under way if there are any.
 ///
 /// Fails with the header's first fault, and with Memory if memory runs out.
 #[tactic(auto, using(crate::proofs::Openings::rows_opened, crate::proofs::Openings::no_rows_opened))]

@@ -42,7 +42,7 @@ const MOST_CELLS: usize = 65_536;
 const FEW_UNDER_WAY: usize = 1;
 
 /// The threads that decode a table's pieces: the worker that drew it, and helper threads, which
-/// take pieces from a queue once there is one. They end when the crew is dropped.
+/// take pieces from a queue once there is one. They end when this is dropped.
 ///
 /// Contracts see the table's header.
 pub(crate) struct TableThreads<'a> {
@@ -139,7 +139,7 @@ fn start<'a, E, T: Wait + Sync + 'a>(
 }
 
 impl<'a> TableThreads<'a> {
-    /// Opens the crew of a table without a helper thread, and decodes the rows of `head`.
+    /// Opens the threads of a table, without a helper thread, and decodes the rows of `head`.
     ///
     /// Fails with the header's first fault, and with Memory if memory runs out.
     pub(crate) fn open(
@@ -464,7 +464,7 @@ impl<'a> TableThreads<'a> {
         }
     }
 
-    /// Makes the station of one more helper thread, or returns `None` if memory runs out.
+    /// Makes the setup of one more helper thread, or returns `None` if memory runs out.
     fn setup(&mut self) -> Option<HelperSetup<'a>>
         ensures setup { IfSome result (λ setup. IsReadBy self.old setup.share) }
         ensures same { self.new ≡ self.old }

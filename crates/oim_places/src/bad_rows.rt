@@ -174,8 +174,9 @@ impl<'a, R: Read + Drop> BadRows<'a, R> {
     /// Opens the table at place `table` of the report. The readers are three of its file: for its
     /// header, its rows and its lines.
     ///
-    /// Fails with Read if the file has no header or a reader failed before it, and with Memory if
-    /// memory runs out.
+    /// Fails with Read if the file has no header, or if the header or the start of the lines cannot
+    /// be read, also if memory runs out for them. Fails with Read or Memory if the rows cannot be
+    /// read.
     pub fn open(
         alloc: Global,
         report: &'a Report,

@@ -16,8 +16,8 @@
 //!   first byte (`lines_are_of_records`, `specs/LineNumbers.antt`);
 //! - `fault_row` and `report_fault_row` give the record of a fault in the file of faults. It is
 //!   read as its thirteen fields, whatever follows it (`specs/FaultRows.antt`);
-//! - `shown` gives a text with an escape for each control character, and `excerpt` its first 80
-//!   characters (`specs/Shown.antt`). `pointer` gives the JSON pointer of keys
+//! - `shown` gives a text with an escape for each control or invisible character, and `excerpt` its
+//!   first 80 characters (`specs/Shown.antt`). `pointer` gives the JSON pointer of keys
 //!   (`specs/Pointers.antt`), `place_in_file` the text of a line and a cell
 //!   (`specs/FilePlaces.antt`), `cell_shown` and `record_shown` what is in a cell and in a whole
 //!   record (`specs/Cells.antt`).

@@ -15,7 +15,7 @@ fn put_key(out: &mut String, key: &str) -> Result<(), AllocError>
     put_text(out, key, true)
 }
 
-/// Returns the same pointer for keys that are borrowed strings.
+/// Returns the JSON pointer of borrowed keys, as `pointer` does.
 pub fn pointer_to(alloc: Global, keys: &[&str]) -> Result<String, AllocError>
     ensures { IfOk result (λ s. string_bytes s ≡ pointer_of (map (λ k. k.now) keys.now)) }
 {
@@ -26,8 +26,8 @@ pub fn pointer_to(alloc: Global, keys: &[&str]) -> Result<String, AllocError>
     Ok(out)
 }
 
-/// Returns the JSON pointer (RFC 6901) of these keys, with each control character as `\x` and its
-/// two hexadecimal digits, so that it is one line.
+/// Returns the JSON pointer (RFC 6901) of these keys, with its control and invisible characters
+/// escaped as `shown` does, so that it is one line.
 pub fn pointer(alloc: Global, keys: &[Text]) -> Result<String, AllocError>
     ensures { IfOk result (λ s. string_bytes s ≡ pointer_of keys.now) }
 {

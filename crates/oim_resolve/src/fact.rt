@@ -132,7 +132,8 @@ pub enum CellFault {
     UnknownName,
     /// A dimension that is not typed is nil or empty.
     BadReference,
-    /// An entity, a unit, a language or a member of an explicit dimension is not well-formed.
+    /// An entity, a unit, a language or a member of an explicit dimension is not well-formed, or a
+    /// typed value is not of its type.
     BadValue,
     /// A period is not well-formed.
     BadPeriod,

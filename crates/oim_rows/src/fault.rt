@@ -65,7 +65,8 @@ impl TableKind {
     /// 35: a dimension that is not typed is nil or empty.
     pub const BadReference: TableKind = TableKind::Cell(CellFault::BadReference);
 
-    /// 36: an entity, a unit, a language or a member of an explicit dimension is not well-formed.
+    /// 36: an entity, a unit, a language or a member of an explicit dimension is not well-formed,
+    /// or a typed value is not of its type.
     pub const BadValue: TableKind = TableKind::Cell(CellFault::BadValue);
 
     /// 37: a period is not well-formed.
@@ -80,7 +81,7 @@ impl TableKind {
     /// 40: the cell of a number is not a numeral.
     pub const BadNumber: TableKind = TableKind::Cell(CellFault::BadNumber);
 
-    /// 44: the cell of a boolean, a date or a name is not well-formed.
+    /// 44: the cell of a boolean, a date, a name or another type with a form is not well-formed.
     pub const BadFactValue: TableKind = TableKind::Cell(CellFault::BadFactValue);
 
     /// 45: the unit is missing or not the one that the concept wants.

@@ -42,8 +42,8 @@
 //!   run if the output's path is an input's or cannot be opened (`specs/Outputs.antt`);
 //! - `status` and `line` return the exit status and the lines on standard error of each outcome,
 //!   with one line for each refused table. `terminal_line` returns the same without a path's
-//!   control characters (`specs/Lines.antt`). `tell` prints these lines at most once, and returns
-//!   the status.
+//!   control and invisible characters (`specs/Lines.antt`). `tell` prints these lines at most once,
+//!   and returns the status.
 //!
 //! The contracts of `oim_files` (the files of a report) and `oim_explain` (a fault) apply
 //! unchanged.

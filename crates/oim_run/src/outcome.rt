@@ -115,8 +115,8 @@ pub fn line(alloc: Global, outcome: &Outcome) -> Result<String, AllocError>
     }
 }
 
-/// Returns the lines for a terminal: those of `line`, with the control characters of a path
-/// escaped, so that no file name can add a line or send the terminal a command.
+/// Returns the lines for a terminal: those of `line`, with the control and invisible characters of
+/// a path escaped, so that no file name can add a line or send the terminal a command.
 pub fn terminal_line(alloc: Global, outcome: &Outcome) -> Result<String, AllocError>
     ensures { IfOk result (λ s. string_bytes s ≡ terminal_line_of outcome.now) }
 {

@@ -39,7 +39,7 @@ fn lines_for(alloc: Global, outcome: &Outcome, is_terminal: bool) -> Result<Stri
 }
 
 /// Prints the lines of an outcome, as one text, and returns its exit status. Prints nothing if
-/// memory runs out for the lines. A terminal gets no control character of a path.
+/// memory runs out for the lines. A terminal gets no control or invisible character of a path.
 pub fn tell<L: Teller>(to: &mut L, alloc: Global, outcome: &Outcome) -> u8
     ensures status { result ≡ status_of outcome.now }
     ensures says { Says (L.terminal to.old) outcome.now (L.said to.old) (L.said to.new) }

@@ -1,8 +1,8 @@
 //! Tests of calls that run out of memory.
 //!
 //! Each call is made with no memory left, then with a little more, and so on until it has enough.
-//! So its first allocation is refused, then its second, and so on. `tests/refused.py` shows the
-//! same of the built program, with its threads and its command line.
+//! So its first allocation is refused, then its second, and so on. `tests/test_refused.py` shows
+//! the same of the built program, with its threads and its command line.
 #![tactic(auto)]
 
 #[cfg(test)]

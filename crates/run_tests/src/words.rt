@@ -1,4 +1,5 @@
-//! The settings of these tests, a fault of a table, and the lines of an outcome.
+//! The settings of these tests and what is tried with each, a fault of a table, and the lines of
+//! an outcome.
 
 use crate::{runs, tests_flushes, tests_folders};
 use oim_rows::{TableFault, TableKind};

@@ -38,7 +38,7 @@ fn is_of_faults(rt: &HostRuntime, request: &Request, path: &str) -> bool {
 }
 
 /// Returns the outcome of a run that cannot write the file of the counts, if that is known before
-/// the run. It must not be a file of the report, the document or the file of the faults.
+/// the run. It must not be the metadata, the types table, the document or the file of the faults.
 pub fn uncounted_before(rt: &HostRuntime, alloc: Global, request: &Request) -> Option<Outcome> {
     let path = request.counts.as_ref()?;
     let path = path.as_str();

@@ -1,6 +1,6 @@
 //! Where a JSON text is, byte by byte: how deep in objects and arrays, and whether in a text.
 //!
-//! It judges no JSON: of a text that is not JSON it says something, and nobody asks.
+//! It does not check the JSON: if a text is not JSON, its places mean nothing.
 
 ghost use Rattle.std.specs.Prelude.{◌≡◌};
 ghost use Rattle.xbrl_json_cli.specs.JsonPlaces.{key_after, place_after, place_in, place_outside};

@@ -1,4 +1,4 @@
-//! A new file next to the document's, which takes its name once it holds the whole document.
+//! A new file next to an output's, which takes its name once it is whole.
 
 use crate::paths::{reached, sync_folder};
 use crate::target::FileId;
@@ -24,11 +24,11 @@ pub struct NewFile {
     pub file: File,
     /// Its path.
     path: String,
-    /// The path of the document's file, which it will get.
+    /// The path of the output's file, which it will get.
     target: String,
 }
 
-/// Returns the path of a new file next to the document's, the `n`th that is tried.
+/// Returns the path of a new file next to an output's, the `n`th that is tried.
 fn path_beside(alloc: Global, target: &str, n: u32) -> Result<String, AllocError> {
     if n == 0 {
         format!(in alloc; "{target}.new")
@@ -98,13 +98,13 @@ impl NewFile {
         }
     }
 
-    /// Writes it to the disk, then gives it the document's name.
+    /// Writes it to the disk, then gives it the output's name.
     fn rename(&self, rt: &HostRuntime) -> io::Result<()> {
         self.file.sync_all()?;
         fs::rename(rt, self.path.as_str(), self.target.as_str())
     }
 
-    /// Writes it to the disk, and gives it the document's name. If that fails, removes it.
+    /// Writes it to the disk, and gives it the output's name. If that fails, removes it.
     pub fn take_name(self, rt: &HostRuntime) -> io::Result<()> {
         let named = self.rename(rt);
         if named.is_ok() {

@@ -52,9 +52,9 @@ impl<'a> Teller for StandardError<'a> {
     }
 }
 
-/// Tells the lines of an outcome, with the places of its faults if they are asked for. Then the
-/// lines of tables are printed one by one, past the teller. `reread` has what is known of its
-/// faults.
+/// Tells the lines of an outcome, and explains its faults if `Request::explains` says so. In that
+/// case it prints the lines of tables one by one, past the teller. `reread` has what is known of
+/// the faults.
 fn told_as_asked<L: Teller>(
     rt: &HostRuntime,
     alloc: Global,
@@ -116,9 +116,9 @@ fn left_out(
     }
 }
 
-/// Tells the lines of an outcome, with the places of its faults if they are asked for. Returns its
-/// exit status. The files are read again only for this. `failure` is why a write failed, if one
-/// did.
+/// Tells the lines of an outcome, and explains its faults if `Request::explains` says so. Returns
+/// its exit status. The files are read again only for explanations. `failure` is why a write
+/// failed, if one did.
 fn told_alone<L: Teller>(
     rt: &HostRuntime,
     alloc: Global,
@@ -161,10 +161,10 @@ pub fn told_before(rt: &HostRuntime, alloc: Global, request: &Request, outcome: 
     told_alone(rt, alloc, request, &WriteFailure::none(), outcome, errors)
 }
 
-/// Converts as `convert_as` does, with the numbers of standard input, output and error occupied.
+/// Converts as `convert_as` does, with the file descriptors 0, 1 and 2 occupied.
 ///
 /// If the program was started without one of these, the first file that it opens would get that
-/// number, and what is printed would go into the document. So each free number is occupied by
+/// descriptor, and what is printed would go into the document. So each free one is occupied by
 /// `/dev/null`, opened for reading, so that printing fails.
 fn convert_apart<
     R: Read + Drop + Send,
@@ -220,14 +220,14 @@ pub fn convert_and_tell<
     last_told(rt, alloc, request, &outcome, left, noted.beside, to)
 }
 
-/// Appends a line with its control characters escaped.
+/// Appends a line with its control and invisible characters escaped.
 fn put_line(alloc: Global, lines: &mut String, line: &str) -> Result<(), AllocError> {
     let line = shown(alloc, line)?;
     lines.push_str(line.as_str())?;
     lines.push('\n')
 }
 
-/// Returns a text with its control characters escaped, except for line ends.
+/// Returns a text with its control and invisible characters escaped, except for line ends.
 fn lines_shown(alloc: Global, text: &str) -> Result<String, AllocError> {
     let mut lines = String::new(alloc);
     for line in text.lines() {
