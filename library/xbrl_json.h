@@ -49,8 +49,9 @@ typedef struct {
  * text with a length above 0 is memory of its own, which `free` frees. */
 typedef struct {
     /* 0: the document is whole. 1: the report has a fault, or memory ran out for a table. 2: the
-     * call is wrong: a path is not UTF-8, or the layout is not one of the two. 3: memory ran out,
-     * or the metadata file or the types table is not among the files. */
+     * call is wrong: the path of the metadata file or of the types table is not UTF-8, or the layout
+     * is not one of the two. 3: memory ran out, or one of these files, or the parameters file, is not
+     * among the files. */
     uint32_t status;
     /* The document. At status 1 and 3 it is unfinished or empty: do not use it. */
     xbrl_json_text document;
