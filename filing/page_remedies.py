@@ -64,7 +64,7 @@ REMEDIES: Dict[int, Tuple[str, str]] = {
     14: (
         "the types table is malformed",
         (
-            "save as UTF-8 with commas; use the types of `xbrl-json --help` that the header "
+            "save as UTF-8 with commas; use the manual's types that the header "
             "allows (`boolean`, `date` and `qname` need `type2`); under `type3` write five cells "
             "a record"
         ),
