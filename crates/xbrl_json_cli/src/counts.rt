@@ -179,13 +179,20 @@ impl Counts {
         });
     }
 
+    /// Keeps a table with this path in the folder of the metadata.
+    fn keep_at(&self, url: String, rows: Option<Arc<AtomicU64, Global>>) {
+        self.check(match self.found.try_lock() {
+            Some(mut found) => Some(put_found(&mut found, url, rows)),
+            None => None,
+        });
+    }
+
     /// Keeps a table.
     fn keep(&self, meta: &str, path: &str, rows: Option<Arc<AtomicU64, Global>>) {
-        let url = String::from_str(self.alloc, url_in(meta, path));
-        self.check(match (url, self.found.try_lock()) {
-            (Ok(url), Some(mut found)) => Some(put_found(&mut found, url, rows)),
-            _ => None,
-        });
+        match String::from_str(self.alloc, url_in(meta, path)) {
+            Ok(url) => self.keep_at(url, rows),
+            Err(_) => self.check(None),
+        }
     }
 
     /// Keeps a table whose file does not exist.
