@@ -10,6 +10,7 @@ from typing import Callable, Dict, Iterable, List
 from .chain import Chain, Metadata
 from .prefixes import Renaming
 from .refusals import wrong
+from .urls import normal
 
 KEYS: Dict[str, Callable[[Metadata], Iterable[str]]] = {
     "namespaces": lambda metadata: metadata.info_part("namespaces"),
@@ -26,12 +27,13 @@ KEYS: Dict[str, Callable[[Metadata], Iterable[str]]] = {
 def check_final(chain: Chain, lost: Dict[str, str]) -> None:
     """Refuse a file that adds to a part which a file below it declares final.
 
-    That is a key or a URL. A dimension is one key under all its prefixes.
+    That is a key or a URL. A dimension is one key under all its prefixes, a URL in all spellings.
     """
     renaming = Renaming(lost, lambda _: False)
+    in_one_form = {"dimensions": renaming.qname, "taxonomy": normal}
     for metadata in chain:
         for part in final_parts(metadata):
-            one: Callable[[str], str] = renaming.qname if part == "dimensions" else as_written
+            one: Callable[[str], str] = in_one_form.get(part, as_written)
             there = {one(key) for lower in chain.below(metadata) for key in KEYS[part](lower)}
             for above in chain.above(metadata):
                 for key in KEYS[part](above):

@@ -13,6 +13,7 @@ from .chain import DOCUMENT_TYPE, Chain, Metadata
 from .prefixes import Renaming
 from .refusals import wrong
 from .strict_json import Json, Object, equal
+from .urls import normal
 
 Path = Tuple[str, ...]
 ENTRIES: Path = ("documentInfo", "taxonomy")
@@ -160,13 +161,13 @@ def put_info(merging: Merging, metadata: Metadata, is_report: bool) -> None:
 
 
 def put_entries(merging: Merging, metadata: Metadata) -> None:
-    """Add a file's entry points to those that are there, each once."""
+    """Add a file's entry points to those that are there, each once and in its first spelling."""
     entries = merging.value["documentInfo"].setdefault("taxonomy", [])
     merging.origins.setdefault(ENTRIES, metadata.label)
-    known = set(entries)
+    known = set(map(normal, entries))
     for text, _ in metadata.taxonomy():
-        if text not in known:
-            known.add(text)
+        if normal(text) not in known:
+            known.add(normal(text))
             merging.origins[(*ENTRIES, str(len(entries)))] = metadata.label
             entries.append(text)
 

@@ -105,6 +105,12 @@ def final_parts() -> Iterator[Case]:
         **chain("x:y", None, None, {"taxonomy": True}, {"taxonomy": [HOST + "mod.xsd"]}),
         parts={"documentInfo/documentType": CSV},
     )
+    spelt = "HTTP://REG.example/mod.xsd"
+    yield makes(
+        "final taxonomy, and the same in another spelling",
+        **chain("x:y", None, None, {"taxonomy": True}, {"taxonomy": [spelt]}),
+        parts={"documentInfo/taxonomy": [spelt]},
+    )
     for part in ("links", "features", "linkTypes", "linkGroups", "later"):
         yield makes(
             f"final {part} says nothing",

@@ -324,6 +324,13 @@ def entry_points() -> Iterator[Case]:
         types=TYPES,
         **below,
     )
+    spelt = ["HTTP://REG.example:80/m%6Fd.xsd", HOST + "mod.xsd"]
+    yield makes(
+        "one URL in three spellings",
+        parts={"documentInfo/taxonomy": spelt[:1]},
+        types=TYPES,
+        **both({}, {}, {"taxonomy": spelt}, {"taxonomy": ["./mod.xsd"]}),
+    )
     query = both({}, {}, {}, {"taxonomy": ["q.xsd?v=1"]})
     query["taxonomies"][0].update(
         {
