@@ -9,14 +9,21 @@ from itertools import takewhile
 from typing import Dict, List, NamedTuple, Optional, Sequence, Tuple
 
 from .digests import processors
-from .words import RUNS, Once, Parser, Settings, Taken, dest_of, misuse, read_words
+from .words import (
+    AGAIN,
+    INTO,
+    ONLY_OF_MANY,
+    RUNS,
+    Once,
+    Parser,
+    Settings,
+    Taken,
+    dest_of,
+    misuse,
+    read_words,
+)
 
-INTO = "--into"
-OF_MANY_WITH_VALUE = (
-    INTO, "--jobs", "--outcomes", "--page", "--summary", "--time-limit", "--memory-limit"
-)  # fmt: skip
-AGAIN = "--again"
-OF_MANY = (*OF_MANY_WITH_VALUE, AGAIN)
+OF_MANY = (INTO, *ONLY_OF_MANY, "--page", "--summary")
 # The run gives these to xbrl-json itself, for each report.
 GIVEN = ("--out", "--faults", "--counts", "--whole", "--progress")
 MOST_JOBS = 1024
@@ -100,9 +107,11 @@ class AgainOfMany(Taken):
 def own_words(words: List[str]) -> Tuple[Dict[str, str], List[str]]:
     """Return the values of the options that only a run over many has, and all other words."""
     parser = Parser()
-    for name in OF_MANY_WITH_VALUE:
-        parser.option(name, nargs="?", action=OnceOfMany)
-    parser.option(AGAIN, nargs=0, action=AgainOfMany)
+    for name in OF_MANY:
+        if name == AGAIN:
+            parser.option(name, nargs=0, action=AgainOfMany)
+        else:
+            parser.option(name, nargs="?", action=OnceOfMany)
     found, left = parser.read(words)
     taken = {name: getattr(found, dest_of(name)) for name in OF_MANY}
     values = {name: value for name, value in taken.items() if value is not None}

@@ -74,8 +74,13 @@ OWN_WITH_VALUE = ("--prepare", "--cache", "--page", "--summary")
 PARAMETERS = "--parameters"
 # The options that are each a run of its own, in which nothing is converted.
 RUNS = ("--prepare", PARAMETERS)
+INTO = "--into"
+AGAIN = "--again"
+# The options that mean nothing without `--into`.
+ONLY_OF_MANY = ("--jobs", "--outcomes", "--time-limit", "--memory-limit", AGAIN)
 # What is refused, and what to do instead.
 INSTEAD = {
+    **{name: f"{name} is for many reports, which {INTO} FOLDER converts" for name in ONLY_OF_MANY},
     "--every-fault": "--every-fault is gone: --faults FILE has every fault of every row",
     "--types": "--types is made from the taxonomy, and a plain report is one for xbrl-json",
 }

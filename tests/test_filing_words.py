@@ -64,6 +64,16 @@ USAGE: list[tuple[list[str], str]] = [
     (["r", "--cache", ""], "--cache needs a value"),
     (["r", "--unpacked-limit", "8G"], "--unpacked-limit is a number of bytes, and '8G' is none"),
     (["r", "--unpacked-limit=-1"], "--unpacked-limit is a number of bytes, and '-1' is none"),
+    *(
+        (["r", *given], f"{given[0]} is for many reports, which --into FOLDER converts")
+        for given in (
+            ["--jobs", "2"],
+            ["--outcomes", "o.csv"],
+            ["--time-limit", "9"],
+            ["--memory-limit", "9"],
+            ["--again"],
+        )
+    ),
 ]
 
 
