@@ -19,7 +19,7 @@ from contextlib import contextmanager
 from typing import IO, Any, Dict, Iterable, Iterator, List, NamedTuple, Optional, Sequence, Tuple
 
 from .digests import Contents, contents_of_disk, digest_of, digests_of, identity_of
-from .refusals import cannot_read, wrong
+from .refusals import FILES, Refusal, cannot_read, wrong
 from .zip_entries import Listing, checked_entries
 
 PIECE = 1 << 18
@@ -363,9 +363,14 @@ class Beside(Package):
 
 
 def open_package(label: str, limit: int) -> Optional[Package]:
-    """Return a ZIP, by its content, or a folder; None for any other file."""
+    """Return a ZIP, by its content, or a folder; None for any other file.
+
+    Refuse a pipe or a device: its begin can be read only once, and a ZIP is read from its end.
+    """
     if os.path.isdir(label):
         return FolderPackage(label)
+    if os.path.exists(label) and not os.path.isfile(label):
+        raise Refusal(FILES, label, "cannot read (it is a pipe or a device: give a file or a folder)")
     try:
         with open(label, "rb") as file:
             start = file.read(4)

@@ -16,7 +16,7 @@ from types import FrameType
 from typing import Any
 
 from filing import command, stopping, strict_json
-from tests.filing_samples import MERGED, MODULE, REPORT, pack
+from tests.filing_samples import MERGED, MODULE, REPORT, meta, pack
 from tests.filings import FILING, FilingTest, heeded, heeding, run, start, with_fake, write_inputs
 from tests.harness import PATIENCE, TOP, write
 
@@ -216,10 +216,11 @@ class TestRuns(FilingTest):
         """Signals that arrive while the report is read."""
         folder = self.folder
         _, _, settings = with_fake(folder)
+        write(folder, {"report.json": meta({"extends": ["pipe.json"]})})
         for number in (signal.SIGTERM, signal.SIGINT):
             os.mkfifo(folder / "pipe.json")
             done = subprocess.Popen(
-                [FILING, "pipe.json", "--prepare", "o"],
+                [FILING, "report.json", "--prepare", "o"],
                 cwd=folder,
                 env={**os.environ, **settings},
                 stdout=subprocess.PIPE,

@@ -427,6 +427,16 @@ class TestRuns(FilingTest):
             (folder / path).unlink()
             (folder / path).write_bytes(kept)
 
+    def test_pipes_as_packages(self) -> None:
+        """A pipe or a device as REPORT or as a package is refused by name, without a wait."""
+        folder = self.folder
+        write_packages(folder)
+        os.mkfifo(folder / "pipe")
+        line = "cannot read (it is a pipe or a device: give a file or a folder)"
+        for path in ("pipe", "/dev/null"):
+            for words in ([path, "--taxonomy", "t"], ["r", "--taxonomy", "t", path]):
+                self.case(f"words {words}", run(words, folder), (3, f"xbrl-filing: {path}: {line}\n"))
+
     def test_links_that_stay_inside(self) -> None:
         """A name with a slash after it, and links that lead to no other place."""
         folder = self.folder
