@@ -6,9 +6,9 @@ import csv
 import io
 from contextlib import suppress
 from itertools import islice
-from typing import BinaryIO, Iterator, List, Optional, Tuple
+from typing import Optional
 
-from .packages import LARGEST_TEXT
+from .csv_text import numbered_records
 from .prepared import Files
 from .refusals import Spot
 from .table_cells import Pieces, pieces_of
@@ -20,7 +20,7 @@ def spot_of(files: Files, url: str, row: int, column: str) -> Optional[Spot]:
     Row 1 is the record after the header.
     """
     with suppress(csv.Error, StopIteration, ValueError):
-        records = numbered(io.BufferedReader(Pieces(pieces_of(files, url))))
+        records = numbered_records(io.BufferedReader(Pieces(pieces_of(files, url))))
         cell = next(records)[1].index(column) + 1
         line, _ = next(islice(records, row - 1, None))
         return Spot(line, cell)
@@ -36,18 +36,7 @@ def spot_of_parameter(files: Files, label: str, name: str, cell: int) -> Optiona
         return None
     text = io.BytesIO(files.package.text(files.name(files.parameters)))
     with suppress(csv.Error):
-        for line, record in islice(numbered(text), 1, None):
+        for line, record in islice(numbered_records(text), 1, None):
             if record[0] == name:
                 return Spot(line, cell)
     return None
-
-
-def numbered(file: BinaryIO) -> Iterator[Tuple[int, List[str]]]:
-    """Yield the records of a CSV file, each with the line at which it begins, from 1."""
-    csv.field_size_limit(max(csv.field_size_limit(), LARGEST_TEXT))
-    records = csv.reader(io.TextIOWrapper(file, "utf-8-sig", "replace", newline=""))
-    line = 1
-    for record in records:
-        if record:
-            yield line, record
-        line = records.line_num + 1

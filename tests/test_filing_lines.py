@@ -1,6 +1,8 @@
 """Tests lines of xbrl-json that pass through, faults that are handed in, and calls from Python."""
 from __future__ import annotations
 
+import csv
+import gc
 import os
 import re
 import signal
@@ -22,6 +24,7 @@ from tests.filing_samples import (
     REPORT,
     TAXONOMY,
     TYPES,
+    filed_with,
     item,
     meta,
     pack,
@@ -217,6 +220,16 @@ def hearing(folder: Path) -> tuple[Path, Callable[[], subprocess.Popen[bytes]], 
     return fake, begun, settings
 
 
+def state_of_process() -> tuple[object, ...]:
+    """Returns what a process has as a whole, and a call may change."""
+    handlers = [signal.getsignal(number) for number in (*stopping.SIGNALS, signal.SIGCHLD)]
+    gc.collect()  # an earlier test may have left a file to be closed
+    files = len(os.listdir("/proc/self/fd"))
+    mask = os.umask(0o22)
+    os.umask(mask)
+    return files, handlers, mask, os.getcwd(), csv.field_size_limit(), gc.get_threshold()
+
+
 class TestRuns(FilingTest):
     """Tests that take several runs of one folder."""
 
@@ -273,6 +286,43 @@ class TestRuns(FilingTest):
                 seen = refusal.status, line in refusal.line
             self.case(f"a call that is refused: {line}", seen, (status, True))
         self.case("nothing is left open", len(os.listdir("/proc/self/fd")) <= len(before), True)
+
+    def test_called_from_many_threads(self) -> None:
+        """Several threads that call at once, with refusals: each has its own end.
+
+        What the process has as a whole is as before.
+        """
+        folder = self.folder
+        long = "x" * (2 * csv.field_size_limit())
+        filing = filed_with(f"name,value\nnote,{long}\n")
+        wrong = filed_with("name,value\nper,\n", dimensions={"period": "$per"})
+        for name, files in (("r", filing["report"]), ("w", wrong["report"])):
+            write(folder, {f"{name}/{it}": text for it, text in files.items()})
+        pack(folder / "t.zip", filing["taxonomies"][0])
+        pack(folder / "u.zip", wrong["taxonomies"][0])
+        at = {name: str(folder / name) for name in ("r", "w", "t.zip", "u.zip")}
+        before = state_of_process()
+        seen: list[str] = []
+
+        def work(number: int) -> None:
+            """Makes both filings. The second one lacks a period."""
+            out = folder / f"out{number}"
+            library.prepare(at["r"], [at["t.zip"]], str(out))
+            seen.append(f"{len((out / 'p.csv').read_text()) > len(long)}")
+            try:
+                library.prepare(at["w"], [at["u.zip"]], str(folder / f"none{number}"))
+            except refusals.Refusal as refusal:
+                seen.append(refusal.line.rpartition(": ")[2])
+
+        threads = [threading.Thread(target=work, args=(number,)) for number in range(8)]
+        for thread in threads:
+            thread.start()
+        for thread in threads:
+            thread.join()
+        why = "facts of the table 't' would have no period"
+        self.case("what the calls made", sorted(seen), ["True"] * 8 + [why] * 8)
+        self.case("the process as a whole", state_of_process(), before)
+        self.case("nothing is made of what is refused", list(folder.glob("none*")), [])
 
     def test_refusals_in_the_faults(self) -> None:
         """The file of --faults has a refusal of this program, and nothing of an earlier run."""
