@@ -11,8 +11,12 @@ from .strict_json import Object, Values, read_json
 from .urls import Place, joined
 
 DOCUMENT_TYPE = "https://xbrl.org/2021/xbrl-csv"
-# The document types of drafts of xBRL-CSV 1.0, which have the date of the draft.
-OF_A_DRAFT = re.compile(r"https?://(?:www\.)?xbrl\.org/(?:CR|PR|PWD|DPWD|IWD|WGWD)/[^/]+/xbrl-csv")
+# The document types of drafts of xBRL-CSV 1.0, which have the date of the draft, or a text in which
+# the date was to be put.
+OF_A_DRAFT = re.compile(
+    r"https?://(?:www\.)?xbrl\.org/"
+    r"(?:(?:CR|PR|PWD|DPWD|IWD|WGWD)/[^/]+|YYYY|\(\(~status_date_uri~\)\))/xbrl-csv"
+)
 MOST_FILES = 2000  # of a report; modules that were seen have 120 at most
 
 
@@ -84,8 +88,7 @@ def read_metadata(found: Found, values: Values) -> Metadata:
     if kind != DOCUMENT_TYPE:
         said = "it has no 'documentInfo.documentType'"
         if isinstance(kind, str):
-            draft = f", of a draft; that of xBRL-CSV 1.0 is '{DOCUMENT_TYPE}'"
-            said = f"its document type is '{kind}'{draft if is_of_a_draft(kind) else ''}"
+            said = f"its document type is '{kind}'{draft_note(kind)}"
         raise wrong(found.label, f"is no xBRL-CSV metadata file: {said}")
     metadata = Metadata(found, value)
     if metadata.part("links"):
@@ -94,9 +97,11 @@ def read_metadata(found: Found, values: Values) -> Metadata:
     return metadata
 
 
-def is_of_a_draft(kind: object) -> bool:
-    """Return whether a document type is one of a draft of xBRL-CSV 1.0."""
-    return isinstance(kind, str) and bool(OF_A_DRAFT.fullmatch(kind))
+def draft_note(kind: object) -> str:
+    """Return what a line adds to a document type of a draft of xBRL-CSV 1.0; nothing to another."""
+    if not isinstance(kind, str) or not OF_A_DRAFT.fullmatch(kind):
+        return ""
+    return f", of a draft; that of xBRL-CSV 1.0 is '{DOCUMENT_TYPE}'"
 
 
 class Chain:

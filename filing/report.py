@@ -2,11 +2,12 @@
 
 from __future__ import annotations
 
+import json
 import os
 from typing import List, Tuple
 from urllib.parse import quote
 
-from .chain import DOCUMENT_TYPE, is_of_a_draft
+from .chain import DOCUMENT_TYPE, draft_note
 from .finding import Found
 from .packages import Beside, Package
 from .refusals import WRONG, Refusal, wrong
@@ -23,6 +24,11 @@ PACKAGE_TYPES = ["https://xbrl.org/report-package/2023" + ending for ending in (
 def document_type(value: Json) -> object:
     info = value.get("documentInfo") if isinstance(value, dict) else None
     return info.get("documentType") if isinstance(info, dict) else None
+
+
+def shown_type(kind: object) -> str:
+    """Return a document type as a line shows it: a text in quotes, another value as JSON."""
+    return f"'{kind}'" if isinstance(kind, str) else json.dumps(kind)
 
 
 def report_at(package: Package, name: str) -> Found:
@@ -61,7 +67,7 @@ def find_report(package: Package) -> Found:
     if broken:
         raise broken
     others = "".join(
-        f"; {name} has the document type {kind!r}{', of a draft' if is_of_a_draft(kind) else ''}"
+        f"; {name} has the document type {shown_type(kind)}{draft_note(kind)}"
         for name, kind in passed
         if kind
     )
@@ -78,7 +84,10 @@ def check_package_file(package: Package) -> None:
     if package.has(PACKAGE_FILE):
         kind = document_type(read_json(package.pieces(PACKAGE_FILE), package.shown(PACKAGE_FILE)))
         if kind not in PACKAGE_TYPES:
-            raise wrong(package.shown(PACKAGE_FILE), f"is of no report package: its document type is {kind!r}")
+            said = "it has no 'documentInfo.documentType'"
+            if kind is not None:
+                said = f"its document type is {shown_type(kind)}"
+            raise wrong(package.shown(PACKAGE_FILE), f"is of no report package: {said}")
 
 
 def reports_in(package: Package, folder: str, passed: List[Tuple[str, object]]) -> List[str]:

@@ -10,6 +10,7 @@ from collections.abc import Iterator
 from typing import Any
 
 from tests.filing_samples import (
+    CSV,
     ELEMENTS,
     HOST,
     INFO,
@@ -94,6 +95,16 @@ def forms_of_reports() -> Iterator[Case]:
         f"r/{own}: is of no report package: its document type is 'x'",
         report={**REPORT, own: '{"documentInfo":{"documentType":"x"}}'},
     )
+    for info, said in (
+        ("{}", "it has no 'documentInfo.documentType'"),
+        ('{"documentType":null}', "it has no 'documentInfo.documentType'"),
+        ('{"documentType":[true]}', "its document type is [true]"),
+    ):
+        yield stops(
+            f"a package file with the info {info}",
+            f"r/{own}: is of no report package: {said}",
+            report={**REPORT, own: f'{{"documentInfo":{info}}}'},
+        )
 
 
 @for_each(cases(forms_of_reports()))
@@ -219,12 +230,24 @@ def packages_without_one_report() -> Iterator[Case]:
         line,
         report={**TAXONOMY, "META-INF/taxonomyPackage.xml": "<a/>"},
     )
-    draft = '{"documentInfo":{"documentType":"http://xbrl.org/PWD/2019-02-06/xbrl-csv"}}'
-    line = (
-        "r: has no xBRL-CSV report in 'reports' or a folder of it; reports/r.json has the document"
-        " type 'http://xbrl.org/PWD/2019-02-06/xbrl-csv', of a draft"
-    )
-    yield stops("a report of a draft", line, report={"reports/r.json": draft})
+    none = "r: has no xBRL-CSV report in 'reports' or a folder of it; reports/r.json has the document"
+    for draft in (
+        "http://xbrl.org/PWD/2019-02-06/xbrl-csv",
+        "https://www.xbrl.org/WGWD/YYYY-MM-DD/xbrl-csv",
+        "http://xbrl.org/YYYY/xbrl-csv",
+        "https://xbrl.org/((~status_date_uri~))/xbrl-csv",
+    ):
+        yield stops(
+            f"a report of a draft, {draft}",
+            f"{none} type '{draft}', of a draft; that of xBRL-CSV 1.0 is '{CSV}'",
+            report={"reports/r.json": meta().replace(CSV, draft)},
+        )
+    for kind in ("https://xbrl.org/2021/xbrl-csv/x", "https://xbrl.org/XXXX/xbrl-csv"):
+        yield stops(
+            f"a report of no draft, {kind}",
+            f"{none} type '{kind}'",
+            report={"reports/r.json": meta().replace(CSV, kind)},
+        )
     yield stops(
         "a broken report",
         "r/reports/r.json: is not JSON: Expecting value (line 1, column 2)",
