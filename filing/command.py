@@ -29,7 +29,7 @@ from .members import member_places, takes_unread, unread_prefixes
 from .metadata import Merged, check_parts, merge
 from .named import Named, Places, names_of
 from .named_members import with_named_members
-from .nested import open_taxonomy
+from .nested import open_taxonomies
 from .origins import Origins
 from .outputs import claim_outputs, refuse_outputs
 from .packages import Opened, Package, open_package
@@ -192,9 +192,7 @@ def run(
 def run_opened(here: Run, open_packages: ExitStack) -> int:
     """Run over packages, which `open_packages` closes later."""
     settings, progress, stopping = here.settings, here.progress, here.stopping
-    report, packages = open_inputs(settings, here.opened)
-    for package in packages if here.opened is None else ():
-        open_packages.callback(package.close)
+    report, packages = open_inputs(settings, open_packages, here.opened)
     refuse_outputs(settings, packages, None)
     with stopping.held():
         claim_outputs(settings, open_packages)
@@ -314,15 +312,18 @@ def tell_parameters(report: Found, packages: List[Package], progress: Progress) 
 
 
 def open_inputs(
-    settings: Settings, opened: Optional[Opened] = None
+    settings: Settings, open_packages: ExitStack, opened: Optional[Opened] = None
 ) -> Tuple[Found, List[Package]]:
     """Return the report's own file, and all packages, which may be open already.
 
-    The packages are in the order in which their catalogs count.
+    The packages are in the order in which their catalogs count. `open_packages` closes those that
+    were not open.
     """
     if opened is None:
         package = open_package(settings.report, settings.limit)
-        packages = [package for label in settings.taxonomy for package in open_taxonomy(label, settings.limit)]
+        if package is not None:
+            open_packages.callback(package.close)
+        packages = open_taxonomies(settings.taxonomy, settings.limit, open_packages)
     else:
         package, packages = opened.report, list(opened.taxonomy)
     if package is None:

@@ -15,7 +15,7 @@ import struct
 import zipfile
 import zlib
 from abc import ABC, abstractmethod
-from contextlib import contextmanager
+from contextlib import ExitStack, contextmanager
 from typing import IO, Any, Dict, Iterable, Iterator, List, NamedTuple, Optional, Sequence, Tuple
 
 from .digests import Contents, contents_of_disk, digest_of, digests_of, identity_of
@@ -173,11 +173,13 @@ class ZipPackage(Package):
         Refuse one that unpacks to more bytes than the limit.
         """
         super().__init__(label)
-        with damage_told(label):
+        with damage_told(label), ExitStack() as at_failure:
             self.file: IO[bytes] = opened(label) if file is None else file
+            at_failure.callback(self.file.close)
             self.archive = zipfile.ZipFile(self.file)
             self.size = os.fstat(self.file.fileno()).st_size
             self.files = checked_entries(self.archive, self.size, label, limit)
+            at_failure.pop_all()
         self.unpacked = sum(entry.file_size for entry in self.archive.infolist())
         self.listing = Listing(self.files)
         self.find_root()

@@ -241,7 +241,10 @@ class TestRuns(FilingTest):
         folder = self.folder
         write(folder, {f"r/{it}": text for it, text in REPORT.items()})
         pack(folder / "t.zip", TAXONOMY)
+        pack(folder / "r.zip", REPORT)
         report, taxonomy = str(folder / "r"), str(folder / "t.zip")
+        (folder / "short.zip").write_bytes((folder / "t.zip").read_bytes()[:-1])
+        packed, short, none = (str(folder / it) for it in ("r.zip", "short.zip", "none"))
         self.case(
             "prepared by the command",
             run([report, "--taxonomy", taxonomy, "--prepare", "by command"], folder),
@@ -277,12 +280,17 @@ class TestRuns(FilingTest):
             ),
             (lambda: library.kinds([__file__], []), 1, "is neither a ZIP nor a folder"),
             (lambda: library.kinds(["none"], []), 3, "none: cannot read"),
+            (lambda: library.prepare(packed, [taxonomy, short], none), 1, "short.zip: is damaged"),
+            (lambda: library.prepare(taxonomy, [taxonomy], none), 1, "t.zip: has no xBRL-CSV"),
+            (lambda: library.kinds([taxonomy, short], []), 1, "short.zip: is damaged"),
         )
+        kept: list[refusals.Refusal] = []  # with all values of the functions that were left by them
         for call, status, line in calls:
             try:
                 call()
                 seen = 0, False
             except refusals.Refusal as refusal:
+                kept.append(refusal)
                 seen = refusal.status, line in refusal.line
             self.case(f"a call that is refused: {line}", seen, (status, True))
         self.case("nothing is left open", len(os.listdir("/proc/self/fd")) <= len(before), True)
