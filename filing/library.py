@@ -46,8 +46,8 @@ def kinds(packages: Sequence[str], entries: Sequence[str]) -> Dict[str, Dict[str
 
 def words_of(kinds: Dict[str, str]) -> Dict[str, str]:
     """Return the words of the types table for the kinds that have one."""
-    cells = ((name, cells_of_kind(kind)) for name, kind in kinds.items())
-    return {name: word_of(kind) for name, kind in cells if kind is not None}
+    records = ((name, cells_of_kind(kind)) for name, kind in kinds.items())
+    return {name: word_of(cells) for name, cells in records if cells is not None}
 
 
 def silent() -> Progress:

@@ -3,6 +3,7 @@ from __future__ import annotations
 
 import json
 from collections.abc import Iterator
+from contextlib import ExitStack
 from typing import Any
 
 from filing import command
@@ -393,15 +394,16 @@ class TestRuns(FilingTest):
         }
         spelled.update({"low.json": meta(), "mid.json": meta({"extends": ["lo%77.json"]})})
         write(folder / "spelled", spelled)
-        report_file, packages_given = command.open_inputs(
-            whole_command.read_words([str(folder / "spelled")])
-        )
-        seen = [
-            it.found.name
-            for it in whole_command.Chain(
-                report_file, whole_command.Finder(report_file.package, packages_given)
+        with ExitStack() as opened:
+            report_file, packages_given = command.open_inputs(
+                whole_command.read_words([str(folder / "spelled")]), opened
             )
-        ]
+            seen = [
+                it.found.name
+                for it in whole_command.Chain(
+                    report_file, whole_command.Finder(report_file.package, packages_given)
+                )
+            ]
         self.case(
             "a file is one by all its spellings",
             seen,

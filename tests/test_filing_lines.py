@@ -9,6 +9,7 @@ import signal
 import subprocess
 import threading
 from collections.abc import Callable, Sequence
+from contextlib import ExitStack
 from pathlib import Path
 from typing import Any, NoReturn
 
@@ -67,7 +68,9 @@ def joined_of(
     try:
         given = whole_command.read_words(["r", "--taxonomy", *labels[1:]])
         progress = whole_command.Progress()
-        origins, made, _ = command.join(*command.open_inputs(given), given, progress)
+        with ExitStack() as opened:
+            inputs = command.open_inputs(given, opened)
+            origins, made, _ = command.join(*inputs, given, progress)
     finally:
         os.chdir(before)
     return origins, files
