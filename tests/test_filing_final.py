@@ -218,11 +218,12 @@ def final_in_several_files() -> Iterator[Case]:
         },
         parts={"parameters": {"a": "1", "b": "2", "c": "3"}},
     )
-    yield stops(
-        "final that is no truth",
-        f"{low}: 'documentInfo.final.tables' is neither true nor false",
-        **chain("x:y", None, None, {"tables": "yes"}),
-    )
+    for truth in ("yes", 1, 0, None):
+        yield stops(
+            f"final that is no truth, {truth}",
+            f"{low}: 'documentInfo.final.tables' is neither true nor false",
+            **chain("x:y", None, None, {"tables": truth}),
+        )
 
 
 @for_each(cases(final_in_several_files()))

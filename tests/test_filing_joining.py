@@ -254,8 +254,12 @@ def leaving_out() -> Iterator[Case]:
         "links": {},
         "other": 2,
     }
-    long = {
+    read: dict[str, Any] = {"rowIdColumn": "row", "decimals": 1, "dimensions": {"entity": "eg:x"}}
+    long: dict[str, Any] = {
+        **read,
+        "x:y": 1,
         "columns": {
+            "row": {"eurofiling:doc": "x"},
             "cash": {"x:y": 1, "comment": False, "dimensions": {"concept": "eg:Cash"}},
             "g": {
                 "propertyGroups": {"a": {"x:y": 1, "decimals": 1, "dimensions": {}}},
@@ -263,8 +267,10 @@ def leaving_out() -> Iterator[Case]:
             },
         }
     }
-    short = {
+    short: dict[str, Any] = {
+        **read,
         "columns": {
+            "row": {},
             "cash": {"comment": False, "dimensions": {"concept": "eg:Cash"}},
             "g": {"propertyGroups": {"a": {"decimals": 1, "dimensions": {}}}},
         }

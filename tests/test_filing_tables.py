@@ -332,10 +332,17 @@ class TestRuns(FilingTest):
                     (status, what in err, err.count("\n")),
                     (1, True, 1),
                 )
-        must = {**tables, "concept": {"url": "sub/concept.csv"}}
-        status, err, _ = self.prepared(taxonomies=[{**taxonomy, "reg/mod.json": module(must)}])
-        self.case(
-            "a table that is not optional is not left out",
-            (status, "names the concept 'eg:Tuple'" in err),
-            (1, True),
+        said: tuple[dict[str, Any], ...] = (
+            {},
+            {"optional": False},
+            {"optional": "true"},
+            {"optional": 1},
         )
+        for more in said:
+            must = {**tables, "concept": {"url": "sub/concept.csv", **more}}
+            status, err, _ = self.prepared(taxonomies=[{**taxonomy, "reg/mod.json": module(must)}])
+            self.case(
+                f"a table that is not optional is not left out, {more}",
+                (status, "names the concept 'eg:Tuple'" in err),
+                (1, True),
+            )
