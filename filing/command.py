@@ -40,7 +40,7 @@ from .parameters import check_parameters, check_references, require_parameters
 from .prefixes import Renaming, lost_prefixes
 from .prepared import META, TYPES, Files, TypesTable, Written, move_into, write_files
 from .progress import Progress
-from .refusals import FILES, WRONG, Refusal, cannot_write, printable, wrong
+from .refusals import FILES, WRONG, Refusal, cannot_write, lets_through, printable, wrong
 from .report import find_report, report_by_itself
 from .refused_faults import record_refusal
 from .run_notes import RunNotes
@@ -64,7 +64,6 @@ from .types_table import types_table
 from .words import HELP, Settings, asked, read_words
 
 NAME = "xbrl-filing"
-DEBUG = "XBRL_FILING_DEBUG"  # 1 lets the traceback of a fault of this program through
 NO_MEMORY = "there is not enough memory"
 # How many new objects Python looks for garbage after. Its own 700 cost a tenth of the time of a
 # large module, whose values are all kept.
@@ -123,12 +122,12 @@ def attempt(
     except MemoryError:
         return FILES, NO_MEMORY
     except OSError as error:
-        if os.environ.get(DEBUG) == "1":
+        if lets_through():
             raise
         where = error.filename or "the run"
         return FILES, f"{where}: cannot read or write ({error.strerror or error})"
     except Exception as error:  # a fault of this program is one line too, and not the report's
-        if os.environ.get(DEBUG) == "1":
+        if lets_through():
             raise
         return FILES, f"a fault of the program: {type(error).__name__}: {error}"
 

@@ -18,7 +18,7 @@ from .marked_output import PAGE, SUMMARY, Kind, is_of_kind
 from .outcomes import BUSY, FINAL, Outcome, read_outcome, write_outcome
 from .packages import Package, open_package
 from .page_run import write_refusal_page
-from .refusals import FILES, Refusal, cannot_write, printable
+from .refusals import FILES, Refusal, cannot_write, lets_through, printable
 from .refused_faults import record_refusal
 from .stopping import c_library, end_with_parent
 from .summary import write_refusal_summary
@@ -123,7 +123,12 @@ def begin(task: Task, pipe: int, convert: Convert) -> int:
         end_with_parent(parent)
         status = attempt(task, pipe, convert)
     except Exception as error:
-        Told(line=f"xbrl-filing: a fault of the program: {error!r}").write(pipe)
+        why = printable(f"a fault of the program: {type(error).__name__}: {error}")
+        Told(line=f"xbrl-filing: {why}").write(pipe)
+        if lets_through():
+            import traceback  # takes long, and is seldom needed
+
+            os.write(2, traceback.format_exc().encode(errors="backslashreplace"))
     except BaseException:  # a signal, before the conversion began
         status = 128 + signal.SIGTERM
     finally:

@@ -2,12 +2,14 @@
 
 from __future__ import annotations
 
+import os
 from typing import NamedTuple, Optional
 
 WRONG = 1  # the report or the taxonomy is wrong
 WORDS = 2  # the command line is wrong
 FILES = 3  # a file does not exist, or cannot be read or written; or this program is at fault
 LONGEST_LINE = 2000
+DEBUG = "XBRL_FILING_DEBUG"  # 1 lets the traceback of a fault of this program through
 
 
 class Spot(NamedTuple):
@@ -45,6 +47,11 @@ def cannot_read(file: str, error: OSError) -> Refusal:
 def cannot_write(file: str, why: object) -> Refusal:
     """Return the refusal of a file that cannot be written, or must not be."""
     return Refusal(FILES, file, f"cannot write ({why.strerror if isinstance(why, OSError) and why.strerror else why})")
+
+
+def lets_through() -> bool:
+    """Return whether the traceback of a fault of this program is asked for."""
+    return os.environ.get(DEBUG) == "1"
 
 
 def printable(text: str) -> str:

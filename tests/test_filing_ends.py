@@ -3,6 +3,7 @@ from __future__ import annotations
 
 import contextlib
 import errno
+import io
 import json
 import os
 import resource
@@ -18,7 +19,7 @@ from typing import Any
 from filing import command, stopping, strict_json
 from tests.filing_samples import MERGED, MODULE, REPORT, meta, pack
 from tests.filings import FILING, FilingTest, heeded, heeding, run, start, with_fake, write_inputs
-from tests.harness import PATIENCE, TOP, write
+from tests.harness import PATIENCE, PROGRAM, TOP, write
 
 # The module with the names that it imports.
 whole_stopping: Any = stopping
@@ -374,8 +375,21 @@ class TestRuns(FilingTest):
                         seen = run(["r"], folder)[0], False
                     except KeyError:
                         seen = 3, True
+                    lines = io.StringIO()
+                    with contextlib.redirect_stderr(lines):
+                        words = [str(folder / "r"), "--into", str(folder / f"into {value}")]
+                        into = command.main(words, PROGRAM)
                 self.case(
                     f"its traceback, where XBRL_FILING_DEBUG is '{value}'", seen, (3, through)
+                )
+                log = (folder / f"into {value}/r.log").read_text()
+                self.case(
+                    f"its traceback in the log of a report, where it is '{value}'",
+                    (into, "(a fault of the program: KeyError: 'a\\nb')\n" in lines.getvalue()),
+                    (3, True),
+                )
+                self.case(
+                    f"only then, where it is '{value}'", "\nKeyError: 'a\\nb'\n" in log, through
                 )
             whole_command.find_report = lambda _: open("none")
             self.case(
