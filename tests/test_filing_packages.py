@@ -234,6 +234,8 @@ def packages_without_one_report() -> Iterator[Case]:
     for draft in (
         "http://xbrl.org/PWD/2019-02-06/xbrl-csv",
         "https://www.xbrl.org/WGWD/YYYY-MM-DD/xbrl-csv",
+        "http://www.xbrl.org/DPWD/2016-01-13/xbrl-csv",
+        "http://www.xbrl.org/IWD/2018-03-07/xbrl-csv",
         "http://xbrl.org/YYYY/xbrl-csv",
         "https://xbrl.org/((~status_date_uri~))/xbrl-csv",
     ):
