@@ -13,7 +13,7 @@ from contextlib import ExitStack
 from pathlib import Path
 from typing import Any, NoReturn
 
-from filing import command, library, refusals, stopping
+from filing import command, joining, library, refusals, stopping
 from filing.converter_lines import ConverterLines
 from filing.fault_names import name_places
 from filing.faults import FIRST, HEADER, OLD_HEADER
@@ -70,7 +70,7 @@ def joined_of(
         progress = whole_command.Progress()
         with ExitStack() as opened:
             inputs = command.open_inputs(given, opened)
-            origins, made, _ = command.join(*inputs, given, progress)
+            origins, made, _ = joining.join(*inputs, given, progress)
     finally:
         os.chdir(before)
     return origins, files

@@ -17,7 +17,7 @@ from pathlib import Path
 from typing import Any, Dict, List, Tuple, Union
 from unittest import mock
 
-from filing import cache_room, command
+from filing import cache_room, command, joining
 from tests.filing_samples import CSV, EG, EXPLICIT, HOST, catalog, item, pack, rewrite, schema
 from tests.harness import PROGRAM, TOP, TestCase, bytes_of
 
@@ -99,7 +99,7 @@ class Case(TestCase):
         os.chdir(self.folder)
         try:
             with contextlib.redirect_stderr(err), mock.patch.object(
-                command, "join_anew", wraps=command.join_anew
+                joining, "join_anew", wraps=joining.join_anew
             ) as anew:
                 status = command.main(words, "/nowhere")
         finally:
