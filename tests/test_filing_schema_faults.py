@@ -528,6 +528,10 @@ class TestMembersWithoutASchema(SchemaTest):
         self.converts(1, [row], geo="eba_GA:AT", **given)
         self.refuses(row, geo="eba_CU:XX", **given)
 
+    def test_a_parameter_of_no_dimension(self) -> None:
+        """A parameter that no dimension takes may look like such a member."""
+        self.refuses(columns(UNKNOWN), taxonomy=without("GA"), note="eba_GA:AT")
+
     def test_no_member_at_all(self) -> None:
         """Schemas in which each item is a concept say nothing of members."""
         heading = item("heading", "xbrli:stringItemType", more=ABSTRACT)
@@ -552,6 +556,26 @@ class TestTable(TestCase):
                 self.assertEqual(made.decode(), wanted)
         finally:
             types_table.MOST_RECORDS = before
+
+    def test_places_of_members(self) -> None:
+        """Finds where members of such a namespace may come from, by the templates."""
+        kinds = {"e:R": "explicit", "e:T": "typed", "e:Enum": "enumeration", "e:Text": "text"}
+        found = members.MemberPlaces
+        for dimensions, own, wanted in (
+            ({"e:R": "x:a"}, {}, found(["x"], ["t", "u"], [], [])),
+            ({}, {"e:R": "x:a"}, found(["x"], ["t"], [], [])),
+            ({"e:R": "$p"}, {}, found(["x"], [], ["t", "u"], ["p"])),
+            ({}, {"e:R": "$p"}, found(["x"], [], ["t"], ["p"])),
+            ({}, {"concept": "e:Enum"}, found(["x"], [], ["t"], [])),
+            ({}, {"concept": "$p"}, found(["x"], [], ["t"], [])),
+            ({}, {"concept": "e:Text", "e:T": "x:a", "e:R": "xx:a"}, found(["x"], [], [], [])),
+            ({}, {"e:T": "$p", "entity": "x:a", "e:R": 1}, found(["x"], [], [], [])),
+        ):
+            columns = {"c": {"dimensions": own}}
+            templates: dict[str, Any] = {"t": {"columns": columns}, "u": {}}
+            report = {"dimensions": dimensions, "tableTemplates": templates}
+            self.assertEqual(members.member_places(report, ["x"], kinds.get), wanted)
+            self.assertEqual(members.member_places(report, [], kinds.get), found([], [], [], []))
 
     def test_prefixes_without_a_schema(self) -> None:
         """Namespaces of units and entities have no members."""
