@@ -11,7 +11,7 @@ import signal
 import sys
 import time
 from collections import Counter
-from contextlib import ExitStack, suppress
+from contextlib import ExitStack, closing, suppress
 from dataclasses import dataclass, replace
 from typing import Callable, Counter as Counted, Dict, Iterator, List, Optional, Sequence
 
@@ -91,7 +91,7 @@ def run_batch(
         make_folder(batch)
         place = temporary_folder(temporary_place(), "xbrl-filing-", stopping)
         folder = at_end.enter_context(place)
-        outcomes = OutcomeFile(batch.outcomes)
+        outcomes = at_end.enter_context(closing(OutcomeFile(batch.outcomes)))
         over = lambda words, report: convert(words, Opened(report, taxonomy))  # noqa: E731
         crew = Crew(batch, program, common, folder, over, progress, outcomes)
         gc.collect()

@@ -157,6 +157,11 @@ class OutcomeFile:
         """Write the line of an outcome at once."""
         self.put(outcome.json() if self.json else outcome.csv())
 
+    def close(self) -> None:
+        """Close the file. No more outcomes are added."""
+        if self.file is not None:
+            self.file.close()
+
     def put(self, text: str) -> None:
         if self.file is None or self.path is None:
             return

@@ -130,6 +130,8 @@ def run_program(words: List[str], stopping: Stopping, hear: Optional[Hear] = Non
         if child is not None and child.returncode is None:  # only after a fault of this program
             child.kill()
             child.wait()
+        if child is not None and child.stderr:
+            child.stderr.close()
     status = child.wait()  # it has ended
     if status in NOT_STARTED:
         raise Refusal(FILES, words[0], f"cannot run (status {status})")

@@ -7,6 +7,7 @@ import os
 import re
 import signal
 import subprocess
+import sys
 import threading
 from collections.abc import Callable, Sequence
 from contextlib import ExitStack
@@ -41,7 +42,7 @@ from tests.filings import (
     start,
     write_inputs,
 )
-from tests.harness import PATIENCE, write
+from tests.harness import PATIENCE, PROGRAM, write
 
 # The module with the names that it imports.
 whole_command: Any = command
@@ -334,6 +335,31 @@ class TestRuns(FilingTest):
         self.case("what the calls made", sorted(seen), ["True"] * 8 + [why] * 8)
         self.case("the process as a whole", state_of_process(), before)
         self.case("nothing is made of what is refused", list(folder.glob("none*")), [])
+
+    def test_no_warning_of_python(self) -> None:
+        """Python warns of nothing, as of a file that is not closed: warnings are errors here."""
+        folder = self.folder
+        write_inputs(folder)
+        strict = [sys.executable, "-X", "dev", "-W", "error", FILING]
+        env = {**os.environ, "XBRL_JSON": PROGRAM}
+        written = ("--faults", "f.csv", "--page", "p.html", "--summary", "s.json")
+        total = "xbrl-filing: 1 reports: 1 done, 0 refused, 0 failed, 0 to try again; 0 s\n"
+        for words, last in (
+            (("--out", "o.json", "--cache", "c", *written), ""),
+            (("--prepare", "plain"), ""),
+            (("--into", "d", "--outcomes", "o.csv", "--page", "p.html"), total),
+        ):
+            done = subprocess.run(
+                [*strict, "r", "--taxonomy", "t", *words],
+                cwd=folder,
+                env=env,
+                capture_output=True,
+                text=True,
+                timeout=PATIENCE,
+            )
+            said = re.sub("[0-9]+ s\n", "0 s\n", done.stderr)
+            self.case(f"warnings with {words[0]}", (done.returncode, said), (0, last))
+        self.case("warnings in the log of a report", (folder / "d/r.log").read_text(), "")
 
     def test_refusals_in_the_faults(self) -> None:
         """The file of --faults has a refusal of this program, and nothing of an earlier run."""
