@@ -1,6 +1,7 @@
 """Tests lines of xbrl-json that pass through, faults that are handed in, and calls from Python."""
 from __future__ import annotations
 
+import contextlib
 import csv
 import gc
 import os
@@ -10,7 +11,6 @@ import subprocess
 import sys
 import threading
 from collections.abc import Callable, Sequence
-from contextlib import ExitStack
 from pathlib import Path
 from typing import Any, NoReturn
 
@@ -69,7 +69,7 @@ def joined_of(
     try:
         given = whole_command.read_words(["r", "--taxonomy", *labels[1:]])
         progress = whole_command.Progress()
-        with ExitStack() as opened:
+        with contextlib.ExitStack() as opened:
             inputs = command.open_inputs(given, opened)
             origins, made, _ = joining.join(*inputs, given, progress)
     finally:
@@ -360,6 +360,27 @@ class TestRuns(FilingTest):
             said = re.sub("[0-9]+ s\n", "0 s\n", done.stderr)
             self.case(f"warnings with {words[0]}", (done.returncode, said), (0, last))
         self.case("warnings in the log of a report", (folder / "d/r.log").read_text(), "")
+
+    def test_faults_in_a_pipe(self) -> None:
+        """A pipe gets the same faults as a file, with and without a fault."""
+        folder = self.folder
+        write_inputs(folder)
+        write(folder / "r2", {**REPORT, "reports/t.csv": "cash\nx\n"})
+        for name, status in (("r", 0), ("r2", 1)):
+            words = [name, "--taxonomy", "t", "--out", "o.json"]
+            ended = start([*words, "--faults", "f.csv"], folder)[0]
+            wanted = (folder / "f.csv").read_text()
+            self.case(f"faults of {name}", (ended, wanted.count("\n")), (status, 1 + status))
+            os.mkfifo(folder / "pipe")
+            heard: list[str] = []
+            reader = threading.Thread(target=lambda: heard.append((folder / "pipe").read_text()))
+            reader.start()
+            ended = start([*words, "--faults", "pipe"], folder)[0]
+            with contextlib.suppress(OSError):  # so that the reader ends in any case
+                os.close(os.open(folder / "pipe", os.O_WRONLY | os.O_NONBLOCK))
+            reader.join()
+            (folder / "pipe").unlink()
+            self.case(f"faults of {name} in a pipe", (ended, heard), (status, [wanted]))
 
     def test_refusals_in_the_faults(self) -> None:
         """The file of --faults has a refusal of this program, and nothing of an earlier run."""
