@@ -116,6 +116,7 @@ class Prefixes(unittest.TestCase):
         """A typed dimension, and a fact that is a name, cannot have a prefix that is gone."""
         self.refused(TYPED, "a,eg:x\na,mem:x1\n", "line 3, cell 2: 'mem:x1'")
         self.refused(TYPED, 'a,"eg:a mem:x1"\n', "line 2, cell 2: 'eg:a mem:x1'")
+        self.refused(TYPED, "a,  mem:x1\n", "line 2, cell 2: '  mem:x1'")
         self.refused(NAME, "mem:x1,\n", "line 2, cell 1: 'mem:x1'")
         self.refused({"concept": "$x"}, "mem:x1,eg:Name\n", "line 2, cell 1: 'mem:x1'")
 
