@@ -62,6 +62,7 @@ from .whole_files import asides_in
 
 GRACE = 5.0  # seconds from the asking of a process to end until it is made to
 SPARE_FILES = 8  # that the run itself may open, for outcomes and pages
+LAST_STREAM = 2
 SHOWN_EVERY = 0.5  # seconds between two lines of progress
 OWN_CACHE = ".cache"
 Tell = Callable[[str], None]
@@ -92,6 +93,7 @@ def run_batch(
     `convert` runs the command for one report, over packages that are open. Each report that is
     not converted has a line on standard error, and the last line counts.
     """
+    open_streams()
     batch = read_batch(words)
     if batch.summary is not None:
         require_counts(program)
@@ -122,6 +124,17 @@ def run_batch(
     write_index(batch.page, crew.listed)
     crew.summaries.write(time.monotonic() - begun)
     return status_of(crew.words)
+
+
+def open_streams() -> None:
+    """Open the standard streams that the caller has closed, or other files get their numbers.
+
+    The process of a report takes these numbers for streams of its own.
+    """
+    file = 0
+    while file <= LAST_STREAM:
+        file = os.open(os.devnull, os.O_RDWR)
+    os.close(file)
 
 
 def common_digest(batch: Batch, program: str, taxonomy: Sequence[Package]) -> str:
@@ -348,7 +361,7 @@ class Crew:
             memory=memory,
             faults=faults,
             document=paths.document if word == DONE else "",
-            line="" if word == DONE else first_line(log) or f"ended by signal {status - 128}",
+            line="" if word == DONE else first_line(log) or line_of(status),
         )
         return limited(outcome, running.late and word != DONE, task.memory_limit)
 
@@ -443,6 +456,13 @@ def log_of(path: str) -> bytes:
             first += file.read(FIRST_BYTES)
         return first
     return b""
+
+
+def line_of(status: int) -> str:
+    """Return why a report ended without a line of its own. A full disk takes no line either."""
+    if status > 128:
+        return f"ended by signal {status - 128}"
+    return f"ended with status {status}, and its log is empty"
 
 
 def spoken(seconds: float) -> str:

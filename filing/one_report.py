@@ -7,6 +7,7 @@ import json
 import os
 import resource
 import signal
+import stat
 import sys
 from contextlib import suppress
 from dataclasses import dataclass
@@ -17,9 +18,9 @@ from .kept_module import ModuleCache
 from .locks import locked
 from .marked_output import PAGE, SUMMARY, Kind, is_of_kind
 from .outcomes import FINAL, Outcome, read_outcome, write_outcome
-from .packages import Package, open_package
+from .packages import Package, mode_of, open_package
 from .page_run import write_refusal_page
-from .refusals import FILES, Refusal, cannot_write, printable
+from .refusals import FILES, Refusal, cannot_write, printable, wrong
 from .refused_faults import record_refusal
 from .stopping import c_library, end_with_parent
 from .summary import write_refusal_summary
@@ -174,6 +175,7 @@ def work(task: Task, told: Told, log: int, pipe: int, convert: Convert) -> int:
     if task.memory_limit is not None:
         limit_memory(task.memory_limit)
     try:
+        refuse_pipe(task.report)
         package = open_package(task.report, task.unpacked_limit)
         told.digest = digest_of_report(task, package)
     except Refusal as refusal:
@@ -200,6 +202,13 @@ def work(task: Task, told: Told, log: int, pipe: int, convert: Convert) -> int:
     told.module = ModuleCache.last_used
     told.write(pipe)
     return status
+
+
+def refuse_pipe(report: str) -> None:
+    """Refuse a pipe or a device: opening one may wait forever, and no person looks on."""
+    mode = mode_of(report, report)
+    if mode is not None and not (stat.S_ISREG(mode) or stat.S_ISDIR(mode)):
+        raise wrong(report, "is neither a file nor a folder")
 
 
 def settings_of_refusal(task: Task) -> Settings:

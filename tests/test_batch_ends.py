@@ -67,7 +67,7 @@ class EndsCase(Case):
         return done.returncode, done.stdout, done.stderr
 
     def many_files(self, most: int, reports: List[str], *more: str) -> Tuple[int, str]:
-        """Run the command, which may have so many files open, and return its status and lines."""
+        """Run the command, which may have few files open, and return its status and lines."""
         _, hard = resource.getrlimit(resource.RLIMIT_NOFILE)
         done = subprocess.run(
             self.words(reports, *more),
@@ -209,6 +209,42 @@ class TestFiles(EndsCase):
         lines = (self.folder / "o.jsonl").read_text().splitlines()
         words: Dict[str, str] = {it["report"]: it["outcome"] for it in map(json.loads, lines)}
         self.assertEqual(words, dict(zip(reports, ("done", "failed", "done"))))
+
+
+class TestStreams(EndsCase):
+    """What the caller of a run has closed, and reports that wait forever."""
+
+    def test_closed_streams(self) -> None:
+        reports = self.reports("a", "b")
+        for number, closed in enumerate(("<&-", ">&-", "2>&-", "<&- >&- 2>&-")):
+            self.out = self.folder / f"out{number}"
+            done = subprocess.run(
+                ["sh", "-c", f'exec "$@" {closed}', "sh", *self.words(reports)],
+                cwd=self.folder,
+                env=self.environment,
+                capture_output=True,
+                text=True,
+                timeout=SOON,
+                check=False,
+            )
+            self.assertEqual(done.returncode, 0, (closed, done.stderr))
+            for name in "ab":
+                self.assertEqual((self.out / f"{name}.json").read_bytes(), EXPECTED, closed)
+
+    def test_a_log_without_a_line(self) -> None:
+        self.played.write_text(PLAYED.replace("disk*)", "quiet*) exit 3 ;;\n    disk*)"))
+        self.environment["XBRL_JSON"] = str(self.played)
+        status, err = self.run_many(self.reports("quiet"))
+        self.assertEqual(status, 3)
+        self.assertIn("quiet.zip: failed (ended with status 3, and its log is empty)\n", err)
+
+    def test_a_pipe_among_the_reports(self) -> None:
+        pipe = self.folder / "in/pipe.zip"
+        reports = [*self.reports("a"), str(pipe)]
+        os.mkfifo(pipe)
+        status, err = self.run_many(reports, "--time-limit", str(SOON))
+        self.assertEqual(status, 1)
+        self.assertIn("pipe.zip: refused (is neither a file nor a folder)\n", err)
 
 
 class TestCallersLimit(EndsCase):
