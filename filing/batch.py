@@ -2,9 +2,11 @@
 
 from __future__ import annotations
 
+import errno
 import gc
 import json
 import os
+import resource
 import select
 import shutil
 import signal
@@ -21,16 +23,18 @@ from .cache import digests_of_program
 from .digests import digest_of
 from .faults import count_faults
 from .kept_module import Holding
+from .locks import remove, unlock
 from .many_summaries import ManySummaries
 from .marked_output import OTHER, PAGE, SUMMARY, check_inputs, check_place
-from .one_report import KEPT, Convert, Paths, Task, Told, begin, read_told
 from .nested import open_taxonomies
+from .one_report import KEPT, Convert, Paths, Task, Told, begin, lock_log, read_told
 from .outcomes import (
     BUSY,
     DONE,
     FAILED,
     FIRST_BYTES,
     REFUSED,
+    THREAD,
     TO_RETRY,
     Outcome,
     OutcomeFile,
@@ -46,10 +50,19 @@ from .packages import Opened, Package
 from .page_index import Listed, write_index
 from .progress import Progress
 from .refusals import FILES, WORDS, Refusal, cannot_write, printable
-from .stopping import Stopping, temporary_folder, temporary_place, woken_by_signals
+from .stopping import (
+    Stopping,
+    blocked_signals,
+    temporary_folder,
+    temporary_place,
+    woken_by_signals,
+)
 from .sums import sum_of
+from .whole_files import asides_in
 
 GRACE = 5.0  # seconds from the asking of a process to end until it is made to
+SPARE_FILES = 8  # that the run itself may open, for outcomes and pages
+LAST_STREAM = 2
 SHOWN_EVERY = 0.5  # seconds between two lines of progress
 OWN_CACHE = ".cache"
 Tell = Callable[[str], None]
@@ -61,6 +74,7 @@ class Running:
 
     task: Task
     process: int
+    log: int
     pipe: int
     begun: float
     ends: Optional[float]  # when its time is up
@@ -79,6 +93,7 @@ def run_batch(
     `convert` runs the command for one report, over packages that are open. Each report that is
     not converted has a line on standard error, and the last line counts.
     """
+    open_streams()
     batch = read_batch(words)
     if batch.summary is not None:
         require_counts(program)
@@ -109,6 +124,17 @@ def run_batch(
     write_index(batch.page, crew.listed)
     crew.summaries.write(time.monotonic() - begun)
     return status_of(crew.words)
+
+
+def open_streams() -> None:
+    """Open the standard streams that the caller has closed, or other files get their numbers.
+
+    The process of a report takes these numbers for streams of its own.
+    """
+    file = 0
+    while file <= LAST_STREAM:
+        file = os.open(os.devnull, os.O_RDWR)
+    os.close(file)
 
 
 def common_digest(batch: Batch, program: str, taxonomy: Sequence[Package]) -> str:
@@ -151,7 +177,10 @@ def check_marked(batch: Batch) -> None:
     folder = os.path.realpath(batch.into)
     taken = {path for name in batch.names for path in Paths.of(folder, name.text).all()}
     if batch.outcomes is not None:
-        taken.add(os.path.realpath(batch.outcomes))
+        own = os.path.realpath(batch.outcomes)
+        if own in taken:
+            raise cannot_write(batch.outcomes, OTHER)
+        taken.add(own)
     for path, kind in ((batch.page, PAGE), (batch.summary, SUMMARY)):
         if path is None:
             continue
@@ -189,6 +218,7 @@ class Crew:
         self.running: Dict[int, Running] = {}
         self.words: Counted[str] = Counter()
         self.listed: List[Listed] = []
+        self.left = asides_in(batch.into)
         self.kept = 0
         self.began = self.shown = time.monotonic()
         self.stopped_by = ""  # why no more reports are begun
@@ -198,8 +228,7 @@ class Crew:
         waiting = self.tasks()
         task = next(waiting, None)
         while task is not None or self.running:
-            while task is not None and len(self.running) < self.batch.jobs:
-                self.begin(task)
+            while task is not None and len(self.running) < self.batch.jobs and self.begin(task):
                 task = next(waiting, None)
             is_busy = task is not None and self.holding.go_on()
             if select.select([woken], [], [], 0 if is_busy else self.longest_wait())[0]:
@@ -234,27 +263,51 @@ class Crew:
                 taxonomy=self.batch.settings.taxonomy,
             )
 
-    def begin(self, task: Task) -> None:
-        """Start the process of a report. Take the outcome of one that cannot start."""
-        if task.why_not:
-            line = f"xbrl-filing: {task.report}: cannot write ({task.why_not})"
-            self.take(task, Outcome(task.report, "", FILES, FAILED, line=line))
-            return
-        reader, writer = os.pipe()
-        os.set_blocking(reader, False)
+    def begin(self, task: Task) -> bool:
+        """Start the process of a report, or take the outcome of one that cannot have one.
+
+        Return False if the system starts no more of them until one ends.
+        """
+        why, word = f"{task.report}: cannot write ({task.why_not})", FAILED
         try:
-            process = begin(task, writer, self.convert)
+            if not task.why_not:
+                log = lock_log(task.paths.log)
+                if log is not None:
+                    self.start(task, log)
+                    return True
+                why, word = f"{task.report}: another run has it in hand", BUSY
+        except Refusal as refusal:
+            why, word = refusal.line, ""
         except OSError as error:
-            os.close(reader)
-            line = f"xbrl-filing: {task.report}: cannot start a process ({error.strerror})"
-            self.take(task, Outcome(task.report, "", FILES, "thread", line=line))
-            return
-        finally:
-            os.close(writer)
-        now = time.monotonic()
-        limit = self.batch.time_limit
+            if self.running:
+                return False
+            why, word = f"{task.report}: cannot start a process ({error.strerror})", THREAD
+        line = f"xbrl-filing: {why}"
+        word = word or word_of(FILES, (), os.fsencode(line), False)
+        self.take(task, Outcome(task.report, "", FILES, word, line=line))
+        return True
+
+    def start(self, task: Task, log: int) -> None:
+        """Start the process of a report. Raise OSError if the system does not."""
+        now, limit = time.monotonic(), self.batch.time_limit
         ends = None if limit is None else now + limit
-        self.running[process] = Running(task, process, reader, now, ends)
+        others = [file for other in self.running.values() for file in (other.log, other.pipe)]
+        with ExitStack() as opened:
+            opened.callback(unlock, log)
+            for path in task.paths.all():
+                for aside in self.left.pop(path, ()):
+                    remove(aside)
+            reader, writer = os.pipe()
+            opened.callback(os.close, reader)
+            os.set_blocking(reader, False)
+            with blocked_signals() as mask:
+                try:
+                    require_room(writer)
+                    process = begin(task, log, writer, others, mask, self.convert)
+                finally:
+                    os.close(writer)
+                self.running[process] = Running(task, process, log, reader, now, ends)
+                opened.pop_all()
 
     def longest_wait(self) -> float:
         """Return how long to wait at most: until a report is late, or the line is shown anew."""
@@ -281,10 +334,9 @@ class Crew:
                 if told.module and self.batch.memory_limit is None:
                     self.holding.hold(told.module)  # it would count for a limit of each report
                 os.close(running.pipe)
-                shutil.rmtree(running.task.temporary, ignore_errors=True)
-                with suppress(OSError):
-                    os.unlink(f"{running.task.paths.document}.new")
+                clear(running.task)
                 self.take(running.task, self.outcome_of(running, told, waited, usage.ru_maxrss << 10))
+                unlock(running.log)
 
     def outcome_of(self, running: Running, told: Told, waited: int, memory: int) -> Outcome:
         """Return what has become of a report."""
@@ -309,7 +361,7 @@ class Crew:
             memory=memory,
             faults=faults,
             document=paths.document if word == DONE else "",
-            line="" if word == DONE else first_line(log) or f"ended by signal {status - 128}",
+            line="" if word == DONE else first_line(log) or line_of(status),
         )
         return limited(outcome, running.late and word != DONE, task.memory_limit)
 
@@ -366,6 +418,24 @@ class Crew:
                     send(running.process, signal.SIGKILL)
                 time.sleep(0.01)
             send(running.process, signal.SIGKILL)
+            clear(running.task)
+
+
+def require_room(last: int) -> None:
+    """Raise OSError if the system will soon open no more files for the run.
+
+    Take the descriptor that was opened last: the system gives the lowest that is free.
+    """
+    most, _ = resource.getrlimit(resource.RLIMIT_NOFILE)
+    if most != resource.RLIM_INFINITY and last >= most - SPARE_FILES:
+        raise OSError(errno.EMFILE, os.strerror(errno.EMFILE))
+
+
+def clear(task: Task) -> None:
+    """Remove what the processes of a report have left that were ended by force."""
+    shutil.rmtree(task.temporary, ignore_errors=True)
+    for path in task.paths.begun():
+        remove(path)
 
 
 def send(process: int, number: int) -> None:
@@ -386,6 +456,13 @@ def log_of(path: str) -> bytes:
             first += file.read(FIRST_BYTES)
         return first
     return b""
+
+
+def line_of(status: int) -> str:
+    """Return why a report ended without a line of its own. A full disk takes no line either."""
+    if status > 128:
+        return f"ended by signal {status - 128}"
+    return f"ended with status {status}, and its log is empty"
 
 
 def spoken(seconds: float) -> str:

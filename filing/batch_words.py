@@ -33,7 +33,7 @@ ENDINGS = (".zip", ".xbr", ".xbri", ".json")
 
 
 class Name(NamedTuple):
-    """The name of a report's document, or why it has none: its files would be another report's."""
+    """The name of a report's document, or why it has none."""
 
     text: str
     why: str = ""
@@ -170,8 +170,19 @@ def names_of(reports: List[str], has_summaries: bool) -> Tuple[Name, ...]:
         if other == at and has_summaries and ending == "summary":
             other = first.get(stem, at)
         why = f"{name}.json would be written for {reports[other]} too: rename one of them"
-        found.append(Name(name, "" if other == at else why))
+        if other == at:
+            why = "" if is_utf8(name) else "its name is not UTF-8: rename it"
+        found.append(Name(name, why))
     return tuple(found)
+
+
+def is_utf8(name: str) -> bool:
+    """Return whether a name is UTF-8, as xbrl-json has it of its arguments."""
+    try:
+        os.fsencode(name).decode()
+    except UnicodeDecodeError:
+        return False
+    return True
 
 
 def name_of(report: str) -> str:

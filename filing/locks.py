@@ -23,6 +23,13 @@ def locked(file: int) -> bool:
     return True
 
 
+def unlock(file: int) -> None:
+    """Unlock an open file, and close it. Other processes may have it open still."""
+    with suppress(OSError):
+        fcntl.flock(file, fcntl.LOCK_UN)
+    os.close(file)
+
+
 def lock_by_name(path: str, opened: ExitStack) -> bool:
     """Lock a file that is there only meanwhile, and return whether no other run holds it.
 

@@ -2,6 +2,7 @@
 
 from __future__ import annotations
 
+import errno
 import json
 import os
 import resource
@@ -9,13 +10,13 @@ import signal
 import sys
 from contextlib import suppress
 from dataclasses import dataclass
-from typing import Callable, List, Optional, Tuple
+from typing import Callable, List, Optional, Sequence, Set, Tuple
 
 from .digests import digest_of
 from .kept_module import ModuleCache
 from .locks import locked
 from .marked_output import PAGE, SUMMARY, Kind, is_of_kind
-from .outcomes import BUSY, FINAL, Outcome, read_outcome, write_outcome
+from .outcomes import FINAL, Outcome, read_outcome, write_outcome
 from .packages import Package, open_package
 from .page_run import write_refusal_page
 from .refusals import FILES, Refusal, cannot_write, lets_through, printable
@@ -25,6 +26,7 @@ from .summary import write_refusal_summary
 from .words import Settings
 
 LONGEST_PATH = 1000  # of an entry that the run is told of
+SCARCE = (errno.EMFILE, errno.ENFILE, errno.ENOMEM, errno.EAGAIN)  # until a process ends
 KEPT = "kept"  # the report was converted before
 BEGUN = "begun"  # the outcome word while a report is in hand
 # Converts a report by the command line; its package is open, if it is in one.
@@ -54,6 +56,10 @@ class Paths:
         """Return the paths for a report that has no files of its own."""
         return Paths("", "", "", "", "", "")
 
+    def begun(self) -> Tuple[str, ...]:
+        """Return what xbrl-json writes before it renames it, and leaves if it is ended by force."""
+        return f"{self.document}.new", f"{self.faults}.new"
+
     def all(self) -> Tuple[str, ...]:
         """Return all of them."""
         return self.document, self.faults, self.log, self.outcome, self.page, self.summary
@@ -64,7 +70,7 @@ class Task:
     """What the process of a report is to do."""
 
     report: str
-    why_not: str  # why it is not converted: its files would be another report's
+    why_not: str  # why it is not converted
     paths: Paths
     words: Tuple[str, ...]
     common: str  # the digest of all that the reports have in common
@@ -108,8 +114,19 @@ def read_told(pipe: int) -> Told:
     return told
 
 
-def begin(task: Task, pipe: int, convert: Convert) -> int:
-    """Start the process of a report, and return its number. It writes to `pipe` what it tells."""
+def begin(
+    task: Task,
+    log: int,
+    pipe: int,
+    others: Sequence[int],
+    mask: Set[int],
+    convert: Convert,
+) -> int:
+    """Start the process of a report, and return its number.
+
+    Its log is open and locked. It writes to `pipe` what it tells, and closes the files of others.
+    Signals are blocked, and the process takes a mask instead.
+    """
     parent = os.getpid()
     c_library()
     process = os.fork()
@@ -117,11 +134,14 @@ def begin(task: Task, pipe: int, convert: Convert) -> int:
         return process
     status = FILES
     try:
+        signal.pthread_sigmask(signal.SIG_SETMASK, mask)
         signal.set_wakeup_fd(-1)
         signal.signal(signal.SIGCHLD, signal.SIG_DFL)
         os.setpgid(0, 0)  # Ctrl-C is for the run, which then ends its reports
         end_with_parent(parent)
-        status = attempt(task, pipe, convert)
+        for other in others:
+            os.close(other)
+        status = attempt(task, log, pipe, convert)
     except Exception as error:
         why = printable(f"a fault of the program: {type(error).__name__}: {error}")
         Told(line=f"xbrl-filing: {why}").write(pipe)
@@ -135,33 +155,29 @@ def begin(task: Task, pipe: int, convert: Convert) -> int:
         os._exit(status)
 
 
-def attempt(task: Task, pipe: int, convert: Convert) -> int:
+def attempt(task: Task, log: int, pipe: int, convert: Convert) -> int:
     """Convert the report, and return the status. What ends it early is told as a line."""
     told = Told()
     try:
-        return work(task, told, pipe, convert)
+        return work(task, told, log, pipe, convert)
     except Refusal as refusal:
         status, told.line = refusal.status, f"xbrl-filing: {refusal.line}"
     except MemoryError:
         status, told.line = FILES, "xbrl-filing: there is not enough memory"
     except OSError as error:
         why = error.strerror or error
-        status, told.line = FILES, f"xbrl-filing: {error.filename or task.report}: {why}"
+        where = error.filename or task.report
+        status, told.line = FILES, f"xbrl-filing: {where}: cannot read or write ({why})"
     told.write(pipe)
     return status
 
 
-def work(task: Task, told: Told, pipe: int, convert: Convert) -> int:
+def work(task: Task, told: Told, log: int, pipe: int, convert: Convert) -> int:
     """Convert the report if that was not done before, and return the status."""
-    log = open_log(task.paths.log)
     take_streams()
+    os.set_inheritable(log, True)  # xbrl-json locks it too, if it alone is left of the run
     if task.memory_limit is not None:
-        resource.setrlimit(resource.RLIMIT_DATA, (task.memory_limit, task.memory_limit))
-    if not locked(log):  # the report's processes hold it open to their end
-        told.word = BUSY
-        told.line = f"xbrl-filing: {task.report}: another run has it in hand"
-        told.write(pipe)
-        return FILES
+        limit_memory(task.memory_limit)
     try:
         package = open_package(task.report, task.unpacked_limit)
         told.digest = digest_of_report(task, package)
@@ -202,12 +218,33 @@ def settings_of_refusal(task: Task) -> Settings:
     )
 
 
-def open_log(path: str) -> int:
-    """Open the log as it is: it is emptied once the report is in hand."""
+def lock_log(path: str) -> Optional[int]:
+    """Open the log as it is, and lock it. Return None if another run has the report in hand.
+
+    A run has it in hand until its outcome is written, and unlocks the log only then. Raise OSError
+    if the system opens no more files, and refuse a log that cannot be written.
+    """
     try:
-        return os.open(path, os.O_RDWR | os.O_CREAT | os.O_APPEND | os.O_CLOEXEC, 0o666)
+        log = os.open(path, os.O_RDWR | os.O_CREAT | os.O_APPEND | os.O_CLOEXEC, 0o666)
     except OSError as error:
+        if error.errno in SCARCE:
+            raise
         raise cannot_write(path, error) from None
+    if locked(log):
+        return log
+    os.close(log)
+    return None
+
+
+def limit_memory(limit: int) -> None:
+    """Limit the memory of this process and of each that it starts.
+
+    A limit that the caller has set holds too.
+    """
+    _, most = resource.getrlimit(resource.RLIMIT_DATA)
+    if most != resource.RLIM_INFINITY:
+        limit = min(limit, most)
+    resource.setrlimit(resource.RLIMIT_DATA, (limit, limit))
 
 
 def take_streams() -> None:
@@ -245,11 +282,10 @@ def remove_earlier(task: Task, digest: str, log: int) -> None:
     """Remove what an earlier run left of the report, and note that it is in hand.
 
     From then on the log, which is emptied, is standard error. Refuse files that no run has made:
-    only a report that has an outcome has files of a run. `FILE.new` is what a conversion leaves
-    that is ended by force.
+    only a report that has an outcome has files of a run.
     """
     paths = task.paths
-    made = [paths.document, f"{paths.document}.new", paths.faults]
+    made = [paths.document, paths.faults, *paths.begun()]
     if not os.path.lexists(paths.outcome):
         own = [*made, *(path for path, _ in task.asked_for())]
         foreign = [path for path in own if os.path.lexists(path)]

@@ -11,8 +11,9 @@ from dataclasses import asdict, dataclass, fields, replace
 from typing import Dict, Iterable, Optional
 
 from .csv_text import record
-from .locks import write_aside
+from .locks import locked, write_aside
 from .refusals import FILES, WRONG, cannot_write
+from .whole_files import aside_of
 
 # The outcome words. A report with one of the first two is not converted again.
 DONE, REFUSED = "done", "refused"
@@ -80,10 +81,8 @@ def write_outcome(path: str, outcome: Outcome) -> None:
 
     Refuse with status 3 if the file cannot be written.
     """
-    folder, name = os.path.split(path)
-    aside = os.path.join(folder, f".{name}.{os.urandom(8).hex()}")
     try:
-        write_aside(path, aside, [outcome.json().encode()])
+        write_aside(path, aside_of(path), [outcome.json().encode()])
     except OSError as error:
         raise cannot_write(path, error) from None
 
@@ -141,13 +140,20 @@ class OutcomeFile:
     """The file of `--outcomes`, with a line for each report that has ended."""
 
     def __init__(self, path: Optional[str]) -> None:
-        """Begin the file anew: JSON lines if it is called so, else CSV. Without a path, no file."""
+        """Begin the file anew: JSON lines if it is called so, else CSV. Without a path, no file.
+
+        Refuse one that another run writes, because the lines would mix.
+        """
         self.path = path
         self.json = path is not None and path.endswith((".jsonl", ".ndjson", ".json"))
         self.file: Optional[io.FileIO] = None
         if path is not None:
             try:
-                self.file = io.FileIO(path, "w")
+                self.file = io.FileIO(path, "a")
+                if os.path.isfile(path):
+                    if not locked(self.file.fileno()):
+                        raise cannot_write(path, "another run writes it")
+                    self.file.truncate(0)
             except OSError as error:
                 raise cannot_write(path, error) from None
             if not self.json:

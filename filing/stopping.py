@@ -9,7 +9,7 @@ import signal
 import subprocess
 from contextlib import contextmanager, suppress
 from functools import lru_cache
-from typing import Any, Callable, Iterator, List, Optional
+from typing import Any, Callable, Iterator, List, Optional, Set
 
 from .refusals import FILES, Refusal, cannot_write
 
@@ -169,6 +169,19 @@ def woken_by_signals() -> Iterator[int]:
         signal.signal(signal.SIGCHLD, child_ends or signal.SIG_DFL)
         os.close(reader)
         os.close(writer)
+
+
+@contextmanager
+def blocked_signals() -> Iterator[Set[int]]:
+    """Let signals wait until a step has ended. Yield the mask that holds again then.
+
+    A signal that comes while Python starts a process would be lost in it, with a traceback.
+    """
+    before = signal.pthread_sigmask(signal.SIG_BLOCK, SIGNALS)
+    try:
+        yield set(map(int, before))
+    finally:
+        signal.pthread_sigmask(signal.SIG_SETMASK, before)
 
 
 def end_by_signal(number: int) -> None:

@@ -3,8 +3,29 @@
 from __future__ import annotations
 
 import os
+import re
 import stat
-from typing import Iterable, Optional
+from contextlib import suppress
+from typing import Dict, Iterable, List, Optional
+
+ASIDE = re.compile(r"(.+)\.[0-9a-f]{16}", re.DOTALL)
+
+
+def aside_of(path: str) -> str:
+    """Return a new path next to a file, at which it is written before it gets its name."""
+    return f"{path}.{os.urandom(8).hex()}"
+
+
+def asides_in(folder: str) -> Dict[str, List[str]]:
+    """Return what programs that were ended by force have left aside in a folder, by the file."""
+    found: Dict[str, List[str]] = {}
+    with suppress(OSError):
+        for name in os.listdir(folder):
+            match = ASIDE.fullmatch(name)
+            if match:
+                path = os.path.join(folder, match[1])
+                found.setdefault(path, []).append(os.path.join(folder, name))
+    return found
 
 
 def write_whole(path: str, pieces: Iterable[bytes]) -> None:
@@ -18,7 +39,7 @@ def write_whole(path: str, pieces: Iterable[bytes]) -> None:
             file.writelines(pieces)
         return
     place = os.path.realpath(path)
-    aside = f"{place}.{os.urandom(8).hex()}"
+    aside = aside_of(place)
     try:
         with open(aside, "xb") as file:
             file.writelines(pieces)
