@@ -26,7 +26,7 @@ ENDINGS = (".zip", ".xbr", ".xbri", ".json")
 
 
 class Name(NamedTuple):
-    """The name of a report's document, or why it has none: its files would be another report's."""
+    """The name of a report's document, or why it has none."""
 
     text: str
     why: str = ""
@@ -161,8 +161,17 @@ def names_of(reports: List[str], has_summaries: bool) -> Tuple[Name, ...]:
         if other == at and has_summaries and ending == "summary":
             other = first.get(stem, at)
         why = f"{name}.json would be written for {reports[other]} too: rename one of them"
-        found.append(Name(name, "" if other == at else why))
+        found.append(Name(name, not_text(name) if other == at else why))
     return tuple(found)
+
+
+def not_text(name: str) -> str:
+    """Return why a name is none for xbrl-json, which takes only UTF-8; nothing if it is one."""
+    try:
+        name.encode()
+    except UnicodeEncodeError:
+        return "its name is not UTF-8: rename it"
+    return ""
 
 
 def name_of(report: str) -> str:
