@@ -86,4 +86,4 @@ def line(report: Listed, folder: str) -> str:
 def address(page: str, folder: str) -> str:
     """Return the relative address of a page. It has no colon, so it is never a script's."""
     path = os.path.relpath(os.path.realpath(page), folder)
-    return plain("./" + quote(os.fsencode(path), safe="/"), len(path) * 3 + 2)
+    return "./" + quote(os.fsencode(path), safe="/")

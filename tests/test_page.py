@@ -27,6 +27,7 @@ import zipfile
 from html.parser import HTMLParser
 from pathlib import Path
 from typing import Any, Dict, Iterator, List, NamedTuple, Optional, Tuple
+from urllib.parse import unquote
 
 TOP = Path(__file__).resolve().parent.parent
 sys.path.insert(0, str(TOP))
@@ -864,6 +865,13 @@ class TestMany(Case):
         wanted = ["./%23%3F%2541%20%E2%80%AE.html", "./a%27%22%3Cb%3E%26.html"]
         wanted.append("./javascript%3Aalert%281%29.html")
         self.assertEqual(links, wanted)
+
+    def test_long_names_in_other_scripts(self) -> None:
+        """Links the page of a report whose name has several bytes for each letter."""
+        reports = [self.packed(letter * 50 + ".zip") for letter in ("\u6f22", "\U0001f600")]
+        self.run_many(*reports, "--", "--page", "i.html", status=0)
+        for _, _, link in self.listed(self.folder / "i.html"):
+            self.assertTrue((self.folder / unquote(link)).is_file(), link)
 
     def test_order(self) -> None:
         """Lists refused, failed, those to try again, and done."""
