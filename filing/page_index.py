@@ -33,8 +33,9 @@ def index(listed: Sequence[Listed], folder: str) -> str:
     words = [report.outcome.outcome for report in ordered]
     counts = {word: words.count(word) for word in dict.fromkeys(words)}
     others = len(words) - counts.get(DONE, 0)
-    word = "Converted" if not others else "Refused" if counts.get(REFUSED) else "Failed"
-    title = f"{word}: {counted(len(words) if not others else others, 'report')}"
+    refused = counts.get(REFUSED, 0)
+    word = "Converted" if not others else "Refused" if refused else "Failed"
+    title = f"{word}: {counted(refused or others or len(words), 'report')}"
     title += f" of {len(words):,}" if others else ""
     told = ", ".join(f"{number:,} {name}" for name, number in counts.items())
     lines = "".join(line(report, folder) for report in ordered)
