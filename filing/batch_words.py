@@ -166,7 +166,7 @@ def names_of(reports: List[str], has_summaries: bool) -> Tuple[Name, ...]:
 
 
 def not_text(name: str) -> str:
-    """Return why a name is none for xbrl-json, which takes only UTF-8; nothing if it is one."""
+    """Return why xbrl-json cannot write a document of a name; nothing if it can."""
     try:
         name.encode()
     except UnicodeEncodeError:
