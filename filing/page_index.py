@@ -80,7 +80,7 @@ def line(report: Listed, folder: str) -> str:
     return (
         f'<tr data-outcome="{word}"><th scope="row" class="path">{name}</th>'
         f'<td>{outcome_word(report.outcome.outcome)}</td><td class="count">{faults}</td>'
-        f"<td>{markup(told, LINE)}</td></tr>\n"
+        f'<td class="line">{markup(told, LINE)}</td></tr>\n'
     )
 
 

@@ -244,7 +244,7 @@ def rows(at: int, item: Item, near: Near) -> str:
     heads = "".join(header_cell(*column, fault) for column in zip(near.columns, near.header))
     lines = "".join(row(near_row, near.columns, item) for near_row in near.rows)
     return (
-        f'<div class="wide rows" tabindex="0" role="region" aria-label="Rows of fault {at}">'
+        f'<div class="wide rows" tabindex="0" role="group" aria-label="Rows of fault {at}">'
         f"<table><caption>{file_of(item)}</caption>"
         f'<thead><tr><th scope="col">Line</th><th scope="col">Row</th>{heads}</tr></thead>'
         f"<tbody>{lines}</tbody></table></div>"

@@ -28,6 +28,7 @@ a { color: var(--link); text-underline-offset: .15em; }
 .skip { position: absolute; left: -99rem; }
 .skip:focus { position: static; display: inline-block; padding: .5rem 1.25rem; }
 h1, h2, h3, dd, code, p, caption, .path { overflow-wrap: anywhere; }
+:is(h1, h3, dd, p, pre, caption, .path, .line) > bdi { direction: ltr; }
 td, th { overflow-wrap: break-word; }
 h1 { margin: .4rem 0 .3rem; font-size: 1.7rem; line-height: 1.25; }
 h2 { margin: 2.2rem 0 .8rem; padding-bottom: .3rem; font-size: 1.25rem;

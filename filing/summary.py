@@ -134,7 +134,7 @@ def table_value(table: Table) -> Dict[str, Any]:
 
 
 def table_lines(filed: Filed, columns: int = 0) -> List[str]:
-    """Return the lines of a summary for a terminal of so many columns, or for standard error."""
+    """Return the lines of a summary for a terminal of a width; without one, for standard error."""
     total = filed.total() or Numbers()
     shown = [(table.table, table.numbers or Numbers()) for table in filed.tables[:MOST_LINES]]
     more = len(filed.tables) - len(shown)
@@ -178,7 +178,7 @@ def grouped(number: int) -> str:
 
 
 def short(name: str, most: int = WIDEST) -> str:
-    """Return an identifier as a terminal shows it, in so many of its columns.
+    """Return an identifier as a terminal shows it, in at most `most` of its columns.
 
     A mark keeps the numbers after an identifier of Arabic or Hebrew in their order.
     """

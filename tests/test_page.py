@@ -536,6 +536,7 @@ class TestHostile(Case):
         """Writes codes as xbrl-json does."""
         cases = {"\0": "\\x00", "\x7f": "\\x7f", "\u00a0": "\\u00a0", "\u202e": "\\u202e"}
         cases.update({"\udcff": "\\xff", "\U000e0041": "\\U000e0041", "\u3164": "\\u3164"})
+        cases.update({"\ufe0f": "\\ufe0f", "\U000e0100": "\\U000e0100"})
         for text, wanted in cases.items():
             self.assertEqual(markup(text, 9), f"<bdi><i>{wanted}</i></bdi>")
         self.assertEqual(markup("a\u0301\u0301\u0301\u0301", 9).count("<i>"), 1)
@@ -1040,6 +1041,20 @@ class TestBrowser(Case):
                     own, window = browser.value(f"[{root}.scrollWidth, {root}.clientWidth]")
                     self.assertLessEqual(own, window, (name, width))
             self.assertTrue(browser.value(wide))
+
+    def test_scripts_from_right_to_left(self) -> None:
+        """Writes paths and lines from left to right, and cells as their letters want it."""
+        self.edit("l_01.csv", 'datapoint,factValue\n\u05d01,"\u05d0 1,5"\n')
+        (self.folder / "report").rename(self.folder / "\u05d0")
+        words = ["--taxonomy", "taxonomy", "--page", "page.html", "--out", "o.json"]
+        self.assertEqual(self.run_filing("\u05d0", *words).returncode, 1)
+        seen = """(name) => [...document.querySelectorAll(`${name} bdi`)]
+            .map((it) => getComputedStyle(it).direction)"""
+        with Browser(self.folder) as browser:
+            browser.open(f"file://{self.page}")
+            for name in ("h1", "dd", "caption", "pre", ".path"):
+                self.assertEqual(set(browser.value(f"({seen})('{name}')")), {"ltr"}, name)
+            self.assertEqual(set(browser.value(f"({seen})('.rows td')")), {"rtl"})
 
     def test_nothing_of_a_report_runs(self) -> None:
         """Has the same elements in a browser as in the file, and a console without a line."""
