@@ -33,8 +33,9 @@ def index(listed: Sequence[Listed], folder: str) -> str:
     words = [report.outcome.outcome for report in ordered]
     counts = {word: words.count(word) for word in dict.fromkeys(words)}
     others = len(words) - counts.get(DONE, 0)
-    word = "Converted" if not others else "Refused" if counts.get(REFUSED) else "Failed"
-    title = f"{word}: {counted(len(words) if not others else others, 'report')}"
+    refused = counts.get(REFUSED, 0)
+    word = "Converted" if not others else "Refused" if refused else "Failed"
+    title = f"{word}: {counted(refused or others or len(words), 'report')}"
     title += f" of {len(words):,}" if others else ""
     told = ", ".join(f"{number:,} {name}" for name, number in counts.items())
     lines = "".join(line(report, folder) for report in ordered)
@@ -79,11 +80,11 @@ def line(report: Listed, folder: str) -> str:
     return (
         f'<tr data-outcome="{word}"><th scope="row" class="path">{name}</th>'
         f'<td>{outcome_word(report.outcome.outcome)}</td><td class="count">{faults}</td>'
-        f"<td>{markup(told, LINE)}</td></tr>\n"
+        f'<td class="line">{markup(told, LINE)}</td></tr>\n'
     )
 
 
 def address(page: str, folder: str) -> str:
     """Return the relative address of a page. It has no colon, so it is never a script's."""
     path = os.path.relpath(os.path.realpath(page), folder)
-    return plain("./" + quote(os.fsencode(path), safe="/"), len(path) * 3 + 2)
+    return "./" + quote(os.fsencode(path), safe="/")

@@ -16,6 +16,8 @@ FAULT = re.compile(
 BELOW = "    "  # how a line of `--explain` begins
 # The fact, below a cause that is elsewhere: what is in its cell, and where that is.
 FACT = re.compile(r"for (?P<found>.*): (?P<place>.*, line \d+, cell \d+)")
+# Where the other faults of a table are: a page has them.
+OTHERS = re.compile(r"and \d+ more in this table: see .*")
 SAME = re.compile(r"the same cause as in table (?P<table>[^:]*): .*")
 Key = Tuple[str, int, int, int]  # table, row, column and number of a fault
 
@@ -46,7 +48,7 @@ class KeptLines(ConverterLines):
     def keep(self, text: str) -> None:
         """Keep a line that explains a fault; note which fault the next lines are of."""
         if text.startswith(BELOW):
-            if self.key is not None:
+            if self.key is not None and not OTHERS.fullmatch(text[len(BELOW) :]):
                 self.said.setdefault(self.key, []).append(text[len(BELOW) :])
             return
         found = FAULT.fullmatch(text)

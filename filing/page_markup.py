@@ -29,6 +29,7 @@ COLOURS = {
     **dict.fromkeys(("refused", "failed"), " bad-word"),
     **dict.fromkeys(("converted", "done", "no fault"), " good-word"),
 }
+FAULTY, CAUSE = "here", "from"  # the classes of a cell with a fault, and of one that causes it
 TICKED = re.compile(r"`([^`]*)`")
 
 
@@ -241,9 +242,9 @@ def rows(at: int, item: Item, near: Near) -> str:
     """Return the rows round a fault as a table, in which the cell with the fault is marked."""
     fault = item.fault
     heads = "".join(header_cell(*column, fault) for column in zip(near.columns, near.header))
-    lines = "".join(row(near_row, near.columns, fault) for near_row in near.rows)
+    lines = "".join(row(near_row, near.columns, item) for near_row in near.rows)
     return (
-        f'<div class="wide rows" tabindex="0" role="region" aria-label="Rows of fault {at}">'
+        f'<div class="wide rows" tabindex="0" role="group" aria-label="Rows of fault {at}">'
         f"<table><caption>{file_of(item)}</caption>"
         f'<thead><tr><th scope="col">Line</th><th scope="col">Row</th>{heads}</tr></thead>'
         f"<tbody>{lines}</tbody></table></div>"
@@ -254,26 +255,37 @@ def header_cell(column: int, text: Optional[str], fault: Fault) -> str:
     """Return the header cell of a column."""
     shown = '<span class="none">(none)</span>' if not text else markup(text, CELL)
     if fault.row == 0 and fault.column == column:
-        return f'<th scope="col" class="here"><mark>{shown}</mark></th>'
+        return f'<th scope="col" class="{FAULTY}"><mark>{shown}</mark></th>'
     return f'<th scope="col">{shown}</th>'
 
 
-def row(shown: Row, columns: List[int], fault: Fault) -> str:
+def row(shown: Row, columns: List[int], item: Item) -> str:
     """Return a row. The row with the fault is marked if no cell of it is."""
+    fault = item.fault
     is_bad = shown.number == fault.row
-    cells = "".join(cell(a, is_bad and fault.column == b) for a, b in zip(shown.cells, columns))
+    marks = {cause_column(item): CAUSE, fault.column: FAULTY} if is_bad else {}
+    cells = "".join(cell(a, marks.get(b, "")) for a, b in zip(shown.cells, columns))
     start = '<tr class="bad">' if is_bad and not fault.column else "<tr>"
     line = f'<th scope="row">{number_or_not(shown.line)}</th><td>{shown.number:,}</td>'
     return f"{start}{line}{cells}</tr>"
 
 
-def cell(text: Optional[str], is_bad: bool) -> str:
+def cause_column(item: Item) -> int:
+    """Return the column of the cell in the fault's own row that causes it; 0 for another place."""
+    fault = item.fault
+    is_near = fault.cause_file == item.file and fault.cause_line == fault.line
+    return int(fault.cause_cell) if is_near and fault.cause_cell.isdecimal() else 0
+
+
+def cell(text: Optional[str], mark: str) -> str:
     """Return a cell of a row."""
     shown = markup(text, CELL) if text is not None else '<span class="none">(none)</span>'
-    if is_bad:
-        mark = shown or '<span class="none">(empty)</span>'
-        return f'<td class="here"><mark>{mark}</mark><span class="hide"> (the fault)</span></td>'
-    return f"<td>{shown}</td>"
+    if not mark:
+        return f"<td>{shown}</td>"
+    shown = shown or '<span class="none">(empty)</span>'
+    if mark == CAUSE:
+        return f'<td class="{CAUSE}">{shown}</td>'
+    return f'<td class="{FAULTY}"><mark>{shown}</mark><span class="hide"> (the fault)</span></td>'
 
 
 def forms_part(items: Sequence[Item]) -> Iterator[str]:

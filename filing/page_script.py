@@ -15,7 +15,7 @@ SCRIPT = r"""
 "use strict";
 (() => {
   const NAMES = "article|h3|p|div|table|caption|thead|tbody|tr|th|td|span|mark|code|pre|bdi|a|b|i";
-  const VALUES = { class: "[a-z ]+", id: "f\\d+", href: "#n\\d+", scope: "row|col", role: "region",
+  const VALUES = { class: "[a-z ]+", id: "f\\d+", href: "#n\\d+", scope: "row|col", role: "group",
     tabindex: "0", "aria-label": "Rows of fault \\d+" };
   const LETTERS = { lt: "<", gt: ">", amp: "&", quot: '"', "#x27": "'" };
   const pairs = Object.entries(VALUES).map(([name, value]) => ` ${name}="(?:${value})"`).join("|");

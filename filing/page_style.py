@@ -28,6 +28,7 @@ a { color: var(--link); text-underline-offset: .15em; }
 .skip { position: absolute; left: -99rem; }
 .skip:focus { position: static; display: inline-block; padding: .5rem 1.25rem; }
 h1, h2, h3, dd, code, p, caption, .path { overflow-wrap: anywhere; }
+:is(h1, h3, dd, p, pre, caption, .path, .line) > bdi { direction: ltr; }
 td, th { overflow-wrap: break-word; }
 h1 { margin: .4rem 0 .3rem; font-size: 1.7rem; line-height: 1.25; }
 h2 { margin: 2.2rem 0 .8rem; padding-bottom: .3rem; font-size: 1.25rem;
@@ -53,13 +54,15 @@ thead th { background: var(--panel); font-weight: 600; }
 .plain { width: 100%; }
 .plain th, .plain td { border-width: 0 0 1px; }
 .plain tbody th { font-weight: 600; }
-.count { text-align: right; white-space: nowrap; }
-.wide { overflow-x: auto; }
+.count { text-align: right; }
+td.count { white-space: nowrap; }
+.wide { position: relative; overflow-x: auto; }
 .rows td { max-width: 26rem; overflow: hidden; white-space: pre-wrap; }
-.path { min-width: 9rem; }
+.path { min-width: 9rem; max-width: 30rem; }
 .rows tbody th { font-size: .9rem; color: var(--soft); font-weight: 400; white-space: nowrap; }
 .bad > * { background: var(--bad-paper); }
 .rows .here { background: var(--bad-paper); box-shadow: inset 0 0 0 2px var(--bad); }
+.rows .from { background: var(--wait-paper); box-shadow: inset 0 0 0 2px var(--wait); }
 .here mark { background: none; color: var(--bad); font-weight: 700; }
 .none { color: var(--soft); }
 .hide { position: absolute; width: 1px; height: 1px; overflow: hidden; clip-path: inset(50%);
@@ -89,7 +92,7 @@ footer { margin-top: 3rem; padding-top: 1rem; padding-bottom: 2rem; color: var(-
   dl { grid-template-columns: 1fr; gap: 0; } dd { margin-bottom: .5rem; }
   th, td { padding: .3rem .45rem; } .filters output { margin-left: 0; } }
 @media print { .filters, .skip { display: none; } .fault { break-inside: avoid; }
-  .group ~ .group { content-visibility: visible; } }
+  .wide { overflow: visible; } .group ~ .group { content-visibility: visible; } }
 """
 
 

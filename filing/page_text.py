@@ -6,14 +6,15 @@ Whatever a stranger wrote into a report, a page has it only as text.
 from __future__ import annotations
 
 import re
-import unicodedata
 from html import escape
 from typing import Iterator, Tuple
+from unicodedata import category
 
 # Letters and marks that print as nothing. `str.isprintable` refuses the others, such as controls,
 # overrides of the direction and blanks that are not the keyboard's.
 BLANK = frozenset("\u034f\u115f\u1160\u17b4\u17b5\u180b\u180c\u180d\u2800\u3164\uffa0")
 SELECTORS = (range(0xFE00, 0xFE10), range(0xE0100, 0xE01F0))
+MARKS = ("Mn", "Me")
 MOST_MARKS = 3  # more marks on one letter print over the lines above and below
 PLAIN = re.compile(r"[ -~]*")
 CUT = "\u2026"
@@ -34,15 +35,24 @@ def markup(text: str, most: int) -> str:
     short = cut(text, most)
     if PLAIN.fullmatch(short):
         return escape(short)
+    if is_seen(short):
+        return f"<bdi>{escape(short)}</bdi>"
     parts = (f"<i>{letter}</i>" if is_code else escape(letter) for letter, is_code in seen(short))
     return f"<bdi>{''.join(parts)}</bdi>"
+
+
+def is_seen(text: str) -> bool:
+    """Return whether a reader sees each letter of a text. If it has many marks, return False."""
+    return sum(map(MARKS.__contains__, map(category, text))) <= MOST_MARKS and not any(
+        map(is_hidden, set(text))
+    )
 
 
 def seen(text: str) -> Iterator[Tuple[str, bool]]:
     """Yield each letter, or its code if a reader would not see it, and whether it is a code."""
     marks = 0
     for letter in text:
-        marks = marks + 1 if unicodedata.category(letter) in ("Mn", "Me") else 0
+        marks = marks + 1 if category(letter) in MARKS else 0
         is_code = marks > MOST_MARKS or is_hidden(letter)
         yield code(letter) if is_code else letter, is_code
 

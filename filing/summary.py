@@ -6,8 +6,10 @@ import json
 import os
 import platform
 import sys
+from contextlib import suppress
 from dataclasses import dataclass
 from typing import Any, Dict, Iterator, List, Optional, Sequence
+from unicodedata import bidirectional, category, east_asian_width
 
 from .converter_program import version_of
 from .counts import MEMBERS, Numbers
@@ -23,7 +25,11 @@ from .words import Settings
 CONVERTED, REFUSED = "converted", "refused"
 HEADS = ("rows", "facts", "no unit", "no decimals", "no entity", "no period")
 MOST_LINES = 40  # tables that are shown on a terminal
-WIDEST = 40  # characters of a table's identifier that are shown there
+WIDEST = 40  # columns that a table's identifier takes there at most
+NARROWEST = 16  # and at least: `all 9,999 tables` has as many
+COLUMNS = 80  # of a terminal that does not say how many it has
+LEFT_TO_RIGHT = "\u200e"
+NO_WIDTH = ("Mn", "Me", "Cf")  # categories of letters that print on the one before, or not at all
 NOTHING = Filed((), (), (), ())
 
 
@@ -127,15 +133,15 @@ def table_value(table: Table) -> Dict[str, Any]:
     return {**front, **members(table.numbers)}
 
 
-def table_lines(filed: Filed) -> List[str]:
-    """Return the lines of a summary for a terminal."""
+def table_lines(filed: Filed, columns: int = 0) -> List[str]:
+    """Return the lines of a summary for a terminal of a width; without one, for standard error."""
     total = filed.total() or Numbers()
     shown = [(table.table, table.numbers or Numbers()) for table in filed.tables[:MOST_LINES]]
     more = len(filed.tables) - len(shown)
-    rows = [(short(name), *map(grouped, numbers)) for name, numbers in shown]
-    rows += [(f".. and {more:,} more tables", *[""] * len(HEADS))] if more else []
+    rows = [(name, *map(grouped, numbers)) for name, numbers in shown]
+    rows += [(f".. {more:,} more", *[""] * len(HEADS))] if more else []
     rows.append((f"all {len(filed.tables):,} tables", *map(grouped, total)))
-    lines = aligned([("table", *HEADS), *rows])
+    lines = aligned([("table", *HEADS), *rows], columns or columns_of_terminal())
     for what, names in (
         ("optional tables without a file", [absent.table for absent in filed.absent]),
         ("filing indicators that are true without facts", filed.without_facts()),
@@ -146,13 +152,24 @@ def table_lines(filed: Filed) -> List[str]:
     return lines
 
 
-def aligned(rows: Sequence[Sequence[str]]) -> List[str]:
-    """Return rows as lines with columns below each other, the first one to the left."""
-    widths = [max(map(len, column)) for column in zip(*rows)]
-    return [
-        "  ".join([row[0].ljust(widths[0]), *(c.rjust(w) for c, w in zip(row[1:], widths[1:]))])
-        for row in rows
-    ]
+def aligned(rows: Sequence[Sequence[str]], columns: int) -> List[str]:
+    """Return rows as lines with columns below each other, the first one to the left.
+
+    Cut the first one so that a line has as many columns as the terminal, if that leaves some.
+    """
+    widths = [max(map(len, column)) for column in zip(*(row[1:] for row in rows))]
+    numbers = ["".join(f"  {c:>{w}}" for c, w in zip(row[1:], widths)) for row in rows]
+    most = max(NARROWEST, min(WIDEST, columns - len(numbers[0])))
+    names = [short(row[0], most) for row in rows]
+    widest = max(map(width_of, names))
+    return [f"{name}{' ' * (widest - width_of(name))}{rest}" for name, rest in zip(names, numbers)]
+
+
+def columns_of_terminal() -> int:
+    """Return how many columns standard error has; 80 if it does not say so."""
+    with suppress(OSError, ValueError, AttributeError):
+        return os.get_terminal_size(sys.stderr.fileno()).columns or COLUMNS
+    return COLUMNS
 
 
 def grouped(number: int) -> str:
@@ -160,9 +177,22 @@ def grouped(number: int) -> str:
     return f"{number:,}"
 
 
-def short(name: str) -> str:
-    """Return an identifier as a terminal shows it."""
-    return escaped(name if len(name) <= WIDEST else f"{name[: WIDEST - 2]}..")
+def short(name: str, most: int = WIDEST) -> str:
+    """Return an identifier as a terminal shows it, in at most `most` of its columns.
+
+    A mark keeps the numbers after an identifier of Arabic or Hebrew in their order.
+    """
+    shown = escaped(name[: 4 * most])
+    if width_of(shown) > most:
+        while width_of(shown) > most - 2:
+            shown = shown[:-1]
+        shown += ".."
+    return shown + LEFT_TO_RIGHT if any(bidirectional(it) in ("R", "AL") for it in shown) else shown
+
+
+def width_of(text: str) -> int:
+    """Return how many columns of a terminal a text takes."""
+    return sum(0 if category(it) in NO_WIDTH else 2 if east_asian_width(it) in "WF" else 1 for it in text)
 
 
 def listed(names: Sequence[str]) -> str:

@@ -493,6 +493,17 @@ class TestRefused(Case):
             self.assertEqual(self.outcome("x")["report"], names[0])
             self.assertEqual((self.folder / "p.html").read_text().count("<a href="), 1)
 
+    def test_a_name_that_is_not_utf_8(self) -> None:
+        """Fails the report of such a name, and no other."""
+        odd = packed(EXAMPLE / "report", self.folder / os.fsdecode(b"in/a\xff.zip"))
+        (good,) = self.reports("b")
+        status, err = self.run_many([odd, good], "--page", "p.html", "--outcomes", "o.csv")
+        self.assertEqual(status, 3)
+        shown = odd.replace("\udcff", "\\udcff")
+        self.assertIn(f"{shown}: failed (cannot write (its name is not UTF-8: rename it))\n", err)
+        self.assertEqual(self.outcome("b")["outcome"], "done")
+        self.assertIn(b"a<i>\\xff</i>.zip", (self.folder / "p.html").read_bytes())
+
     def test_an_input_in_the_folder(self) -> None:
         report = packed(EXAMPLE / "report", self.out / "a.zip")
         why = f"{report} stands in it, and is an input of this run"

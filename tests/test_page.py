@@ -24,9 +24,11 @@ import sys
 import tempfile
 import unittest
 import zipfile
+from html import escape
 from html.parser import HTMLParser
 from pathlib import Path
 from typing import Any, Dict, Iterator, List, NamedTuple, Optional, Tuple
+from urllib.parse import unquote
 
 TOP = Path(__file__).resolve().parent.parent
 sys.path.insert(0, str(TOP))
@@ -40,7 +42,7 @@ from filing.page_remedies import FORMS, REMEDIES  # noqa: E402
 from filing.page_rows import WIDEST, Budget, Near, read_table  # noqa: E402
 from filing.page_script import SCRIPT  # noqa: E402
 from filing.page_style import MARK, STYLE  # noqa: E402
-from filing.page_text import is_hidden, markup, plain  # noqa: E402
+from filing.page_text import is_hidden, markup, plain, seen  # noqa: E402
 from filing.outcomes import Outcome  # noqa: E402
 from tests.browser import PROGRAM as BROWSER  # noqa: E402
 from tests.browser import Browser  # noqa: E402
@@ -400,6 +402,24 @@ class TestRefused(Case):
         self.assertEqual(len(set(firsts.values())), 1)
         self.assertNotIn(str(self.temporary), self.page.read_text())
 
+    def test_a_cause_in_the_same_row(self) -> None:
+        """Marks the cell that a fault of its row comes from, if no other cell gives it."""
+        self.edit("l_01.csv", "datapoint,factValue\ndp1,5\ndp9,5\n,\n")
+        text = "counterparty,due,amount,standing\nA,terms,x,dom:Regular\nB,term,y,dom:Regular\n"
+        self.edit("l_02.csv", text)
+        self.convert("--out", "o.json", status=1)
+        seen = [[it.text() for it in fault.all("td", "from")] for fault in self.top().all("article")]
+        self.assertEqual(seen, [["dp9"], ["terms"], []])
+        marks = [it.text() for it in self.top().all("mark")]
+        self.assertEqual(marks, ["5", "x", "y"])
+
+    def test_other_faults_are_on_the_page(self) -> None:
+        """Leads from no fault to the file of the others of its table."""
+        self.edit("l_01.csv", "datapoint,factValue\ndp9,5\ndp8,5\n")
+        done = self.convert("--explain", "--out", "o.json", status=1)
+        self.assertIn("and 1 more in this table: see page.html\n", done.stderr)
+        self.assertNotIn("in this table: see", self.page.read_text())
+
     def test_of_the_metadata(self) -> None:
         """Shows a fault of the metadata by its place in the filing's own file."""
         report = self.tables / "report.json"
@@ -506,21 +526,31 @@ class TestHostile(Case):
     def test_texts_keep_what_can_be_seen(self) -> None:
         """Shows a text unchanged but for hidden characters, for which it has codes."""
         for text in HOSTILE:
-            seen = read(markup(text, 20_000)).text()
-            codes = re.sub(r"\\x[0-9a-f]{2}|\\u[0-9a-f]{4}|\\U[0-9a-f]{8}", "", seen)
+            told = read(markup(text, 20_000)).text()
+            codes = re.sub(r"\\x[0-9a-f]{2}|\\u[0-9a-f]{4}|\\U[0-9a-f]{8}", "", told)
             kept = "".join(it for it in text if not is_hidden(it))
             self.assertEqual(codes.replace("\u0301", ""), kept.replace("\u0301", ""))
-            self.assertEqual(read(f"<i>{plain(text, 20_000)}</i>").text(), seen)
+            self.assertEqual(read(f"<i>{plain(text, 20_000)}</i>").text(), told)
 
     def test_codes(self) -> None:
         """Writes codes as xbrl-json does."""
         cases = {"\0": "\\x00", "\x7f": "\\x7f", "\u00a0": "\\u00a0", "\u202e": "\\u202e"}
         cases.update({"\udcff": "\\xff", "\U000e0041": "\\U000e0041", "\u3164": "\\u3164"})
+        cases.update({"\ufe0f": "\\ufe0f", "\U000e0100": "\\U000e0100"})
         for text, wanted in cases.items():
             self.assertEqual(markup(text, 9), f"<bdi><i>{wanted}</i></bdi>")
         self.assertEqual(markup("a\u0301\u0301\u0301\u0301", 9).count("<i>"), 1)
         self.assertEqual(markup("<&>\"'", 9), "&lt;&amp;&gt;&quot;&#x27;")
         self.assertEqual(markup("abcd", 3), "<bdi>abc\u2026</bdi>")
+
+    def test_letters_one_by_one_or_all_at_once(self) -> None:
+        """Shows a text in the same way whether each letter of it is looked at or not."""
+        chance = random.Random(5)
+        letters = "".join(HOSTILE) + "\u05d0\u0301\u0300\u6f22 1<"
+        for _ in range(2000):
+            text = "".join(chance.choices(letters, k=chance.randrange(9)))
+            parts = [f"<i>{it}</i>" if is_code else escape(it) for it, is_code in seen(text)]
+            self.assertIn(markup(text, 9), ("".join(parts), f"<bdi>{''.join(parts)}</bdi>"))
 
     def test_headers_names_and_places(self) -> None:
         """Shows hostile headers, paths and parameters as text."""
@@ -865,6 +895,13 @@ class TestMany(Case):
         wanted.append("./javascript%3Aalert%281%29.html")
         self.assertEqual(links, wanted)
 
+    def test_long_names_in_other_scripts(self) -> None:
+        """Links the page of a report whose name has several bytes for each letter."""
+        reports = [self.packed(letter * 50 + ".zip") for letter in ("\u6f22", "\U0001f600")]
+        self.run_many(*reports, "--", "--page", "i.html", status=0)
+        for _, _, link in self.listed(self.folder / "i.html"):
+            self.assertTrue((self.folder / unquote(link)).is_file(), link)
+
     def test_order(self) -> None:
         """Lists refused, failed, those to try again, and done."""
         words = ["done", "memory", "refused", "failed", "busy", "refused"]
@@ -873,6 +910,9 @@ class TestMany(Case):
         self.check_safe(text)
         names = [it.all("th")[0].text() for it in read(text).all("tbody")[0].all("tr")]
         self.assertEqual(names, ["r2", "r5", "r3", "r1", "r4", "r0"])
+        self.assertEqual(read(text).all("h1")[0].text(), "Refused: 2 reports of 6")
+        others = [it for it in listed if it.outcome.outcome != "refused"]
+        self.assertEqual(read(index(others, "/")).all("h1")[0].text(), "Failed: 3 reports of 4")
 
 
 def contrast(one: str, other: str) -> float:
@@ -898,7 +938,8 @@ class TestLooks(Case):
         inks = ("ink", "soft", "link", "code")
         pairs = [(it, ground) for it in inks for ground in ("paper", "panel")]
         pairs += [(it, f"{it}-paper") for it in ("bad", "good", "wait")]
-        pairs += [("code", "bad-paper"), ("ink", "bad-paper"), ("soft", "bad-paper")]
+        grounds = ("bad-paper", "wait-paper")
+        pairs += [(it, ground) for it in ("code", "ink", "soft") for ground in grounds]
         for colours in (light, dark):
             for text, ground in pairs:
                 seen = contrast(colours[text], colours[ground])
@@ -980,6 +1021,40 @@ class TestBrowser(Case):
         said = {it: (it.place, it.cell, it.cell, it.cell, "more") for it in faults[::2]}
         tables = [TableFile(it, f"{it}.csv", str(self.tables / f"{it}.csv")) for it in ("t", "gone")]
         return filled(Content("Refused", "r", "", [], len(faults)), tables, faults, said)
+
+    def test_as_wide_as_the_window(self) -> None:
+        """Is never wider than its window, and shows the tables of a good report whole."""
+        self.edit("l_02.csv", "counterparty,due,amount,standing\n" + "A,term,x,dom:Watched\n" * 3)
+        self.convert("--out", "o.json", status=1)
+        self.page.rename(self.folder / "bad.html")
+        shutil.rmtree(self.folder / "report")
+        shutil.copytree(EXAMPLE / "report", self.folder / "report")
+        self.convert("--out", "o.json")
+        wide = "[...document.querySelectorAll('.wide')].every((it) => it.scrollWidth <= it.clientWidth)"
+        root = "document.documentElement"
+        with Browser(self.folder) as browser:
+            for width in (320, 640, 1280):
+                size = {"width": width, "height": 900, "deviceScaleFactor": 1, "mobile": False}
+                browser.ask("Emulation.setDeviceMetricsOverride", **size)
+                for name in ("bad.html", "page.html"):
+                    browser.open(f"file://{self.folder}/{name}")
+                    own, window = browser.value(f"[{root}.scrollWidth, {root}.clientWidth]")
+                    self.assertLessEqual(own, window, (name, width))
+            self.assertTrue(browser.value(wide))
+
+    def test_scripts_from_right_to_left(self) -> None:
+        """Writes paths and lines from left to right, and cells as their letters want it."""
+        self.edit("l_01.csv", 'datapoint,factValue\n\u05d01,"\u05d0 1,5"\n')
+        (self.folder / "report").rename(self.folder / "\u05d0")
+        words = ["--taxonomy", "taxonomy", "--page", "page.html", "--out", "o.json"]
+        self.assertEqual(self.run_filing("\u05d0", *words).returncode, 1)
+        seen = """(name) => [...document.querySelectorAll(`${name} bdi`)]
+            .map((it) => getComputedStyle(it).direction)"""
+        with Browser(self.folder) as browser:
+            browser.open(f"file://{self.page}")
+            for name in ("h1", "dd", "caption", "pre", ".path"):
+                self.assertEqual(set(browser.value(f"({seen})('{name}')")), {"ltr"}, name)
+            self.assertEqual(set(browser.value(f"({seen})('.rows td')")), {"rtl"})
 
     def test_nothing_of_a_report_runs(self) -> None:
         """Has the same elements in a browser as in the file, and a console without a line."""

@@ -25,6 +25,9 @@ TOP = Path(__file__).resolve().parent.parent
 sys.path.insert(0, str(TOP))
 
 from filing.converter_program import has_counts  # noqa: E402
+from filing.counts import Numbers  # noqa: E402
+from filing.filed import Filed, Table  # noqa: E402
+from filing.summary import table_lines  # noqa: E402
 from tests.filings import FILING  # noqa: E402
 from tests.harness import PATIENCE, PROGRAM  # noqa: E402
 
@@ -406,6 +409,44 @@ class TestWhere(Case):
         self.assertIn(["all", "3", "tables", "8", "10"], [line[:5] for line in lines])
         self.assertIn("optional tables without a file: l_03".split(), lines)
         self.assertIn("filing indicators that are true without facts: l_03".split(), lines)
+
+
+class TestLines(unittest.TestCase):
+    """The table of a summary, at several widths of a terminal."""
+
+    def lines(self, names: List[str], columns: int) -> List[str]:
+        """Return the lines of tables of these names, each with a million rows and facts."""
+        numbers = Numbers(1_000_000, 1_000_000)
+        tables = tuple(Table(name, f"{name}.csv", name, numbers) for name in names)
+        return table_lines(Filed(tables, (), (), ()), columns)
+
+    def test_as_wide_as_the_terminal(self) -> None:
+        """Cuts names so that a line fits, but to no less than they can be told apart by."""
+        names = ["short", "n" * 30, "n" * 50]
+        for columns, wanted in ((10, 16), (80, 16), (88, 22), (96, 30), (106, 40), (300, 40)):
+            lines = self.lines(names, columns)
+            front = {line.index("  1,000,000") for line in lines if "1,000,000" in line}
+            self.assertEqual(front, {wanted}, columns)
+            self.assertEqual({len(line) for line in lines}, {66 + wanted}, columns)
+        self.assertIn(f"{'n' * 20}..  1,000,000", self.lines(names, 88)[2])
+        self.assertIn(f"{'n' * 30}  1,000,000", self.lines(names, 96)[2])
+
+    def test_other_scripts(self) -> None:
+        """Takes two columns for a wide letter, none for a mark, and keeps numbers in order."""
+        wide, marked, right = "\u6f22" * 12, "e\u0301" * 12, "\u05d0" * 24
+        lines = self.lines([wide, marked, right], 200)
+        fronts = [line.partition("  1,000,000")[0] for line in lines[1:4]]
+        self.assertEqual(fronts, [wide, marked + " " * 12, right + "\u200e"])
+        cut = self.lines([wide * 2, marked * 2], 88)
+        self.assertTrue(cut[1].startswith("\u6f22" * 10 + "..  1,000,000"), cut[1])
+        self.assertTrue(cut[2].startswith("e\u0301" * 20 + "..  1,000,000"), cut[2])
+
+    def test_many_tables(self) -> None:
+        """Has the first tables, how many more there are, and the sum of all."""
+        lines = self.lines([f"t{at}" for at in range(1042)], 80)
+        self.assertEqual(len(lines), 1 + 40 + 2)
+        self.assertEqual(lines[-2].split(), ["..", "1,002", "more"])
+        self.assertEqual(lines[-1].split()[:4], ["all", "1,042", "tables", "1,042,000,000"])
 
 
 class TestPage(Case):
