@@ -142,6 +142,8 @@ def make_folder(batch: Batch) -> None:
     for place in (batch.into, cache_of(batch)):
         try:
             os.makedirs(place, exist_ok=True)
+        except FileExistsError:
+            raise cannot_write(place, "it is not a folder") from None
         except OSError as error:
             raise cannot_write(place, error) from None
 

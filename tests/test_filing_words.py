@@ -309,6 +309,20 @@ class TestRuns(FilingTest):
                 ((3, line), False),
             )
 
+    def test_files_as_folders(self) -> None:
+        """A file in the place of a folder is refused as such."""
+        folder = self.folder
+        write_packages(folder)
+        write(folder, {"file": "x", "into/.cache": "x"})
+        line = "xbrl-filing: {}: cannot write (it is not a folder)\n"
+        for option, place, refused in (
+            ("--cache", "file", "file"),
+            ("--into", "file", "file"),
+            ("--into", "into", "into/.cache"),
+        ):
+            words = ["r", "--taxonomy", "t", option, place]
+            self.case(f"{option} {place}", start(words, folder), (3, b"", line.format(refused)))
+
     def test_folders_to_prepare(self) -> None:
         """--prepare takes a new or an empty folder."""
         seen: Any
