@@ -16,7 +16,7 @@ from dataclasses import dataclass, replace
 from typing import Callable, Counter as Counted, Dict, Iterator, List, Optional, Sequence
 
 from .batch_words import Batch, read_batch
-from .converter_program import require_counts, version_of
+from .converter_program import require_counts, require_options, version_of
 from .cache import digests_of_program
 from .digests import digest_of
 from .faults import count_faults
@@ -80,6 +80,7 @@ def run_batch(
     not converted has a line on standard error, and the last line counts.
     """
     batch = read_batch(words)
+    require_options(program, batch.settings.unknown)
     if batch.summary is not None:
         require_counts(program)
         for label in batch.settings.taxonomy:
