@@ -18,7 +18,7 @@ from dataclasses import dataclass, replace
 from typing import Callable, Counter as Counted, Dict, Iterator, List, Optional, Sequence
 
 from .batch_words import Batch, read_batch
-from .converter_program import require_counts, version_of
+from .converter_program import require_counts, require_options, version_of
 from .cache import digests_of_program
 from .digests import digest_of
 from .faults import count_faults
@@ -95,6 +95,7 @@ def run_batch(
     """
     open_streams()
     batch = read_batch(words)
+    require_options(program, batch.settings.unknown)
     if batch.summary is not None:
         require_counts(program)
         for label in batch.settings.taxonomy:
@@ -168,6 +169,8 @@ def make_folder(batch: Batch) -> None:
     for place in (batch.into, cache_of(batch)):
         try:
             os.makedirs(place, exist_ok=True)
+        except FileExistsError:
+            raise cannot_write(place, "it is not a folder") from None
         except OSError as error:
             raise cannot_write(place, error) from None
 

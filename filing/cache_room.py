@@ -35,6 +35,8 @@ def store(path: str, pieces: List[bytes]) -> None:
     try:
         os.makedirs(folder, exist_ok=True)
         write_aside(path, aside, pieces)
+    except FileExistsError:
+        raise cannot_write(folder, "it is not a folder") from None
     except OSError as error:
         raise cannot_write(folder, error) from None
     trim(folder, os.path.basename(path))

@@ -13,7 +13,7 @@ from typing import List, NamedTuple, Optional, Tuple
 from .batch import run_batch
 from .batch_words import is_of_many
 from .chain import Chain
-from .converter_program import require_counts, version_of
+from .converter_program import require_counts, require_options, version_of
 from .fault_names import name_places
 from .filed import filed_of
 from .finding import Finder, Found
@@ -161,6 +161,7 @@ def run(
     With `--prepare` the files go into its folder, else into a temporary one. Return the status.
     """
     here = Run(settings, program, progress, stopping, time.monotonic(), opened)
+    require_options(program, settings.unknown)
     check_asked(settings)
     if settings.summary is not None:
         require_counts(program)

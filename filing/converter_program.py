@@ -2,11 +2,14 @@
 
 from __future__ import annotations
 
+import os
+import re
 from functools import lru_cache
 from subprocess import DEVNULL, PIPE, SubprocessError, run
+from typing import Iterable
 
 from .outcomes import first_line
-from .refusals import FILES, Refusal
+from .refusals import FILES, WORDS, Refusal
 
 COUNTS, PROGRESS = "--counts", "--progress"
 EXPLAIN, NO_EXPLAIN = "--explain", "--no-explain"
@@ -45,6 +48,18 @@ def has_counts(program: str) -> bool:
 def has_no_explain(program: str) -> bool:
     """Return whether the program has the option `--no-explain`, as its help says."""
     return NO_EXPLAIN.encode() in help_of(program)
+
+
+def require_options(program: str, names: Iterable[str]) -> None:
+    """Refuse an option that the program does not have, as its help says.
+
+    The program itself would refuse it only once the filing is joined.
+    """
+    for name in names:
+        text = help_of(program)
+        if text and not re.search(rb"(?<![\w-])%b(?![\w-])" % re.escape(os.fsencode(name)), text):
+            why = f"'{name}' is an option of neither xbrl-filing nor xbrl-json; try --help"
+            raise Refusal(WORDS, "", why)
 
 
 def require_counts(program: str) -> None:

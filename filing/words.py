@@ -102,6 +102,7 @@ class Settings:
     summary: Optional[str] = None
     limit: int = DEFAULT_LIMIT
     rest: Tuple[str, ...] = ()
+    unknown: Tuple[str, ...] = ()  # the options of `rest` that only another xbrl-json may have
     given: FrozenSet[str] = frozenset()  # the options of this program that are given
 
     def outputs(self, names: Sequence[str] = OUTPUTS) -> Iterator[str]:
@@ -270,7 +271,7 @@ def read_words(words: Sequence[str]) -> Settings:
     found, left = parser_of_words().read(words)
     if found.report == "":
         raise misuse("'' is one word too many")
-    refuse_more(left)
+    refuse_wrong(left)
     own = (TAXONOMY, LIMIT, *OWN_WITH_VALUE, PARAMETERS)
     given = frozenset(name for name in own if getattr(found, dest_of(name)) is not None)
     return checked(
@@ -284,6 +285,7 @@ def read_words(words: Sequence[str]) -> Settings:
             summary=found.summary,
             limit=DEFAULT_LIMIT if found.limit is None else found.limit,
             rest=tuple(word for words in left for word in words),
+            unknown=tuple(unknown_options(left)),
             given=given,
         )
     )
@@ -294,15 +296,28 @@ def dest_of(name: str) -> str:
     return "limit" if name == LIMIT else name[2:].replace("-", "_")
 
 
-def refuse_more(left: Sequence[Sequence[str]]) -> None:
-    """Refuse a second REPORT. An option that is not known may have a value."""
+def refuse_wrong(left: Sequence[Sequence[str]]) -> None:
+    """Refuse a second REPORT, and an option of xbrl-json that lacks its value.
+
+    An option that is not known may have a value.
+    """
     may_have_one = False
-    for word, *_ in left:
+    for word, *values in left:
         is_option = word.startswith("--")
         if not is_option and not may_have_one:
             raise misuse(f"'{word}' is one word too many")
+        if word in WITH_VALUE and not values:
+            raise misuse(f"{word} needs a value")
         known = word in WITHOUT_VALUE or word in WITH_VALUE
         may_have_one = is_option and not known and "=" not in word
+
+
+def unknown_options(left: Sequence[Sequence[str]]) -> Iterator[str]:
+    """Yield the options that this program does not know."""
+    for word, *_ in left:
+        name = word.partition("=")[0]
+        if name[:2] == "--" != name and name not in (*WITH_VALUE, *WITHOUT_VALUE):
+            yield name
 
 
 def checked(settings: Settings) -> Settings:

@@ -534,7 +534,7 @@ class TestRuns(FilingTest):
         self.case(
             "a cache that is a file",
             (seen, (folder / "o").exists()),
-            ((3, "xbrl-filing: file: cannot write (File exists)\n"), False),
+            ((3, "xbrl-filing: file: cannot write (it is not a folder)\n"), False),
         )
 
     def test_caches_of_several_runs(self) -> None:

@@ -331,12 +331,13 @@ def entry_points() -> Iterator[Case]:
         **below,
     )
     spelt = ["HTTP://REG.example:80/m%6Fd.xsd", HOST + "mod.xsd"]
-    yield makes(
-        "one URL in three spellings",
-        parts={"documentInfo/taxonomy": spelt[:1]},
-        types=TYPES,
-        **both({}, {}, {"taxonomy": spelt}, {"taxonomy": ["./mod.xsd"]}),
-    )
+    for first in (spelt, spelt[::-1]):
+        yield makes(
+            f"one URL in three spellings, {first[0]} first",
+            parts={"documentInfo/taxonomy": first[:1]},
+            types=TYPES,
+            **both({}, {}, {"taxonomy": first}, {"taxonomy": ["./mod.xsd"]}),
+        )
     query = both({}, {}, {}, {"taxonomy": ["q.xsd?v=1"]})
     query["taxonomies"][0].update(
         {

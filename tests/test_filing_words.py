@@ -62,6 +62,8 @@ USAGE: list[tuple[list[str], str]] = [
     (["r", "--parameters=b"], "--parameters has no value"),
     (["r", "--parameters", "b"], "'b' is one word too many"),
     (["r", "--cache", ""], "--cache needs a value"),
+    (["r", "--out"], "--out needs a value"),
+    (["r", "--explain", "--workers"], "--workers needs a value"),
     (["r", "--unpacked-limit", "8G"], "--unpacked-limit is a number of bytes, and '8G' is none"),
     (["r", "--unpacked-limit=-1"], "--unpacked-limit is a number of bytes, and '-1' is none"),
     *(
@@ -122,6 +124,17 @@ class TestRuns(FilingTest):
             self.case(
                 f"words {given}", run(given, folder), (2, f"xbrl-filing: {what}; try --help\n")
             )
+
+    def test_options_that_nobody_has(self) -> None:
+        """Such an option is refused before a file is opened, unless xbrl-json has no help."""
+        for given in (["--otu", "x"], ["--otu=x"], ["--into", "d", "--otu"]):
+            line = "'--otu' is an option of neither xbrl-filing nor xbrl-json; try --help\n"
+            status, out, err = start(["none", *given], self.folder)
+            self.case(f"words {given}", (status, out, err[-len(line) :]), (2, b"", line))
+        line = "xbrl-filing: none: cannot read (No such file or directory)\n"
+        self.case("without a help", run(["none", "--otu"], self.folder), (3, line))
+        for known in ("--progress", "--layout=lines", "--"):
+            self.case(f"words {known}", start(["none", known], self.folder), (3, b"", line))
 
     def test_version_and_help(self) -> None:
         """--version and --help, after and before other words."""
@@ -308,6 +321,20 @@ class TestRuns(FilingTest):
                 (seen, (folder / "o").exists()),
                 ((3, line), False),
             )
+
+    def test_files_as_folders(self) -> None:
+        """A file instead of a folder is refused as such."""
+        folder = self.folder
+        write_packages(folder)
+        write(folder, {"file": "x", "into/.cache": "x"})
+        line = "xbrl-filing: {}: cannot write (it is not a folder)\n"
+        for option, place, refused in (
+            ("--cache", "file", "file"),
+            ("--into", "file", "file"),
+            ("--into", "into", "into/.cache"),
+        ):
+            words = ["r", "--taxonomy", "t", option, place]
+            self.case(f"{option} {place}", start(words, folder), (3, b"", line.format(refused)))
 
     def test_folders_to_prepare(self) -> None:
         """--prepare takes a new or an empty folder."""
