@@ -309,6 +309,15 @@ class TestIndicators(Case):
         """Takes the tables whose names go on after a dot as those of the template."""
         self.assertEqual(self.told("l,false\nl_0,true\n"), (["l_0"], ["l"]))
 
+    def test_name_of_the_file(self) -> None:
+        """Takes the name of a table's file as that of its template too."""
+        path, value = self.module()
+        value["tables"]["l_02"]["url"] = "sub/Q_07.01.csv"
+        path.write_text(json.dumps(value))
+        (self.tables / "sub").mkdir()
+        (self.tables / "l_02.csv").rename(self.tables / "sub/Q_07.01.csv")
+        self.assertEqual(self.told("q_07_01,false\nq_07,true\nq_07.02,false\n"), ([], ["q_07_01"]))
+
     def test_not_a_table_of_indicators(self) -> None:
         """Passes over a table of another shape."""
         common = self.folder / "taxonomy/supervision.example/2025/common.json"
