@@ -442,6 +442,14 @@ class TestRefused(Case):
         self.assertEqual(shown[0].marked, "factvalue")
         self.assertEqual(shown[0].lines, [["2", "1", "dp1", "1"]])
 
+    def test_a_byte_order_mark(self) -> None:
+        """Shows no mark of the bytes' order before the header."""
+        self.edit("l_01.csv", "\ufeffdatapoint,factValue\ndp1,x\n")
+        self.convert("--faults", "f.csv", "--out", "o.json", status=1)
+        self.check_agrees(read_faults(str(self.folder / "f.csv")))
+        heads = [it.text() for it in self.top().all("thead")[0].all("th")]
+        self.assertEqual(heads, ["Line", "Row", "datapoint", "factValue"])
+
     def test_a_record_of_another_length(self) -> None:
         """Shows a cell past the header."""
         self.edit("l_01.csv", "datapoint,factValue\ndp1,1,200\ndp2,1\n")
@@ -541,6 +549,8 @@ class TestHostile(Case):
             self.assertEqual(markup(text, 9), f"<bdi><i>{wanted}</i></bdi>")
         self.assertEqual(markup("a\u0301\u0301\u0301\u0301", 9).count("<i>"), 1)
         self.assertEqual(markup("<&>\"'", 9), "&lt;&amp;&gt;&quot;&#x27;")
+        self.assertEqual(markup("a\u20dd\u20dd\u20dd\u20dd", 9).count("<i>"), 1)
+        self.assertEqual((markup("abc", 3), plain("abc", 3)), ("abc", "abc"))
         self.assertEqual(markup("abcd", 3), "<bdi>abc\u2026</bdi>")
 
     def test_letters_one_by_one_or_all_at_once(self) -> None:

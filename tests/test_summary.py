@@ -267,6 +267,33 @@ class TestIndicators(Case):
         facts = {it["template"]: (it["filed"], it["facts"]) for it in summary["indicators"]}
         self.assertEqual(facts, {"l_01": (True, 3), "l_02": (True, 4), "l_03": (False, 0)})
 
+    def module(self) -> Tuple[Path, Any]:
+        """Return the module's metadata file and its value."""
+        path = self.folder / "taxonomy/supervision.example/2025/liq/liq.json"
+        return path, json.loads(path.read_text())
+
+    def test_tables_that_are_not_filed(self) -> None:
+        """Lists them by identifier, in whichever order the module has them."""
+        path, value = self.module()
+        for name in ("z_1", "l_1", "A_1"):
+            value["tables"][name] = {"url": f"{name}.csv", "template": "l_03", "optional": True}
+        path.write_text(json.dumps(value))
+        self.convert()
+        seen = [it["table"] for it in self.summary()["optionalWithoutFile"]]
+        self.assertEqual(seen, ["A_1", "l_03", "l_1", "z_1"])
+
+    def test_nothing_is_filed(self) -> None:
+        """Has no rows and no facts, if no table has a file."""
+        common = self.folder / "taxonomy/supervision.example/2025/common.json"
+        value = json.loads(common.read_text())
+        value["tables"]["FilingIndicators"]["optional"] = True
+        common.write_text(json.dumps(value))
+        for name in ("FilingIndicators", "l_01", "l_02"):
+            (self.tables / f"{name}.csv").unlink()
+        self.convert()
+        self.assertEqual(self.summary()["total"], dict.fromkeys(MEMBERS, 0))
+        self.assertEqual((self.summary()["tables"], self.summary()["indicators"]), ([], []))
+
     def test_true_without_facts(self) -> None:
         """Names a template of no table, of an absent one, and of one without a row."""
         rows = "l_01,true\nl_02,true\nl_03,true\nl_77,1\n"
@@ -276,10 +303,20 @@ class TestIndicators(Case):
     def test_false_with_facts(self) -> None:
         """Names a template that has facts, however it is spelt."""
         self.assertEqual(self.told("L_01,false\nl.02,0\nl_03,false\n"), ([], ["L_01", "l.02"]))
+        self.assertEqual(self.told("l_01, false \n"), ([], ["l_01"]))
 
     def test_tables_of_a_template(self) -> None:
         """Takes the tables whose names go on after a dot as those of the template."""
         self.assertEqual(self.told("l,false\nl_0,true\n"), (["l_0"], ["l"]))
+
+    def test_name_of_the_file(self) -> None:
+        """Takes the name of a table's file as that of its template too."""
+        path, value = self.module()
+        value["tables"]["l_02"]["url"] = "sub/Q_07.01.csv"
+        path.write_text(json.dumps(value))
+        (self.tables / "sub").mkdir()
+        (self.tables / "l_02.csv").rename(self.tables / "sub/Q_07.01.csv")
+        self.assertEqual(self.told("q_07_01,false\nq_07,true\nq_07.02,false\n"), ([], ["q_07_01"]))
 
     def test_not_a_table_of_indicators(self) -> None:
         """Passes over a table of another shape."""
