@@ -299,9 +299,12 @@ class FolderPackage(Package):
         return folder, iter(entries_of(os.path.join(self.top, folder), f"{self.label.rstrip('/')}/{folder}".rstrip("/")))
 
     def disk(self, name: str) -> str:
-        """Return the path on the disk. Refuse a link that leads outside of the folder."""
+        """Return the path on the disk. Refuse a link that leads outside of the folder.
+
+        A path without a file is not resolved: that takes quadratic time if it has many folders.
+        """
         path = os.path.join(self.top, self.root + name) if "\0" not in name else ""
-        if os.path.commonpath([self.top, os.path.realpath(path or self.top)]) != self.top:
+        if os.path.lexists(path) and os.path.commonpath([self.top, os.path.realpath(path)]) != self.top:
             raise wrong(self.shown(name), f"is a link that leads outside of {self.label}")
         return path
 

@@ -21,7 +21,7 @@ from typing import Callable, Dict, FrozenSet, Iterable, Iterator, List, NamedTup
 from .csv_text import records_of_report
 from .finding import Found
 from .metadata import Merged, objects
-from .packages import Package, mode_of, pieces_of_disk
+from .packages import LARGEST_TEXT, Package, mode_of, pieces_of_disk
 from .refusals import cannot_read, cannot_write, wrong
 from .report import REPORTS, reports_in
 from .strict_json import Json
@@ -29,16 +29,19 @@ from .strict_json import Json
 META, TYPES = "meta.json", "types.csv"
 MOST_RECORDS = 65536  # of a parameters file that xbrl-json takes
 LONGEST_NAME, LONGEST_PATH = 255, 4000  # bytes that a file system takes, with a folder before it
+MOST_FOLDERS = 100  # of a table's path, each of which is looked up; more are left to xbrl-json
 # What xbrl-json takes as the path of a table; the segments are looked at besides.
 PLAIN = re.compile(r"[^\\:?#%\x00-\x1f]+")
 
 
-def is_plain(url: object) -> bool:
+def is_plain(url: object, longest: int = LONGEST_PATH) -> bool:
     """Return whether xbrl-json takes a URL as a path below the metadata's folder.
 
     Other URLs are a fault that xbrl-json names, so they are never looked at here.
     """
-    return isinstance(url, str) and bool(PLAIN.fullmatch(url)) and not {"", ".", ".."}.intersection(url.split("/"))
+    if not isinstance(url, str) or len(url) > longest:
+        return False
+    return bool(PLAIN.fullmatch(url)) and not {"", ".", ".."}.intersection(url.split("/"))
 
 
 def is_csv(path: str) -> bool:
@@ -75,7 +78,7 @@ class Files:
             folder=report.name[: report.name.rfind("/") + 1],
             merged=merged,
             tables=urls,
-            parameters=parameters if is_plain(parameters) else None,
+            parameters=parameters if is_plain(parameters, LARGEST_TEXT) else None,
         )
 
     def all(self) -> List[str]:
@@ -137,12 +140,13 @@ class Files:
     def is_absent(self, url: str) -> bool:
         """Return whether nothing is at a table's path, not even a folder."""
         name = self.name(url)
-        folders = [name[:at] for at, letter in enumerate(name) if letter == "/"]
-        too_long = any(len(os.fsencode(part)) > LONGEST_NAME for part in name.split("/"))
-        if too_long or len(os.fsencode(name)) > LONGEST_PATH:
+        if len(os.fsencode(name)) > LONGEST_PATH or name.count("/") > MOST_FOLDERS:
             return False  # xbrl-json refuses it, as the system does
+        if any(len(os.fsencode(part)) > LONGEST_NAME for part in name.split("/")):
+            return False
         path = self.package.path_on_disk(name)
         if path is None:
+            folders = [name[:at] for at, letter in enumerate(name) if letter == "/"]
             inside = any(map(self.package.has, folders))  # of a file in a folder's place
             there = self.package.has(name) or self.package.children(name) != ([], [])
             return not (inside or there)
@@ -245,7 +249,7 @@ def write_files(folder: str, files: Files, types: TypesTable, copy: bool) -> Wri
     for url in files.all():
         target, name = names.get(url, url), files.name(url)
         shown[target] = files.package.shown(name)
-        put_file(os.path.join(folder, *target.split("/")), files.package, name, copy)
+        put_file(os.path.join(folder, target), files.package, name, copy)
     if types.file is not None and not copy:
         link(types.file, os.path.join(folder, TYPES))
     else:
