@@ -23,7 +23,7 @@ from .cache import key_of
 from .cache_room import store, used
 from .catalog import CATALOG
 from .chain import Chain, Metadata, read_metadata
-from .dates import DateColumn, DatePlaces, date_places, with_types_of_dates
+from .dates import DateColumn, DatePlaces, DateTemplate, date_places, with_types_of_dates
 from .digests import digest_of
 from .final import final_parts
 from .finding import Found
@@ -524,8 +524,8 @@ def read_index(line: bytes) -> Module:
     index: Dict[str, Any] = json.loads(head)
     index["members"] = MemberPlaces(*index["members"])
     index["dates"] = {
-        name: {column: DateColumn(*place) for column, place in columns.items()}
-        for name, columns in index["dates"].items()
+        name: DateTemplate({column: DateColumn(*place) for column, place in columns.items()}, groups)
+        for name, (columns, groups) in index["dates"].items()
     }
     index["types"] = Block(*index["types"])
     index["templates"] = {name: Block(*block) for name, block in index["templates"].items()}
