@@ -18,6 +18,7 @@ from abc import ABC, abstractmethod
 from contextlib import contextmanager
 from typing import IO, Any, Dict, Iterable, Iterator, List, NamedTuple, Optional, Sequence, Tuple
 
+from .allowance import Allowance
 from .digests import Contents, contents_of_disk, digest_of, digests_of, identity_of
 from .refusals import cannot_read, wrong
 from .zip_entries import Listing, checked_entries
@@ -33,10 +34,15 @@ class Package(ABC):
     A name is relative to the package's root, and has slashes between its segments.
     """
 
-    def __init__(self, label: str) -> None:
-        """Make a package that lines call `label`. Its root is its top until another is found."""
+    def __init__(self, label: str, packed: Optional[int] = None) -> None:
+        """Make a package that lines call `label`. Its root is its top until another is found.
+
+        `packed` is its size, if it is packed.
+        """
         self.label = label
         self.root = ""
+        self.packed = packed
+        self.allowance = Allowance(packed)  # of its files; others may share it
 
     @abstractmethod
     def has(self, name: str) -> bool:
@@ -167,16 +173,23 @@ def opened(path: str) -> IO[bytes]:
 class ZipPackage(Package):
     """A package that is a ZIP file."""
 
-    def __init__(self, label: str, limit: int, file: Optional[IO[bytes]] = None) -> None:
+    def __init__(
+        self,
+        label: str,
+        limit: int,
+        file: Optional[IO[bytes]] = None,
+        packed: Optional[int] = None,
+    ) -> None:
         """Open a ZIP, or take one that is open, and check its entries.
 
-        Refuse one that unpacks to more bytes than the limit.
+        Refuse one that unpacks to more bytes than the limit. `packed` is the size of one that is in
+        another ZIP.
         """
-        super().__init__(label)
         with damage_told(label):
             self.file: IO[bytes] = opened(label) if file is None else file
             self.archive = zipfile.ZipFile(self.file)
             self.size = os.fstat(self.file.fileno()).st_size
+            super().__init__(label, self.size if packed is None else packed)
             self.files = checked_entries(self.archive, self.size, label, limit)
         self.unpacked = sum(entry.file_size for entry in self.archive.infolist())
         self.listing = Listing(self.files)

@@ -25,6 +25,12 @@ def document_type(value: Json) -> object:
     return info.get("documentType") if isinstance(info, dict) else None
 
 
+def kind_of_file(package: Package, name: str) -> object:
+    """Return the document type of a JSON file."""
+    pieces, label = package.pieces(name), package.shown(name)
+    return document_type(read_json(pieces, label, allowance=package.allowance))
+
+
 def report_at(package: Package, name: str) -> Found:
     """Return a file of the report, by its name in the package."""
     return Found(Place(quote(name, errors="surrogateescape"), True), package, name)
@@ -76,7 +82,7 @@ def check_package_file(package: Package) -> None:
     One that declares nothing is taken, because older forms did not.
     """
     if package.has(PACKAGE_FILE):
-        kind = document_type(read_json(package.pieces(PACKAGE_FILE), package.shown(PACKAGE_FILE)))
+        kind = kind_of_file(package, PACKAGE_FILE)
         if kind not in PACKAGE_TYPES:
             raise wrong(package.shown(PACKAGE_FILE), f"is of no report package: its document type is {kind!r}")
 
@@ -94,7 +100,7 @@ def reports_in(package: Package, folder: str, passed: List[Tuple[str, object]]) 
             continue
         name = folder + file
         try:
-            kind = document_type(read_json(package.pieces(name), package.shown(name)))
+            kind = kind_of_file(package, name)
         except Refusal as refusal:
             if refusal.status != WRONG or isinstance(refusal, RepeatedKey):
                 raise
