@@ -44,6 +44,13 @@ def is_plain(url: object, longest: int = LONGEST_PATH) -> bool:
     return bool(PLAIN.fullmatch(url)) and not {"", ".", ".."}.intersection(url.split("/"))
 
 
+def is_too_long(path: str) -> bool:
+    """Return whether a path, or a name in it, is longer than one of a file can be."""
+    if len(os.fsencode(path)) > LONGEST_PATH:
+        return True
+    return any(len(os.fsencode(part)) > LONGEST_NAME for part in path.split("/"))
+
+
 def is_csv(path: str) -> bool:
     """Return whether a file is CSV by its name, and not one that a system or an editor leaves.
 
@@ -104,6 +111,19 @@ class Files:
             why = f"is missing: 'parameterURL' of {asker} names it"
             raise wrong(self.package.shown(name), why)
 
+    def refuse_long_urls(self) -> None:
+        """Refuse a table whose URL no file can have, because it is too long.
+
+        xbrl-json would name it as a file that cannot be read, which is not the report's fault.
+        """
+        for name, table in objects(self.merged.value, "tables"):
+            url: Json = table.get("url")
+            if not isinstance(url, str) or not is_too_long(url):
+                continue
+            asker = self.merged.origin(("tables", name, "url"))
+            most = f"at most {LONGEST_PATH} bytes, and {LONGEST_NAME} between slashes"
+            raise wrong(asker, f"the table '{name}' has a url that no file can have: {most}")
+
     def refuse_unread(self) -> None:
         """Refuse a CSV file of the report that nothing names, or that is in a folder above.
 
@@ -140,9 +160,7 @@ class Files:
     def is_absent(self, url: str) -> bool:
         """Return whether nothing is at a table's path, not even a folder."""
         name = self.name(url)
-        if len(os.fsencode(name)) > LONGEST_PATH or name.count("/") > MOST_FOLDERS:
-            return False  # xbrl-json refuses it, as the system does
-        if any(len(os.fsencode(part)) > LONGEST_NAME for part in name.split("/")):
+        if is_too_long(name) or name.count("/") > MOST_FOLDERS:
             return False
         path = self.package.path_on_disk(name)
         if path is None:
