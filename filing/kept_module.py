@@ -202,6 +202,7 @@ class ModuleCache:
         """Return whether the entry serves a report with these files. Refuse what has a fault."""
         files.require_parameters()
         files.refuse_long_urls()
+        files.refuse_repeated()
         files.refuse_unread()
         check_parameters(files.merged, Renaming(module.lost, lambda _: False), files)
         check_references(files.merged, files, names_of(files.merged.value).references)

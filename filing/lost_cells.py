@@ -8,7 +8,7 @@ only if a prefix is replaced and a table has it at all.
 from __future__ import annotations
 
 import re
-from typing import Callable, Collection, Dict, Iterable, Iterator, List, Optional, Set
+from typing import Callable, Collection, Dict, Iterable, Iterator, List, Optional, Set, Tuple
 
 from .metadata import Merged, objects
 from .named import reference
@@ -30,13 +30,15 @@ def refuse_lost_cells(merged: Merged, lost: Dict[str, str], files: Files, kind_o
     if not lost:
         return
     templates = dict(objects(merged.value, "tableTemplates"))
-    for name, table in objects(merged.value, "tables"):
-        used = table.get("template", name)
-        template = templates.get(used, {}) if isinstance(used, str) else {}
-        url = table.get("url")
-        if not isinstance(url, str) or url not in files.tables or not mentions(files, url, lost):
+    columns_of: Dict[str, Set[str]] = {}  # by template
+    naming = {url for url in files.tables if mentions(files, url, lost)}
+    for url, used in dict.fromkeys(urls_and_templates(merged)):
+        if url not in naming:
             continue
-        columns = columns_of_texts(template, merged.value, kind_of)
+        if used not in columns_of:
+            template = templates.get(used, {})
+            columns_of[used] = columns_of_texts(template, merged.value, kind_of)
+        columns = columns_of[used]
         if columns and is_pipe(files, url):
             raise unread(files, url, lost)
         for row, column, text in cells_of(files, url, columns):
@@ -47,6 +49,14 @@ def refuse_lost_cells(merged: Merged, lost: Dict[str, str], files: Files, kind_o
                 what = f"'{lost[old]}' here: write '{lost[old]}', or declare '{old}' instead of it"
                 spot = spot_of(files, url, row, column)
                 raise wrong(label, f"{why} {what} in {files.report}", spot)
+
+
+def urls_and_templates(merged: Merged) -> Iterator[Tuple[str, str]]:
+    """Yield the URL and the template of each table that has both."""
+    for name, table in objects(merged.value, "tables"):
+        url, used = table.get("url"), table.get("template", name)
+        if isinstance(url, str) and isinstance(used, str):
+            yield url, used
 
 
 def lost_in(text: str, lost: Dict[str, str]) -> Optional[str]:

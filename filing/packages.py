@@ -15,7 +15,7 @@ import struct
 import zipfile
 import zlib
 from abc import ABC, abstractmethod
-from contextlib import contextmanager
+from contextlib import contextmanager, suppress
 from typing import IO, Any, Dict, Iterable, Iterator, List, NamedTuple, Optional, Sequence, Tuple
 
 from .allowance import Allowance
@@ -77,6 +77,13 @@ class Package(ABC):
     def path_on_disk(self, name: str) -> Optional[str]:
         """Return the path of a file that is on the disk; None if it must be unpacked."""
         return None
+
+    def size_of(self, name: str) -> int:
+        """Return how many bytes a file has; 0 if there is none."""
+        path = self.path_on_disk(name)
+        with suppress(OSError, ValueError):
+            return os.stat(path).st_size if path is not None else 0
+        return 0
 
     def names_read(self) -> Iterable[str]:
         """Return the names read so far, if the package is neither a folder nor a ZIP."""
@@ -205,6 +212,11 @@ class ZipPackage(Package):
     def pieces(self, name: str) -> Iterator[bytes]:
         """Yield the unpacked bytes of an entry, piece by piece. Refuse damage in one line."""
         return self.pieces_of(self.files[self.root + name], self.shown(name))
+
+    def size_of(self, name: str) -> int:
+        """Return how many bytes an entry has; 0 if there is none."""
+        entry = self.files.get(self.root + name)
+        return 0 if entry is None else entry.file_size
 
     def pieces_of(self, entry: zipfile.ZipInfo, label: str) -> Iterator[bytes]:
         """Yield the same of any entry, which lines call `label`."""

@@ -11,6 +11,7 @@ import os
 import re
 import shutil
 import stat
+from collections import Counter
 from contextlib import contextmanager
 from dataclasses import dataclass, replace
 from functools import cached_property
@@ -29,6 +30,8 @@ from .strict_json import Json
 META, TYPES = "meta.json", "types.csv"
 MOST_RECORDS = 65536  # of a parameters file that xbrl-json takes
 LONGEST_NAME, LONGEST_PATH = 255, 4000  # bytes that a file system takes, with a folder before it
+MOST_TABLES = 8  # that one file is for on average, if the files are large
+FREE_READ = 64 << 20  # bytes of the files of all tables
 MOST_FOLDERS = 100  # of a table's path, each of which is looked up; more are left to xbrl-json
 # What xbrl-json takes as the path of a table; the segments are looked at besides.
 PLAIN = re.compile(r"[^\\:?#%\x00-\x1f]+")
@@ -123,6 +126,22 @@ class Files:
             asker = self.merged.origin(("tables", name, "url"))
             most = f"at most {LONGEST_PATH} bytes, and {LONGEST_NAME} between slashes"
             raise wrong(asker, f"the table '{name}' has a url that no file can have: {most}")
+
+    def refuse_repeated(self) -> None:
+        """Refuse files that very many tables have: each table is read by itself.
+
+        The bound is for all of them together, and only if they are large.
+        """
+        tables = (table.get("url") for _, table in objects(self.merged.value, "tables"))
+        times = Counter(url for url in tables if isinstance(url, str) and url in self.tables)
+        if max(times.values(), default=0) <= MOST_TABLES:
+            return
+        sizes = {url: self.package.size_of(self.name(url)) for url in times}
+        read = sum(size * times[url] for url, size in sizes.items())
+        if read > FREE_READ and read > MOST_TABLES * sum(sizes.values()):
+            url = max(times, key=lambda url: sizes[url] * times[url])
+            why = f"is the file of {times[url]} tables, which are {read} bytes with all others"
+            raise wrong(self.package.shown(self.name(url)), why)
 
     def refuse_unread(self) -> None:
         """Refuse a CSV file of the report that nothing names, or that is in a folder above.
