@@ -168,7 +168,7 @@ class Chain:
         files[found.file] = key
 
     def count(self, metadata: Metadata) -> None:
-        """Count the URLs and names of a file, and refuse too many: each is looked up or compared."""
+        """Count the URLs and names of a file, and refuse too many: each is looked up."""
         for place in (*metadata.extends, *(place for _, place in metadata.taxonomy())):
             self.finder.count(place, metadata.label)
         for part, most in MOST_NAMES.items():

@@ -105,7 +105,7 @@ class Text:
         return min(MOST_VALUES, self.before + left // MEMORY_OF_VALUE)
 
     def memory(self, values: int) -> int:
-        """Return the memory that the text takes with so many values."""
+        """Return the memory that the text takes with this number of values."""
         return self.size * self.width[1] + values * MEMORY_OF_VALUE
 
     def look(self) -> bool:

@@ -9,11 +9,12 @@ Python. A failed case prints the command that shows it again; `--keep` leaves it
 folder. Without `--seconds` and `--cases` it judges 1,000 cases, about two minutes.
 
 Each case is a package or a folder of which ZIP, JSON, XML, CSV, names, links or pipes are changed.
-It must end with status 0, 1 or 3 (with --into also 75) and without a traceback, within 20 seconds of processor time and
-800 MB of memory. Only seconds of the processor count, because a loaded machine makes a run wait;
-the slowest of 11,000 cases took 1.6 of them with a load of 30 on four processors. A refusal is one
-line. Nothing is written but what was asked for, no input is changed, and no temporary file is
-left. The line before the last names the slowest cases, and the last one counts. Linux is needed.
+It must end with status 0, 1 or 3 (with --into also 75) and without a traceback, within 20 seconds
+of processor time and 800 MB of memory. Only seconds of the processor count, because a loaded
+machine makes a run wait; the slowest of 11,000 cases took 1.6 of them with a load of 30 on four
+processors. A refusal is one line. Nothing is written but what was asked for, no input is changed,
+and no temporary file is left. The line before the last names the slowest cases, and the last one
+counts. Linux is needed.
 """
 from __future__ import annotations
 

@@ -110,7 +110,7 @@ class Counted(unittest.TestCase):
                     self.refused(act, why)
 
     def test_commas_in_texts(self) -> None:
-        """Commas and brackets of texts are no values, in whatever pieces they come."""
+        """Commas and brackets of texts are not values, in whatever pieces they come."""
         text = b'["' + b"{[,\\\"" * 1000 + b'"]'
         memory = len(text) * 3 + 2 * 100
         with mock.patch.object(allowance, "FREE_MEMORY", memory + 100):
