@@ -5,17 +5,17 @@ from __future__ import annotations
 from bisect import bisect_right
 from typing import Dict, Iterator, List, Optional, Sequence, Tuple
 
-from .markup import LONGEST_URL, XML_BASE, Content, Elements, parse
+from .markup import XML_BASE, Content, Elements, parse
 from .packages import Package
 from .refusals import wrong
-from .urls import Place, decoded, joined, normal
+from .urls import LONGEST_URL, Place, decoded, joined
 
 CATALOG = "META-INF/catalog.xml"
 NAMESPACE = "urn:oasis:names:tc:entity:xmlns:xml:catalog "
 REWRITE, EXACT = NAMESPACE + "rewriteURI", NAMESPACE + "uri"
 STANDARD_HOSTS = ("www.xbrl.org", "xbrl.org", "www.w3.org")
 MOST_IN_OTHER_CAPITALS = 4  # entries that are looked at for a line, each in a whole package
-MOST_ELEMENTS = 100_000  # of the catalogs of a run; one entry serves a whole package
+MOST_ELEMENTS = 20_000  # of the catalogs of a run; one entry serves a whole package
 MOST_ENTRIES = 100  # that are tried for one URL; packages of supervisors have one or two
 
 
@@ -29,6 +29,7 @@ class Entries(Content):
 
     def start(self, name: str, attributes: Dict[str, str]) -> None:
         self.enter()
+        self.attributes += len(attributes)
         if XML_BASE in attributes:
             self.rebase(attributes[XML_BASE])
         if name == REWRITE and "uriStartString" in attributes:
@@ -44,7 +45,10 @@ class Entries(Content):
 
         Refuse an entry that leads outside. Blanks around a URI do not count.
         """
-        place = joined(self.base(), reference.strip())
+        reference = reference.strip()
+        if len(reference) > LONGEST_URL:
+            raise wrong(self.label, f"has an entry of {len(reference)} characters; more than {LONGEST_URL} are not taken (line {self.line()})")
+        place = joined(self.base(), reference)
         if not place.local or place.text.startswith("/") or ".." in place.path().split("/"):
             raise wrong(self.label, f"has an entry that leads outside of the package: '{reference}' (line {self.line()})")
         return place.text
@@ -70,11 +74,11 @@ class Catalogs:
         if not package.has(CATALOG):
             return
         entries = Entries(package.shown(CATALOG))
-        parse(package.pieces(CATALOG), entries, self.elements)
+        parse(package.pieces(CATALOG), entries, self.elements, package.allowance)
         for url, path in entries.exact:
-            self.exact.setdefault(normal(url), []).append((package, path))
+            self.exact.setdefault(Place(url).known().text, []).append((package, path))
         for start, prefix in entries.rewrites:
-            self.rewrites.setdefault(normal(start), []).append((package, prefix))
+            self.rewrites.setdefault(Place(start).known().text, []).append((package, prefix))
 
     def find(self, place: Place) -> Optional[Tuple[Package, str]]:
         """Return the package and the name of the first entry for a URL whose file exists.

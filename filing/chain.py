@@ -18,6 +18,10 @@ OF_A_DRAFT = re.compile(
     r"(?:(?:CR|PR|PWD|DPWD|IWD|WGWD)/[^/]+|YYYY|\(\(~status_date_uri~\)\))/xbrl-csv"
 )
 MOST_FILES = 2000  # of a report; modules that were seen have 120 at most
+MOST_TEXTS = 2000  # of a list of URLs
+# In all files of a report. A module has 180 prefixes in each of 120 files, and xbrl-json takes
+# 4,096 tables; optional ones may be left out before.
+MOST_NAMES = {"namespaces": 50_000, "tables": 16_384, "parameters": 65_536}
 
 
 class Metadata:
@@ -56,6 +60,8 @@ class Metadata:
         value = self.info.get(name, [])
         if not isinstance(value, list) or not all(isinstance(text, str) for text in value):
             raise wrong(self.label, f"'documentInfo.{name}' is not a list of texts")
+        if len(value) > MOST_TEXTS:
+            raise wrong(self.label, f"'documentInfo.{name}' has more than {MOST_TEXTS} URLs")
         return value
 
     def base_url(self) -> Optional[str]:
@@ -82,7 +88,8 @@ class Metadata:
 
 def read_metadata(found: Found, values: Values) -> Metadata:
     """Read one file, and check no more of its shape than joining it needs."""
-    value = read_json(found.package.pieces(found.name), found.label, values)
+    package = found.package
+    value = read_json(package.pieces(found.name), found.label, values, package.allowance)
     info = value.get("documentInfo") if isinstance(value, dict) else None
     kind = info.get("documentType") if isinstance(info, dict) else None
     if kind != DOCUMENT_TYPE:
@@ -114,6 +121,7 @@ class Chain:
     def __init__(self, report: Found, finder: Finder) -> None:
         self.finder = finder
         self.values = Values()
+        self.names = dict.fromkeys(MOST_NAMES, 0)
         self.files: Dict[Place, Metadata] = {}
         self.down: Dict[Place, List[Place]] = {}
         self.up: Dict[Place, List[Place]] = {}
@@ -155,6 +163,7 @@ class Chain:
         if len(self.files) == MOST_FILES:
             raise wrong(found.label, f"is one of more than {MOST_FILES} files that extend each other")
         metadata = read_metadata(found, self.values)
+        self.count(metadata)
         key = found.place.known()
         self.files[key] = metadata
         self.down[key] = [place.known() for place in metadata.extends]
@@ -162,6 +171,17 @@ class Chain:
             self.up.setdefault(place, []).append(key)
         way[key] = iter(metadata.extends)
         files[found.file] = key
+
+    def count(self, metadata: Metadata) -> None:
+        """Count the URLs and names of a file, and refuse too many: each is looked up."""
+        for place in (*metadata.extends, *(place for _, place in metadata.taxonomy())):
+            self.finder.count(place, metadata.label)
+        for part, most in MOST_NAMES.items():
+            owner = metadata.info if part == "namespaces" else metadata.value
+            named = owner.get(part)
+            self.names[part] += len(named) if isinstance(named, dict) else 0
+            if self.names[part] > most:
+                raise wrong(metadata.label, f"has more than {most} '{part}', with those before it")
 
     def below(self, metadata: Metadata) -> List[Metadata]:
         """Return a file and all that it extends, directly or through others."""

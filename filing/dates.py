@@ -10,7 +10,7 @@ from __future__ import annotations
 import re
 from datetime import date
 from functools import lru_cache
-from typing import Callable, Dict, Iterator, List, NamedTuple, Optional, Tuple
+from typing import Callable, Dict, Iterator, List, NamedTuple, Optional, Set, Tuple
 
 from .metadata import objects
 from .named import reference
@@ -37,15 +37,24 @@ class DateColumn(NamedTuple):
     """Where the facts of a column get their concept from.
 
     It is that of the first group that gives one, else `concept`, which may be empty. The groups are
-    by the column whose cell names one.
+    those of the columns that `givers` names.
     """
 
     concept: str
-    groups: List[Tuple[str, Dict[str, str]]]
+    givers: List[str]
 
 
-# The columns whose facts may have such a concept, by template.
-DatePlaces = Dict[str, Dict[str, DateColumn]]
+class DateTemplate(NamedTuple):
+    """The columns of a template whose facts may have such a concept.
+
+    The concepts of groups are by the column that has the groups, and whose cell names one.
+    """
+
+    columns: Dict[str, DateColumn]
+    groups: Dict[str, Dict[str, str]]
+
+
+DatePlaces = Dict[str, DateTemplate]  # by template
 
 
 class Cell(NamedTuple):
@@ -85,35 +94,44 @@ def date_places(report: Object, kind_of: KindOf) -> DatePlaces:
     places: DatePlaces = {}
     for name, template in objects(report, "tableTemplates"):
         outer = concept_at(template) or concept_at(report) or ""
-        columns = dict(objects(template, "columns"))
-        for column_name, column in columns.items():
-            if "dimensions" in column:
-                place = date_column(column, columns, outer, is_sought)
-                if place is not None:
-                    places.setdefault(name, {})[column_name] = place
+        found = date_template(template, outer, is_sought)
+        if found.columns:
+            places[name] = found
     return places
 
 
-def date_column(
-    column: Object, columns: Dict[str, Object], outer: str, is_sought: Callable[[str], bool]
-) -> Optional[DateColumn]:
-    """Return where a column gets its concept from; None if it never gets one that is sought.
+def date_template(
+    template: Object, outer: str, is_sought: Callable[[str], bool]
+) -> DateTemplate:
+    """Return where the columns of a template get their concepts from.
 
-    Other concepts of groups are left out, unless something after the groups may give one.
+    Columns that never get one that is sought are left out. So are other concepts of groups, unless
+    something after the groups may give one.
     """
-    own = concept_at(column)
-    if own is not None:
-        return DateColumn(own, []) if is_sought(own) else None
+    columns = dict(objects(template, "columns"))
+    groups = {name: dict(concepts_of_groups(column)) for name, column in columns.items()}
+    sought = {name for name, given in groups.items() if any(map(is_sought, given.values()))}
+    found: Dict[str, DateColumn] = {}
+    whole: Set[str] = set()
+    for name, column in columns.items():
+        own = concept_at(column)
+        givers = givers_of(column) if own is None else []
+        concept = outer if own is None else own
+        if "dimensions" in column and (is_sought(concept) or not sought.isdisjoint(givers)):
+            found[name] = DateColumn(concept, givers)
+            whole.update(givers if len(givers) > 1 or is_sought(concept) else ())
+    for name in {giver for column in found.values() for giver in column.givers} - whole:
+        given = groups.get(name, {})
+        groups[name] = {key: concept for key, concept in given.items() if is_sought(concept)}
+    used = {giver for column in found.values() for giver in column.givers}
+    return DateTemplate(found, {name: groups[name] for name in groups if name in used})
+
+
+def givers_of(column: Object) -> List[str]:
+    """Return the columns from which a column takes property groups, each once, in order."""
     named = column.get("propertiesFrom")
-    givers = [name for name in named if isinstance(name, str)] if isinstance(named, list) else []
-    all_count = len(givers) > 1 or is_sought(outer)
-    groups: List[Tuple[str, Dict[str, str]]] = []
-    for giver in givers:
-        given = concepts_of_groups(columns.get(giver, {}))
-        groups.append((giver, {name: concept for name, concept in given if all_count or is_sought(concept)}))
-    inner = (concept for _, given in groups for concept in given.values())
-    sought = is_sought(outer) or any(map(is_sought, inner))
-    return DateColumn(outer, groups) if sought else None
+    texts = [name for name in named if isinstance(name, str)] if isinstance(named, list) else []
+    return list(dict.fromkeys(texts))
 
 
 def concepts_of_groups(column: Object) -> Iterator[Tuple[str, str]]:
@@ -137,7 +155,7 @@ def with_types_of_dates(types: bytes, places: DatePlaces, files: Files) -> bytes
     Refuse a cell that is neither form, if its concept has cells of both. A table that is a pipe is
     left to xbrl-json, so a concept that it may have is not checked.
     """
-    tables: List[Tuple[str, Object, Dict[str, DateColumn]]] = []
+    tables: List[Tuple[str, Object, DateTemplate]] = []
     for name, table in objects(files.merged.value, "tables"):
         used, url = table.get("template", name), table.get("url")
         if isinstance(used, str) and used in places and isinstance(url, str) and url in files.tables:
@@ -145,11 +163,11 @@ def with_types_of_dates(types: bytes, places: DatePlaces, files: Files) -> bytes
     if not any(is_pipe(files, url) or has_bare_date(files, url) for url, _, _ in tables):
         return types
     seen = SeenDates(types, files)
-    for url, table, columns in tables:
+    for url, table, template in tables:
         if is_pipe(files, url):
-            seen.pass_over(columns)
+            seen.pass_over(template)
         else:
-            seen.look_at(url, columns, {**seen.given, **parameters_of(table)})
+            seen.look_at(url, template, {**seen.given, **parameters_of(table)})
     return seen.types_table()
 
 
@@ -196,16 +214,17 @@ class SeenDates:
             self.records[concept] = record if record in self.places else b""
         return self.records[concept]
 
-    def look_at(self, url: str, columns: Dict[str, DateColumn], given: Dict[str, str]) -> None:
+    def look_at(self, url: str, template: DateTemplate, given: Dict[str, str]) -> None:
         """Note the forms of the cells of a table."""
         rows = rows_of(self.files, url)
         header: List[str] = next(rows, [])
+        columns, groups = template
         places = [(at, name, columns[name]) for at, name in enumerate(header) if name in columns]
         for number, row in enumerate(rows, 1):
             cells = dict(zip(header, row))
             for at, name, column in places:
                 if at < len(row) and row[at]:
-                    record = self.record(concept_of(column, cells, given))
+                    record = self.record(concept_of(column, groups, cells, given))
                     if record:
                         self.note(record, Cell(url, number, name, row[at]))
 
@@ -218,14 +237,14 @@ class SeenDates:
             return
         self.forms.setdefault(record, {}).setdefault(form_of(text), cell)
 
-    def pass_over(self, columns: Dict[str, DateColumn]) -> None:
+    def pass_over(self, template: DateTemplate) -> None:
         """Let each concept that the metadata names for these columns have both forms."""
-        for column in columns.values():
-            groups = (concept for _, given in column.groups for concept in given.values())
-            for concept in (column.concept, *groups):
-                record = self.record(concept)
-                if record:
-                    self.forms.setdefault(record, {}).update({DATE: UNSEEN, DATE_TIME: UNSEEN})
+        own = (column.concept for column in template.columns.values())
+        given = (concept for group in template.groups.values() for concept in group.values())
+        for concept in (*own, *given):
+            record = self.record(concept)
+            if record:
+                self.forms.setdefault(record, {}).update({DATE: UNSEEN, DATE_TIME: UNSEEN})
 
     def types_table(self) -> bytes:
         """Return the types table with the types that the cells choose."""
@@ -253,11 +272,16 @@ class SeenDates:
         return OTHER
 
 
-def concept_of(column: DateColumn, cells: Dict[str, str], given: Dict[str, str]) -> str:
+def concept_of(
+    column: DateColumn,
+    groups: Dict[str, Dict[str, str]],
+    cells: Dict[str, str],
+    given: Dict[str, str],
+) -> str:
     """Return the concept of a fact; empty if it has none. `given` are the parameters."""
     concept = column.concept
-    for giver, groups in column.groups:
-        named = groups.get(cells.get(giver, ""))
+    for giver in column.givers:
+        named = groups.get(giver, {}).get(cells.get(giver, ""))
         if named is not None:
             concept = named
             break

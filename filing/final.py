@@ -12,6 +12,9 @@ from .prefixes import Renaming
 from .refusals import wrong
 from .urls import normal
 
+MOST_COMPARED = 4_000_000  # keys of a run; a module of 120 files that are all final has 3 million
+A_FILE = 4  # keys that take as long as a look into a file
+
 KEYS: Dict[str, Callable[[Metadata], Iterable[str]]] = {
     "namespaces": lambda metadata: metadata.info_part("namespaces"),
     "taxonomy": lambda metadata: [place.text for _, place in metadata.taxonomy()],
@@ -31,11 +34,18 @@ def check_final(chain: Chain, lost: Dict[str, str]) -> None:
     """
     renaming = Renaming(lost, lambda _: False)
     in_one_form = {"dimensions": renaming.qname, "taxonomy": normal}
+    compared = 0
     for metadata in chain:
-        for part in final_parts(metadata):
+        final = final_parts(metadata)
+        lower, upper = (chain.below(metadata), chain.above(metadata)) if final else ([], [])
+        compared += len(chain.files) if final else 0
+        for part in final:
             one: Callable[[str], str] = in_one_form.get(part, as_written)
-            there = {one(key) for lower in chain.below(metadata) for key in KEYS[part](lower)}
-            for above in chain.above(metadata):
+            there = {one(key) for file in lower for key in KEYS[part](file)}
+            compared += len(there) + A_FILE * (len(lower) + len(upper))
+            if compared > MOST_COMPARED:
+                raise wrong(metadata.label, f"declares more than can be compared to be final ({MOST_COMPARED} keys)")
+            for above in upper:
                 for key in KEYS[part](above):
                     if one(key) not in there:
                         raise wrong(above.label, f"adds '{key}' to '{part}', which is final in {metadata.label}")

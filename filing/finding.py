@@ -4,16 +4,17 @@ from __future__ import annotations
 
 from typing import Dict, Iterator, NamedTuple, Optional, Sequence, Set
 
+from .allowance import Allowance
 from .catalog import CATALOG, STANDARD_HOSTS, Catalogs, name_in_package
-from .markup import LONGEST_URL, Elements
+from .markup import Elements
 from .packages import Beside, Package
 from .refusals import Refusal, wrong
-from .urls import Place
+from .urls import LONGEST_URL, Place
 
 
 MOST_URLS = 8  # by which one file may be asked for: http and https, with and without `www`
 MOST_ASKED = 100_000  # URLs of a run; the modules that were seen ask for 4,000 at most
-MOST_ASKED_TEXT = 32 << 20  # characters of these URLs, which are all held
+MOST_ASKED_TEXT = 8 << 20  # characters of these URLs, which are all held
 MOST_PASSED_OVER = 1000  # files of the standards that no package has
 AGAIN = 16 << 20  # bytes that may be read again, besides twice what was read first
 LEAST_READ = 4096  # bytes that a file counts for at least
@@ -46,6 +47,7 @@ class Finder:
     def __init__(self, report: Package, packages: Sequence[Package]) -> None:
         self.report = report
         self.packages = packages
+        share_allowance([package for package in packages if package is not report])
         self.catalogs = Catalogs(packages)
         self.urls: Dict[object, Set[Place]] = {}  # the URLs of each file
         self.asked = self.asked_text = self.passed_over = 0
@@ -149,6 +151,14 @@ class Finder:
         scheme, colon, rest = place.text.partition(":")
         other = {"http": "https", "https": "http"}.get(scheme)
         return Place(other + colon + rest) if other else None
+
+
+def share_allowance(packages: Sequence[Package]) -> None:
+    """Give the packages that are packed one allowance: what one has less, another may have more."""
+    packed = [package for package in packages if package.packed is not None]
+    shared = Allowance(sum(package.packed or 0 for package in packed))
+    for package in packed:
+        package.allowance = shared
 
 
 def too_long(place: Place, asker: str, how: str) -> Refusal:

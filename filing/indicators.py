@@ -6,6 +6,7 @@ or false. xBRL-CSV does not know them, so nothing is refused for them.
 
 from __future__ import annotations
 
+from bisect import bisect_left
 from itertools import islice
 from typing import Dict, Iterator, List, Mapping, NamedTuple, Optional, Set, Tuple
 
@@ -48,11 +49,37 @@ def indicators_of(files: Files, facts: Mapping[str, int]) -> List[Indicator]:
             names[table] = names_of(table, url, template)
     for table, url in files.left_out:
         names[table] = names_of(table, url, table)
+    tables_of = Tables(names)
     found = []
     for template, is_filed in given:
-        tables = tuple(table for table, known in names.items() if is_of(spelt(template), known))
+        tables = tables_of.of(spelt(template))
         found.append(Indicator(template, is_filed, tables, sum(facts.get(table, 0) for table in tables)))
     return found
+
+
+class Tables:
+    """Tables by what an indicator may call them."""
+
+    def __init__(self, names: Mapping[str, Set[str]]) -> None:
+        """Take the names of each table."""
+        self.tables = list(names)
+        # Each name ends with a dot, so that all that begin with it are its own.
+        self.names = sorted((f"{name}.", at) for at, known in enumerate(names.values()) for name in known)
+        self.found: Dict[str, Tuple[str, ...]] = {}
+
+    def of(self, template: str) -> Tuple[str, ...]:
+        """Return the tables of a template, in order: `s.01.01.02` is one of `s.01.01`."""
+        if template not in self.found:
+            self.found[template] = tuple(self.tables[at] for at in sorted(set(self.numbers(f"{template}."))))
+        return self.found[template]
+
+    def numbers(self, start: str) -> Iterator[int]:
+        """Yield the numbers of the tables that have a name which begins so."""
+        for at in range(bisect_left(self.names, (start, 0)), len(self.names)):
+            name, number = self.names[at]
+            if not name.startswith(start):
+                return
+            yield number
 
 
 def file_of(url: str) -> str:
@@ -68,11 +95,6 @@ def names_of(table: str, url: str, template: object) -> Set[str]:
 def spelt(name: str) -> str:
     """Return a name in small letters, with a dot for each low line: such names have either."""
     return name.lower().replace("_", ".")
-
-
-def is_of(template: str, names: Set[str]) -> bool:
-    """Return whether a table is of a template: `s.01.01.02` is one of `s.01.01`."""
-    return any(name == template or name.startswith(f"{template}.") for name in names)
 
 
 def told(files: Files, url: str, template: Object) -> Iterator[Tuple[str, bool]]:

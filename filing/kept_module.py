@@ -23,7 +23,7 @@ from .cache import key_of
 from .cache_room import store, used
 from .catalog import CATALOG
 from .chain import Chain, Metadata, read_metadata
-from .dates import DateColumn, DatePlaces, date_places, with_types_of_dates
+from .dates import DateColumn, DatePlaces, DateTemplate, date_places, with_types_of_dates
 from .digests import digest_of
 from .final import final_parts
 from .finding import Found
@@ -201,6 +201,8 @@ class ModuleCache:
     def is_taken(self, files: Files, module: Module) -> bool:
         """Return whether the entry serves a report with these files. Refuse what has a fault."""
         files.require_parameters()
+        files.refuse_long_urls()
+        files.refuse_repeated()
         files.refuse_unread()
         check_parameters(files.merged, Renaming(module.lost, lambda _: False), files)
         check_references(files.merged, files, names_of(files.merged.value).references)
@@ -524,8 +526,8 @@ def read_index(line: bytes) -> Module:
     index: Dict[str, Any] = json.loads(head)
     index["members"] = MemberPlaces(*index["members"])
     index["dates"] = {
-        name: {column: DateColumn(*place) for column, place in columns.items()}
-        for name, columns in index["dates"].items()
+        name: DateTemplate({column: DateColumn(*place) for column, place in columns.items()}, groups)
+        for name, (columns, groups) in index["dates"].items()
     }
     index["types"] = Block(*index["types"])
     index["templates"] = {name: Block(*block) for name, block in index["templates"].items()}

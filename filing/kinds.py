@@ -7,9 +7,9 @@ from __future__ import annotations
 
 from typing import Callable, Dict, Optional, Set, Tuple, TypeVar
 
-from .markup import LONGEST_URL, Name
+from .markup import Name
 from .schemas import XS, Declared, Element
-from .urls import Place, decoded, joined
+from .urls import LONGEST_URL, Place, decoded, joined
 
 XBRLI = "http://www.xbrl.org/2003/instance"
 XBRLDT = "http://xbrl.org/2005/xbrldt"

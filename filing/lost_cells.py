@@ -8,8 +8,7 @@ only if a prefix is replaced and a table has it at all.
 from __future__ import annotations
 
 import re
-from itertools import chain
-from typing import Callable, Collection, Dict, Iterable, Iterator, List, Optional, Set
+from typing import Callable, Collection, Dict, Iterable, Iterator, List, Optional, Set, Tuple
 
 from .metadata import Merged, objects
 from .named import reference
@@ -20,7 +19,10 @@ from .strict_json import Json, Object
 from .table_cells import cells_of, is_pipe, pieces_of
 
 KindOf = Callable[[str], Optional[str]]  # the kind of a name of the metadata
-FEW = 16  # prefixes that are faster to look for one by one
+FEW = 16  # prefixes that are looked for one by one
+NAME = re.compile(r"([^\s:]+):\S+\s*")  # of a list
+PREFIX = re.compile(rb'[^\s:,"]+(?=:)')  # of a CSV file
+PREFIX_ALONE = re.compile(rb'[^\s:,"]+')
 
 
 def refuse_lost_cells(merged: Merged, lost: Dict[str, str], files: Files, kind_of: KindOf) -> None:
@@ -28,24 +30,42 @@ def refuse_lost_cells(merged: Merged, lost: Dict[str, str], files: Files, kind_o
     if not lost:
         return
     templates = dict(objects(merged.value, "tableTemplates"))
-    named = re.compile(rf"(?:[^\s:]+:\S+\s+)*({'|'.join(map(re.escape, lost))}):\S")
-    for name, table in objects(merged.value, "tables"):
-        used = table.get("template", name)
-        template = templates.get(used, {}) if isinstance(used, str) else {}
-        url = table.get("url")
-        if not isinstance(url, str) or url not in files.tables or not mentions(files, url, lost):
+    columns_of: Dict[str, Set[str]] = {}  # by template
+    naming = {url for url in files.tables if mentions(files, url, lost)}
+    for url, used in dict.fromkeys(urls_and_templates(merged)):
+        if url not in naming:
             continue
-        columns = columns_of_texts(template, merged.value, kind_of)
+        if used not in columns_of:
+            template = templates.get(used, {})
+            columns_of[used] = columns_of_texts(template, merged.value, kind_of)
+        columns = columns_of[used]
         if columns and is_pipe(files, url):
             raise unread(files, url, lost)
         for row, column, text in cells_of(files, url, columns):
-            found = named.match(text.lstrip())
-            if found:
-                old, label = found[1], files.package.shown(files.name(url))
+            old = lost_in(text, lost)
+            if old is not None:
+                label = files.package.shown(files.name(url))
                 why = f"'{text}' has the prefix '{old}', whose namespace has the prefix"
                 what = f"'{lost[old]}' here: write '{lost[old]}', or declare '{old}' instead of it"
                 spot = spot_of(files, url, row, column)
                 raise wrong(label, f"{why} {what} in {files.report}", spot)
+
+
+def urls_and_templates(merged: Merged) -> Iterator[Tuple[str, str]]:
+    """Yield the URL and the template of each table that has both."""
+    for name, table in objects(merged.value, "tables"):
+        url, used = table.get("url"), table.get("template", name)
+        if isinstance(url, str) and isinstance(used, str):
+            yield url, used
+
+
+def lost_in(text: str, lost: Dict[str, str]) -> Optional[str]:
+    """Return the first replaced prefix of a text that is a list of names; None for another text."""
+    at = len(text) - len(text.lstrip())
+    name = NAME.match(text, at)
+    while name is not None and name[1] not in lost:
+        name = NAME.match(text, name.end())
+    return None if name is None else name[1]
 
 
 def unread(files: Files, url: str, lost: Dict[str, str]) -> Refusal:
@@ -67,14 +87,19 @@ def mentions(files: Files, url: str, prefixes: Collection[str]) -> bool:
         return True
     longest = max(len(prefix.encode()) for prefix in prefixes)
     sought = [f"{prefix}:".encode() for prefix in prefixes]
-    many = re.compile(b"|".join(map(re.escape, sought))) if len(sought) > FEW else None
+    many = {start[:-1] for start in sought} if len(sought) > FEW else None
     end = b""
     for piece in pieces_of(files, url):
         text = end + piece
-        if many.search(text) if many else any(start in text for start in sought):
+        if any(start in text for start in sought) if many is None else has_one_of(text, many):
             return True
         end = (end + piece)[-longest:]
     return False
+
+
+def has_one_of(text: bytes, prefixes: Set[bytes]) -> bool:
+    """Return whether a part of a CSV file has one of many prefixes, or may have it."""
+    return not all(map(PREFIX_ALONE.fullmatch, prefixes)) or not prefixes.isdisjoint(PREFIX.findall(text))
 
 
 def columns_of_texts(template: Object, report: Object, kind_of: KindOf) -> Set[str]:
@@ -82,12 +107,17 @@ def columns_of_texts(template: Object, report: Object, kind_of: KindOf) -> Set[s
     columns = dict(objects(template, "columns"))
     outer = [level for level in map(dimensions_of, (template, report)) if level]
     found: Set[str] = set()
+    named: Dict[str, bool] = {}  # whether a group of a column names a concept whose facts may be
     for name, column in columns.items():
         if "dimensions" not in column:
             continue
-        levels = [dimensions_of(column), *groups_of(column, columns), *outer]
-        concepts = [level["concept"] for level in levels if "concept" in level]
-        if any(may_name(concept, kind_of) for concept in concepts):
+        for giver in givers_of(column):
+            if giver not in named:
+                groups = groups_of(giver, columns)
+                named[giver] = any_may_name(groups, kind_of)
+                found.update(typed_columns(groups, kind_of))
+        levels = [dimensions_of(column), *outer]
+        if any_may_name(levels, kind_of) or any(map(named.__getitem__, givers_of(column))):
             found.add(name)
         found.update(typed_columns(levels, kind_of))
     return found
@@ -98,12 +128,21 @@ def dimensions_of(level: Object) -> Object:
     return dimensions if isinstance(dimensions, dict) else {}
 
 
-def groups_of(column: Object, columns: Dict[str, Object]) -> List[Object]:
-    """Return the dimensions of the property groups that a column takes."""
+def givers_of(column: Object) -> List[str]:
+    """Return the columns from which a column takes property groups."""
     places = column.get("propertiesFrom")
-    givers = [place for place in places if isinstance(place, str)] if isinstance(places, list) else []
-    groups = chain.from_iterable(objects(columns.get(giver, {}), "propertyGroups") for giver in givers)
+    return [place for place in places if isinstance(place, str)] if isinstance(places, list) else []
+
+
+def groups_of(giver: str, columns: Dict[str, Object]) -> List[Object]:
+    """Return the dimensions of the property groups of a column."""
+    groups = objects(columns.get(giver, {}), "propertyGroups")
     return [dimensions_of(group) for _, group in groups]
+
+
+def any_may_name(levels: Iterable[Object], kind_of: KindOf) -> bool:
+    """Return whether one of these levels has a concept whose facts may be such texts."""
+    return any(may_name(level["concept"], kind_of) for level in levels if "concept" in level)
 
 
 def may_name(concept: Json, kind_of: KindOf) -> bool:

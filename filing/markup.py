@@ -7,18 +7,21 @@ import re
 from typing import Dict, Iterable, Iterator, List, Optional, Tuple
 from xml.parsers import expat
 
+from .allowance import Allowance
 from .refusals import Refusal, wrong
-from .urls import Place, joined
+from .urls import LONGEST_URL, Place, joined
 
 Name = Tuple[str, str]  # a namespace (`""` for none) and a local name
 XML_BASE = "http://www.w3.org/XML/1998/namespace base"
-LONGEST_URL = 4096
 MOST_BASES = 100
 DEEPEST = 1000  # elements around one; schemas of supervisors have 20 at most
-LARGEST_TOKEN = 16 << 20  # of a tag, a comment or an instruction, which expat holds as a whole
+LARGEST_TOKEN = 1 << 20  # of a tag or a comment, which expat reads again for each piece of it
+LONGEST_NAMESPACE = 255  # characters, which expat copies for each name in it
 MOST_ELEMENTS = 10_000_000  # of the XML of a run; a module of 200 MB has 1.3 million
 FREE_ELEMENTS = 100_000  # of a run, which may be of any length
 A_REFERENCE = 10  # elements that take as long as a reference which is followed, or a base
+OF_ELEMENT = 4  # attributes that take as long as an element
+BYTES_OF_ELEMENT = 64  # that do
 SHORTEST = 16  # bytes of each further element on average; those of modules have 130 to 150
 NO_MEMORY = expat.errors.codes[expat.errors.XML_ERROR_NO_MEMORY]
 # The encodings that are taken, by Python's names: what expat calls those that it reads itself, or
@@ -87,7 +90,7 @@ class Content:
 
     def __init__(self, place: Place, label: str) -> None:
         self.label = label
-        self.depth = self.started = 0
+        self.depth = self.started = self.attributes = 0
         self.bases: List[Tuple[int, Place]] = [(0, place)]
         self.scope: Dict[str, List[str]] = {"xml": ["http://www.w3.org/XML/1998/namespace"]}
         self.declarations = 0  # how often the prefixes in scope have changed
@@ -109,6 +112,10 @@ class Content:
         """Return how many elements have come. A prefix that one declares counts as two more."""
         return self.started + self.declarations
 
+    def work(self) -> int:
+        """Return how many elements take as long as what has come."""
+        return self.elements() + self.attributes // OF_ELEMENT
+
     def start(self, name: str, attributes: Dict[str, str]) -> None:
         raise NotImplementedError
 
@@ -117,6 +124,9 @@ class Content:
 
     def declare(self, prefix: Optional[str], uri: Optional[str]) -> None:
         self.declarations += 1
+        if uri is not None and len(uri) > LONGEST_NAMESPACE:
+            most = f"more than {LONGEST_NAMESPACE} are not taken"
+            raise wrong(self.label, f"has a namespace of {len(uri)} characters; {most} (line {self.line()})")
         self.scope.setdefault(prefix or "", []).append(uri or "")
 
     def forget(self, prefix: Optional[str]) -> None:
@@ -177,8 +187,10 @@ class Content:
         return self.parser.CurrentLineNumber if self.parser else 0
 
 
-def parse(pieces: Iterable[bytes], content: Content, elements: Elements) -> None:
-    """Read a file to its end, and add its elements to those of the run.
+def parse(
+    pieces: Iterable[bytes], content: Content, elements: Elements, allowance: Allowance
+) -> None:
+    """Read a file to its end, and add its elements to those of the run and of its package.
 
     Refuse one that is not well-formed, that is in an encoding that is not taken, that has too many
     elements, or that has a document type, and so any that has an entity of its own.
@@ -190,12 +202,15 @@ def parse(pieces: Iterable[bytes], content: Content, elements: Elements) -> None
     parser.StartDoctypeDeclHandler = lambda *_: refuse(content, "has a document type")
     content.take(parser)
     try:
-        fed = counted = 0
+        fed = counted = worked = 0
         for piece in chained(first, pieces) if native else recoded(first, pieces, encoding):
             parser.Parse(piece)
             fed += len(piece)
             elements.add(content.elements() - counted, len(piece), content.label)
             counted = content.elements()
+            work = content.work() + fed // BYTES_OF_ELEMENT
+            allowance.add_work(work - worked, content.label)
+            worked = work
             if fed - parser.CurrentByteIndex > LARGEST_TOKEN:
                 refuse(content, f"has a tag or a comment of more than {LARGEST_TOKEN} bytes")
         parser.Parse(b"", True)

@@ -5,7 +5,7 @@ from __future__ import annotations
 import io
 import os
 from contextlib import ExitStack
-from typing import IO, Iterable, Iterator, List, Tuple
+from typing import Iterable, Iterator, List, Optional, Tuple
 
 from .catalog import CATALOG
 from .packages import OwnPlace, Package, ZipPackage, is_zip, open_package
@@ -15,6 +15,26 @@ from .stopping import temporary_place
 from .zip_entries import check_unpacked
 
 MOST_INSIDE = 200  # packages of one ZIP; each holds a file open
+FREE_LISTS = 1 << 20  # bytes of their lists of entries, besides as many as the ZIP has
+
+
+class InnerFile(io.BufferedReader):
+    """A ZIP that was in another ZIP. Its list of entries, which is read at once, has a bound."""
+
+    def __init__(self, file: int) -> None:
+        """Take a descriptor, which is closed with this file."""
+        super().__init__(OwnPlace(file))
+        self.label = ""
+        self.most = FREE_LISTS
+        self.listed = 0
+
+    def read(self, size: Optional[int] = -1) -> bytes:
+        """Return the next bytes. Refuse a list of entries with more than `most`."""
+        self.listed = max(self.listed, size or 0)
+        if self.listed > self.most:
+            why = f"has a list of entries of {size} bytes; more than {self.most} are not taken"
+            raise wrong(self.label, why)
+        return super().read(size)
 
 
 def open_taxonomies(labels: Iterable[str], limit: int, opened: ExitStack) -> List[Package]:
@@ -54,20 +74,23 @@ def packages_inside(package: ZipPackage, limit: int, opened: ExitStack) -> List[
     All together may unpack to as much as the ZIP itself.
     """
     found: List[Package] = []
-    unpacked = package.unpacked
+    unpacked, most_listed = package.unpacked, FREE_LISTS + package.size
     for name, file in zips_inside(package):
         opened.callback(file.close)
         if len(found) == MOST_INSIDE:
             raise wrong(package.label, f"holds more than {MOST_INSIDE} packages: give only some")
-        inner = ZipPackage(f"{package.label}/{name}", limit, file)
+        file.label, file.most = f"{package.label}/{name}", most_listed
+        inner = ZipPackage(file.label, limit, file, package.files[name].compress_size)
         opened.callback(inner.close)
+        most_listed -= file.listed
+        file.most = FREE_LISTS  # entries are read in small pieces
         unpacked += inner.unpacked
         check_unpacked(unpacked, package.size, package.label, limit)
         found.append(inner)
     return found
 
 
-def zips_inside(package: ZipPackage) -> Iterator[Tuple[str, IO[bytes]]]:
+def zips_inside(package: ZipPackage) -> Iterator[Tuple[str, InnerFile]]:
     """Yield the names and the bytes of the ZIPs in a ZIP, in order."""
     for name in sorted(package.files):
         is_left = any(part.startswith((".", "~$")) or part == "__MACOSX" for part in name.split("/"))
@@ -78,7 +101,7 @@ def zips_inside(package: ZipPackage) -> Iterator[Tuple[str, IO[bytes]]]:
                 yield name, unpacked_file(first, pieces)
 
 
-def unpacked_file(first: bytes, pieces: Iterator[bytes]) -> IO[bytes]:
+def unpacked_file(first: bytes, pieces: Iterator[bytes]) -> InnerFile:
     """Return a file without a name that holds some bytes. It is gone with the run.
 
     Refuse a folder of temporary files that cannot be written.
@@ -92,6 +115,6 @@ def unpacked_file(first: bytes, pieces: Iterator[bytes]) -> IO[bytes]:
             for piece in pieces:
                 file.write(piece)
             file.flush()
-            return io.BufferedReader(OwnPlace(os.dup(file.fileno())))
+            return InnerFile(os.dup(file.fileno()))
     except OSError as error:
         raise cannot_write(place, error) from None

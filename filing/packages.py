@@ -15,9 +15,10 @@ import struct
 import zipfile
 import zlib
 from abc import ABC, abstractmethod
-from contextlib import ExitStack, contextmanager
+from contextlib import ExitStack, contextmanager, suppress
 from typing import IO, Any, Dict, Iterable, Iterator, List, NamedTuple, Optional, Sequence, Tuple
 
+from .allowance import Allowance
 from .digests import Contents, contents_of_disk, digest_of, digests_of, identity_of
 from .refusals import FILES, Refusal, cannot_read, wrong
 from .zip_entries import Listing, checked_entries
@@ -33,10 +34,15 @@ class Package(ABC):
     A name is relative to the package's root, and has slashes between its segments.
     """
 
-    def __init__(self, label: str) -> None:
-        """Make a package that lines call `label`. Its root is its top until another is found."""
+    def __init__(self, label: str, packed: Optional[int] = None) -> None:
+        """Make a package that lines call `label`. Its root is its top until another is found.
+
+        `packed` is its size, if it is packed.
+        """
         self.label = label
         self.root = ""
+        self.packed = packed
+        self.allowance = Allowance(packed)  # of its files; others may share it
 
     @abstractmethod
     def has(self, name: str) -> bool:
@@ -71,6 +77,13 @@ class Package(ABC):
     def path_on_disk(self, name: str) -> Optional[str]:
         """Return the path of a file that is on the disk; None if it must be unpacked."""
         return None
+
+    def size_of(self, name: str) -> int:
+        """Return how many bytes a file has; 0 if there is none."""
+        path = self.path_on_disk(name)
+        with suppress(OSError, ValueError):
+            return os.stat(path).st_size if path is not None else 0
+        return 0
 
     def names_read(self) -> Iterable[str]:
         """Return the names read so far, if the package is neither a folder nor a ZIP."""
@@ -167,17 +180,24 @@ def opened(path: str) -> IO[bytes]:
 class ZipPackage(Package):
     """A package that is a ZIP file."""
 
-    def __init__(self, label: str, limit: int, file: Optional[IO[bytes]] = None) -> None:
+    def __init__(
+        self,
+        label: str,
+        limit: int,
+        file: Optional[IO[bytes]] = None,
+        packed: Optional[int] = None,
+    ) -> None:
         """Open a ZIP, or take one that is open, and check its entries.
 
-        Refuse one that unpacks to more bytes than the limit.
+        Refuse one that unpacks to more bytes than the limit. `packed` is the size of one that is in
+        another ZIP.
         """
-        super().__init__(label)
         with damage_told(label), ExitStack() as at_failure:
             self.file: IO[bytes] = opened(label) if file is None else file
             at_failure.callback(self.file.close)
             self.archive = zipfile.ZipFile(self.file)
             self.size = os.fstat(self.file.fileno()).st_size
+            super().__init__(label, self.size if packed is None else packed)
             self.files = checked_entries(self.archive, self.size, label, limit)
             at_failure.pop_all()
         self.unpacked = sum(entry.file_size for entry in self.archive.infolist())
@@ -194,6 +214,11 @@ class ZipPackage(Package):
     def pieces(self, name: str) -> Iterator[bytes]:
         """Yield the unpacked bytes of an entry, piece by piece. Refuse damage in one line."""
         return self.pieces_of(self.files[self.root + name], self.shown(name))
+
+    def size_of(self, name: str) -> int:
+        """Return how many bytes an entry has; 0 if there is none."""
+        entry = self.files.get(self.root + name)
+        return 0 if entry is None else entry.file_size
 
     def pieces_of(self, entry: zipfile.ZipInfo, label: str) -> Iterator[bytes]:
         """Yield the same of any entry, which lines call `label`."""
@@ -301,9 +326,12 @@ class FolderPackage(Package):
         return folder, iter(entries_of(os.path.join(self.top, folder), f"{self.label.rstrip('/')}/{folder}".rstrip("/")))
 
     def disk(self, name: str) -> str:
-        """Return the path on the disk. Refuse a link that leads outside of the folder."""
+        """Return the path on the disk. Refuse a link that leads outside of the folder.
+
+        A path without a file is not resolved: that takes quadratic time if it has many folders.
+        """
         path = os.path.join(self.top, self.root + name) if "\0" not in name else ""
-        if os.path.commonpath([self.top, os.path.realpath(path or self.top)]) != self.top:
+        if os.path.lexists(path) and os.path.commonpath([self.top, os.path.realpath(path)]) != self.top:
             raise wrong(self.shown(name), f"is a link that leads outside of {self.label}")
         return path
 

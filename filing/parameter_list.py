@@ -2,7 +2,7 @@
 
 from __future__ import annotations
 
-from typing import Dict, Iterator, List, Set, Tuple
+from typing import Dict, Iterator, List, Optional, Set, Tuple
 
 from .csv_text import record
 from .metadata import Merged, Path, levels, objects
@@ -46,11 +46,14 @@ def references_by_name(merged: Merged, given: Set[str]) -> Dict[str, List[Path]]
     """
     columns = {name: columns_of(template) for name, template in objects(merged.value, "tableTemplates")}
     places: Dict[str, List[Path]] = {}
+    missing: Dict[Tuple[str, Optional[str]], bool] = {}  # whether a template has no such column
     for at, level in levels(merged.value):
         owner = at[1] if at else None
         for name, path in references_of(at, level):
             is_given = name != ROW_NUMBER and name in given
-            if is_given or template_without(name, owner, columns) is not None:
+            if (name, owner) not in missing:
+                missing[name, owner] = template_without(name, owner, columns) is not None
+            if is_given or missing[name, owner]:
                 places.setdefault(name, []).append(path)
     return places
 

@@ -6,7 +6,7 @@ capitals, and a missing value from which all facts take their entity or period.
 
 from __future__ import annotations
 
-from typing import Dict, Iterator, Optional, Tuple
+from typing import Dict, Iterator, Optional, Set, Tuple
 
 from .metadata import Merged, objects
 from .named import Places, reference
@@ -82,11 +82,17 @@ def table_without(key: str, name: str, merged: Merged, files: Files) -> Optional
     the table gives the parameter.
     """
     templates = dict(objects(merged.value, "tableTemplates"))
+    takes: Dict[str, bool] = {}  # whether a fact of a template does
     for table_name, table in objects(merged.value, "tables"):
         url, used = table.get("url"), table.get("template", table_name)
-        template = templates.get(used, {}) if isinstance(used, str) else {}
+        used = used if isinstance(used, str) else ""
+        template = templates.get(used, {})
         there = isinstance(url, str) and url in files.tables and files.package.has(files.name(url))
-        if there and name not in columns_of(template) and not member(table, "parameters", name) and takes_from_report(template, key):
+        if not there or name in columns_of(template) or member(table, "parameters", name):
+            continue
+        if used not in takes:
+            takes[used] = takes_from_report(template, key)
+        if takes[used]:
             return table_name
     return None
 
@@ -98,15 +104,20 @@ def takes_from_report(template: Object, key: str) -> bool:
     """
     columns = dict(objects(template, "columns"))
     facts = [column for column in columns.values() if "dimensions" in column and member(column, "dimensions", key) is None]
-    return member(template, "dimensions", key) is None and not all(groups_give(column, columns, key) for column in facts)
+    givers = {name for name, column in columns.items() if groups_give(column, key)}
+    return member(template, "dimensions", key) is None and not all(takes_from(column, givers) for column in facts)
 
 
-def groups_give(column: Object, columns: Object, key: str) -> bool:
-    """Return whether a column takes property groups that all give a dimension."""
+def takes_from(column: Object, givers: Set[str]) -> bool:
+    """Return whether a column takes the property groups of one of these columns."""
     places = column.get("propertiesFrom")
-    givers = [columns.get(name, {}) for name in places if isinstance(name, str)] if isinstance(places, list) else []
-    groups = [[member(group, "dimensions", key) for _, group in objects(giver, "propertyGroups")] for giver in givers]
-    return any(level and None not in level for level in groups)
+    return isinstance(places, list) and any(isinstance(name, str) and name in givers for name in places)
+
+
+def groups_give(column: Object, key: str) -> bool:
+    """Return whether a column has property groups, and all of them give a dimension."""
+    groups = [member(group, "dimensions", key) for _, group in objects(column, "propertyGroups")]
+    return bool(groups) and None not in groups
 
 
 def member(owner: Object, part: str, name: str) -> Json:

@@ -11,6 +11,7 @@ import os
 import re
 import shutil
 import stat
+from collections import Counter
 from contextlib import contextmanager
 from dataclasses import dataclass, replace
 from functools import cached_property
@@ -21,7 +22,7 @@ from typing import Callable, Dict, FrozenSet, Iterable, Iterator, List, NamedTup
 from .csv_text import records_of_report
 from .finding import Found
 from .metadata import Merged, objects
-from .packages import Package, mode_of, pieces_of_disk
+from .packages import LARGEST_TEXT, Package, mode_of, pieces_of_disk
 from .refusals import cannot_read, cannot_write, wrong
 from .report import REPORTS, reports_in
 from .strict_json import Json
@@ -29,16 +30,28 @@ from .strict_json import Json
 META, TYPES = "meta.json", "types.csv"
 MOST_RECORDS = 65536  # of a parameters file that xbrl-json takes
 LONGEST_NAME, LONGEST_PATH = 255, 4000  # bytes that a file system takes, with a folder before it
+MOST_TABLES = 8  # that one file is for on average, if the files are large
+FREE_READ = 64 << 20  # bytes of the files of all tables
+MOST_FOLDERS = 100  # of a table's path, each of which is looked up; more are left to xbrl-json
 # What xbrl-json takes as the path of a table; the segments are looked at besides.
 PLAIN = re.compile(r"[^\\:?#%\x00-\x1f]+")
 
 
-def is_plain(url: object) -> bool:
+def is_plain(url: object, longest: int = LONGEST_PATH) -> bool:
     """Return whether xbrl-json takes a URL as a path below the metadata's folder.
 
     Other URLs are a fault that xbrl-json names, so they are never looked at here.
     """
-    return isinstance(url, str) and bool(PLAIN.fullmatch(url)) and not {"", ".", ".."}.intersection(url.split("/"))
+    if not isinstance(url, str) or len(url) > longest:
+        return False
+    return bool(PLAIN.fullmatch(url)) and not {"", ".", ".."}.intersection(url.split("/"))
+
+
+def is_too_long(path: str) -> bool:
+    """Return whether a path, or a name in it, is longer than one of a file can be."""
+    if len(os.fsencode(path)) > LONGEST_PATH:
+        return True
+    return any(len(os.fsencode(part)) > LONGEST_NAME for part in path.split("/"))
 
 
 def is_csv(path: str) -> bool:
@@ -75,7 +88,7 @@ class Files:
             folder=report.name[: report.name.rfind("/") + 1],
             merged=merged,
             tables=urls,
-            parameters=parameters if is_plain(parameters) else None,
+            parameters=parameters if is_plain(parameters, LARGEST_TEXT) else None,
         )
 
     def all(self) -> List[str]:
@@ -100,6 +113,35 @@ class Files:
             asker = self.merged.origin(("parameterURL",))
             why = f"is missing: 'parameterURL' of {asker} names it"
             raise wrong(self.package.shown(name), why)
+
+    def refuse_long_urls(self) -> None:
+        """Refuse a table whose URL no file can have, because it is too long.
+
+        xbrl-json would name it as a file that cannot be read, which is not the report's fault.
+        """
+        for name, table in objects(self.merged.value, "tables"):
+            url: Json = table.get("url")
+            if not isinstance(url, str) or not is_too_long(url):
+                continue
+            asker = self.merged.origin(("tables", name, "url"))
+            most = f"at most {LONGEST_PATH} bytes, and {LONGEST_NAME} between slashes"
+            raise wrong(asker, f"the table '{name}' has a url that no file can have: {most}")
+
+    def refuse_repeated(self) -> None:
+        """Refuse files that very many tables have: each table is read by itself.
+
+        The bound is for all of them together, and only if they are large.
+        """
+        tables = (table.get("url") for _, table in objects(self.merged.value, "tables"))
+        times = Counter(url for url in tables if isinstance(url, str) and url in self.tables)
+        if max(times.values(), default=0) <= MOST_TABLES:
+            return
+        sizes = {url: self.package.size_of(self.name(url)) for url in times}
+        read = sum(size * times[url] for url, size in sizes.items())
+        if read > FREE_READ and read > MOST_TABLES * sum(sizes.values()):
+            url = max(times, key=lambda url: sizes[url] * times[url])
+            why = f"is the file of {times[url]} tables, which are {read} bytes with all others"
+            raise wrong(self.package.shown(self.name(url)), why)
 
     def refuse_unread(self) -> None:
         """Refuse a CSV file of the report that nothing names, or that is in a folder above.
@@ -137,12 +179,11 @@ class Files:
     def is_absent(self, url: str) -> bool:
         """Return whether nothing is at a table's path, not even a folder."""
         name = self.name(url)
-        folders = [name[:at] for at, letter in enumerate(name) if letter == "/"]
-        too_long = any(len(os.fsencode(part)) > LONGEST_NAME for part in name.split("/"))
-        if too_long or len(os.fsencode(name)) > LONGEST_PATH:
-            return False  # xbrl-json refuses it, as the system does
+        if is_too_long(name) or name.count("/") > MOST_FOLDERS:
+            return False
         path = self.package.path_on_disk(name)
         if path is None:
+            folders = [name[:at] for at, letter in enumerate(name) if letter == "/"]
             inside = any(map(self.package.has, folders))  # of a file in a folder's place
             there = self.package.has(name) or self.package.children(name) != ([], [])
             return not (inside or there)
@@ -245,7 +286,7 @@ def write_files(folder: str, files: Files, types: TypesTable, copy: bool) -> Wri
     for url in files.all():
         target, name = names.get(url, url), files.name(url)
         shown[target] = files.package.shown(name)
-        put_file(os.path.join(folder, *target.split("/")), files.package, name, copy)
+        put_file(os.path.join(folder, target), files.package, name, copy)
     if types.file is not None and not copy:
         link(types.file, os.path.join(folder, TYPES))
     else:

@@ -31,6 +31,12 @@ def shown_type(kind: object) -> str:
     return f"'{kind}'" if isinstance(kind, str) else json.dumps(kind)
 
 
+def kind_of_file(package: Package, name: str) -> object:
+    """Return the document type of a JSON file."""
+    pieces, label = package.pieces(name), package.shown(name)
+    return document_type(read_json(pieces, label, allowance=package.allowance))
+
+
 def report_at(package: Package, name: str) -> Found:
     """Return a file of the report, by its name in the package."""
     return Found(Place(quote(name, errors="surrogateescape"), True), package, name)
@@ -82,7 +88,7 @@ def check_package_file(package: Package) -> None:
     One that declares nothing is taken, because older forms did not.
     """
     if package.has(PACKAGE_FILE):
-        kind = document_type(read_json(package.pieces(PACKAGE_FILE), package.shown(PACKAGE_FILE)))
+        kind = kind_of_file(package, PACKAGE_FILE)
         if kind not in PACKAGE_TYPES:
             said = "it has no 'documentInfo.documentType'"
             if kind is not None:
@@ -103,7 +109,7 @@ def reports_in(package: Package, folder: str, passed: List[Tuple[str, object]]) 
             continue
         name = folder + file
         try:
-            kind = document_type(read_json(package.pieces(name), package.shown(name)))
+            kind = kind_of_file(package, name)
         except Refusal as refusal:
             if refusal.status != WRONG or isinstance(refusal, RepeatedKey):
                 raise

@@ -11,10 +11,10 @@ from typing import Deque, Dict, List, NamedTuple, Optional, Set, Tuple
 from xml.parsers import expat
 
 from .finding import Finder, Found
-from .markup import A_REFERENCE, DEEPEST, LONGEST_URL, XML_BASE, Content, Name, parse
+from .markup import A_REFERENCE, DEEPEST, XML_BASE, Content, Name, parse
 from .progress import Progress
 from .refusals import wrong
-from .urls import Place, joined
+from .urls import LONGEST_URL, Place, joined
 
 XS = "http://www.w3.org/2001/XMLSchema "
 LINK = "http://www.xbrl.org/2003/linkbase "
@@ -38,6 +38,7 @@ FOLLOWED = {
     **{LINK + name: HREF for name in ("linkbaseRef", "loc", "roleRef", "arcroleRef")},
 }
 PASSED_OVER = frozenset(f"http://www.xbrl.org/2003/role/{role}LinkbaseRef" for role in ("label", "reference"))
+A_DECLARATION = 6  # elements that take as long as keeping what one declares
 MOST_ENDED = 1 << 16  # elements of a linkbase that are counted together
 NCNAME = (
     "[A-Z_a-z\u00c0-\u00d6\u00d8-\u00f6\u00f8-\u02ff\u0370-\u037d\u037f-\u1fff\u200c\u200d\u2070-\u218f\u2c00-\u2fef\u3001-\ud7ff"
@@ -118,6 +119,9 @@ class TaxonomyFile(Content):
     def elements(self) -> int:
         return self.made.elements() if self.made else super().elements()
 
+    def work(self) -> int:
+        return self.made.work() if self.made else super().work()
+
     def drop(self) -> None:
         super().drop()
         if self.made:
@@ -178,6 +182,7 @@ class LinkbaseFile(Referring):
         parser.EndElementHandler = self.ended.append
 
     def start(self, name: str, attributes: Dict[str, str]) -> None:
+        self.attributes += len(attributes)
         depth = self.depth = self.depth + 1
         if depth - len(self.ended) > DEEPEST or len(self.ended) >= MOST_ENDED:
             self.count_ended()
@@ -226,12 +231,17 @@ class SchemaFile(Referring):
         self.astray = 0
         self.derived_from: Optional[Name] = None
         self.is_complex = False  # whether it is, or has, a complex type
+        self.kept = 0  # global elements and types
         self.is_ncname = re.compile(NCNAME).fullmatch
         # By what the attributes say, while the prefixes in scope are the same.
         self.made: Dict[object, Element] = {}
 
+    def work(self) -> int:
+        return super().work() + A_DECLARATION * self.kept
+
     def start(self, name: str, attributes: Dict[str, str]) -> None:
         self.started += 1
+        self.attributes += len(attributes)
         depth = self.depth = self.depth + 1
         if depth > DEEPEST:
             raise self.too_deep()
@@ -286,6 +296,7 @@ class SchemaFile(Referring):
         The first one of a name counts: a schema by two URLs gives its names once.
         """
         assert self.open is not None
+        self.kept += 1
         is_element, name, attributes = self.open
         if is_element:
             element = self.element(attributes)
@@ -375,7 +386,8 @@ class Reading:
         if found is None:
             return
         content = TaxonomyFile(found, adopts, self)
-        parse(progress.counted(self.finder.pieces(found)), content, self.finder.elements)
+        pieces = progress.counted(self.finder.pieces(found))
+        parse(pieces, content, self.finder.elements, found.package.allowance)
         if content.has_namespace():
             self.with_namespace.add(place.known())
 

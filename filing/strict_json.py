@@ -12,6 +12,7 @@ from collections import Counter
 from itertools import chain
 from typing import Any, Callable, Dict, Iterable, List, NamedTuple, NoReturn, Optional, Tuple, Union
 
+from .allowance import Allowance
 from .refusals import WRONG, Refusal, wrong
 
 Json = Any
@@ -22,6 +23,10 @@ DEEPEST = 127
 LARGEST = 256 << 20  # bytes of one file, which is held as a whole
 LOOK = 1 << 18  # bytes that are looked at together
 MOST_VALUES = 5_000_000  # of the files of a run; the largest modules that were seen have 2 million
+# Bytes of memory for each byte of a text, by the widest character in it: Python keeps all
+# characters of a text in one, two or four bytes each.
+WIDTHS = ((0xF0, 9), (0xC4, 5), (0, 3))
+MEMORY_OF_VALUE = 100
 SURROGATE = re.compile(rb"\\u[dD][89a-fA-F]")
 NAME_END = '":'  # how a name ends, unless there are blanks before its colon
 NAME_END_WITH_BLANKS = re.compile('"[ \t\r\n]+:')
@@ -58,9 +63,17 @@ class Text:
     are left out of the count.
     """
 
-    def __init__(self, label: str, before: int = 0) -> None:
+    def __init__(
+        self, label: str, before: int = 0, allowance: Optional[Allowance] = None
+    ) -> None:
+        """Take the number of values before it, and what its package allows."""
         self.label = label
+        self.allowance = allowance
+        self.memory_left = None if allowance is None else allowance.memory_left(label)
         self.data = bytearray()
+        self.size = 0
+        self.width = WIDTHS[-1]
+        self.before = before
         self.most = before  # as many values the text has at most, with those before it
         self.values = before  # as many it has at least, in the part that was looked at
         self.looked_at = 0
@@ -69,12 +82,31 @@ class Text:
     def add(self, piece: bytes) -> None:
         """Add a piece, or refuse the text."""
         self.data += piece
-        if len(self.data) > LARGEST:
+        self.size += len(piece)
+        if self.size > LARGEST:
             raise wrong(self.label, f"has more than {LARGEST} bytes")
         self.most += marks(piece)
-        while self.most > MOST_VALUES and self.look():
+        most = self.most_values(piece)
+        while self.most > most and self.look():
             if self.values > MOST_VALUES:
                 raise too_many_values(self.label)
+            if self.values > most:
+                break
+        if self.allowance is not None and self.values > most:
+            raise self.allowance.too_much("JSON", self.label)
+
+    def most_values(self, piece: bytes) -> int:
+        """Return how many values the text may have, with those before it. A piece has just come."""
+        if self.memory_left is None:
+            return MOST_VALUES
+        widths = (width for width in WIDTHS if width == self.width or has_from(piece, width[0]))
+        self.width = next(widths, self.width)
+        left = self.memory_left - self.memory(0)
+        return min(MOST_VALUES, self.before + left // MEMORY_OF_VALUE)
+
+    def memory(self, values: int) -> int:
+        """Return the memory that the text takes with this number of values."""
+        return self.size * self.width[1] + values * MEMORY_OF_VALUE
 
     def look(self) -> bool:
         """Count the values of the next bytes, and return whether there are any."""
@@ -90,6 +122,11 @@ class Text:
         return len(new) > 0
 
 
+def has_from(text: bytes, least: int) -> bool:
+    """Return whether a text has a byte from this one on."""
+    return bool(text.translate(None, bytes(range(least))))
+
+
 def marks(text: bytes) -> int:
     """Return how many commas and opening brackets there are."""
     return text.count(b",") + text.count(b"{") + text.count(b"[")
@@ -99,14 +136,19 @@ def too_many_values(label: str) -> Refusal:
     return wrong(label, f"has more than {MOST_VALUES} values, with the JSON read before it")
 
 
-def read_json(pieces: Iterable[bytes], label: str, values: Optional[Values] = None) -> Json:
+def read_json(
+    pieces: Iterable[bytes],
+    label: str,
+    values: Optional[Values] = None,
+    allowance: Optional[Allowance] = None,
+) -> Json:
     """Return the value of a JSON text in UTF-8, which may begin with a byte-order mark (RFC 8259).
 
     Refuse what is not JSON for xbrl-json, a repeated key, and a text of too many values, alone or
-    with the files that `values` has counted.
+    with the files that `values` has counted. Refuse one that is more than its package allows.
     """
     values = values or Values()
-    text = Text(label, values.count)
+    text = Text(label, values.count, allowance)
     for piece in pieces:
         text.add(piece)
     has_surrogates = bool(SURROGATE.search(text.data))
@@ -133,6 +175,8 @@ def read_json(pieces: Iterable[bytes], label: str, values: Optional[Values] = No
     if repeated is not None:
         raise RepeatedKey(label, repeated)
     values.add(size.values, label)
+    if allowance is not None:
+        allowance.add_memory(text.memory(size.values), label)
     return value
 
 

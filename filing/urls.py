@@ -19,6 +19,7 @@ UNRESERVED = frozenset("ABCDEFGHIJKLMNOPQRSTUVWXYZabcdefghijklmnopqrstuvwxyz0123
 NORMAL = re.compile(r"https?://[a-z0-9.-]+/")  # how most URLs begin that are normal already
 # A reference to a file in the same folder or below it, as most are.
 PLAIN = re.compile(r"[A-Za-z0-9_~-][A-Za-z0-9._~-]*(?:/[A-Za-z0-9_~-][A-Za-z0-9._~-]*)*")
+LONGEST_URL = 4096
 MOST_FOLDERS = 64  # of the last bases, whose parts are kept
 DEFAULT_PORTS = {"http": ":80", "https": ":443"}
 
@@ -35,8 +36,11 @@ class Place(NamedTuple):
     def known(self) -> Place:
         """Return the one place of all spellings of this one (RFC 3986, section 6.2).
 
-        A local place has its percent signs decoded, a URL is in its normal form.
+        A local place has its percent signs decoded, a URL is in its normal form. A text that is too
+        long for a URL has no other spelling here: that takes long, and no file has it.
         """
+        if len(self.text) > LONGEST_URL:
+            return self
         if self.local:
             return Place(self.path(), True)
         return Place(normal(self.text))
@@ -135,7 +139,12 @@ def without_dots(path: str) -> str:
 
 
 def joined(base: Place, reference: str) -> Place:
-    """Return the place that a reference names in a file at `base` (RFC 3986, section 5.2)."""
+    """Return the place that a reference names in a file at `base` (RFC 3986, section 5.2).
+
+    A reference that is longer than a URL may be is not resolved. `Finder.find` refuses it.
+    """
+    if len(reference) > LONGEST_URL:
+        return Place(reference)
     if PLAIN.fullmatch(reference):
         return Place(folder_of(base) + reference, base.local)
     if is_plainly_normal(reference):

@@ -5,15 +5,15 @@
 
 PROGRAM is the built xbrl-json. Each attack is a small ZIP that unpacks, repeats or nests far more
 than its size. It is converted by a run of its own, whose processor time and memory are measured:
-at most 2 seconds and 200 MB. One attack only asks for as much work as a run may have, so its bound
-grows with what the same work takes here. What is large but not hostile must still be converted. The
-last line counts. Python 3.9 or later and Linux are needed.
+at most 2 seconds and 200 MB. What is large but not hostile must still be converted. The last line
+counts. Python 3.9 or later and Linux are needed.
 """
 from __future__ import annotations
 
 import json
 import os
 import resource
+import shutil
 import subprocess
 import sys
 import tempfile
@@ -38,6 +38,8 @@ LINKBASE = (
 # A file's text, or its pieces if it is large.
 Text = Union[str, bytes, Iterable[bytes]]
 Files = Dict[str, Text]
+
+MOST_SECONDS, MOST_MEMORY = 2, 200 << 20
 
 PROGRAM = ""
 COMPILED = ""  # a folder for compiled modules of Python, so that no run compiles them anew
@@ -134,14 +136,14 @@ def pack(path: Path, files: Files) -> None:
 
 
 class Attack(NamedTuple):
-    """A filing that is to end in one line: its files, and what the line says."""
+    """A filing that is to end in one line: its files, and what the line says.
+
+    It has no line if the filing is good, and must only cost no more than others.
+    """
 
     name: str
     files: Callable[[], Files]
-    line: str
-    seconds: float = 2
-    memory: int = 200 << 20
-    is_work: bool = False  # the seconds are multiples of the `yardstick`
+    line: str = ""
 
 
 def by_slashes(size: int) -> Files:
@@ -221,7 +223,7 @@ def many_missing() -> Files:
 def many_starts() -> Files:
     """A catalog of many start strings for one URL, and a linkbase of many URLs."""
     starts = (rewrite(HOST + "y" * it, "../none/") for it in range(1, 3000))
-    urls = (loc(f"{HOST}{'y' * 3000}/{it}.xsd") for it in range(5000))
+    urls = (loc(f"{HOST}{'y' * 3000}/{it}.xsd") for it in range(2000))
     entries = rewrite() + "".join(starts)
     return {"META-INF/catalog.xml": catalog(entries), "reg/mod.xsd": linked(urls)}
 
@@ -252,17 +254,141 @@ def in_reports() -> Files:
     return {"reports/report.json": repeated(b"{},", 200 << 20, b"[", b"0]", NOISE)}
 
 
+def branches() -> Files:
+    """A module of arrays that are 120 levels deep, side by side."""
+    start = MODULE[:-1] + ',"x":['
+    return {"reg/mod.json": repeated(b"[" * 120 + b"]" * 120 + b",", 7 << 20, start.encode(), b"0]}")}
+
+
+def many_reports() -> Files:
+    """Reports that hold small objects, each below the bound."""
+    return {f"reports/z{it}.json": repeated(b"{},", 14 << 20, b"[", b"0]") for it in range(4)}
+
+
+def many_linked(text: bytes, front: str = "") -> Files:
+    """Three schemas of 15 MB, which nothing but the size of the package has a bound for."""
+    start = SCHEMA_START[:-1] + front + ">"
+    large = (f"reg/s{it}.xsd" for it in range(3))
+    files: Files = {it: repeated(text, 15 << 20, start.encode(), b"</xs:schema>") for it in large}
+    return {**files, "reg/mod.xsd": schema("".join(asks(f"s{it}.xsd") for it in range(3)) + CASH)}
+
+
+def in_a_long_namespace(length: int) -> Files:
+    """Elements of a namespace with a long name, which each of them has."""
+    start = SCHEMA_START[:-1] + f' xmlns:l="{"u" * length}">'
+    return {"reg/mod.xsd": repeated(b"<l:a/>", 1 << 20, start.encode(), b"</xs:schema>")}
+
+
+def in_one_tag(start: str, name: str = "reg/mod.xsd") -> Files:
+    """A tag of 15 MB, of which a part is read again with each piece of the file."""
+    return {name: repeated(b"%41", 15 << 20, start.encode(), b'"/>')}
+
+
+def with_escapes(count: int) -> Files:
+    """References of a megabyte of needless escapes, which are long to decode."""
+    return {"reg/mod.xsd": linked(loc("%41" * 330_000) for _ in range(count))}
+
+
+def with_long_entries() -> Files:
+    """A catalog of start strings of a megabyte of needless escapes."""
+    starts = (rewrite(HOST + "%41" * 330_000 + str(it)) for it in range(15))
+    return {"META-INF/catalog.xml": catalog(rewrite() + "".join(starts))}
+
+
+def with_a_long_prefix() -> Files:
+    """A catalog with an entry that leads through 200,000 folders."""
+    return {"META-INF/catalog.xml": catalog(rewrite(prefix="../reg/" + "a/../" * 200_000))}
+
+
+def in_module(**parts: Any) -> Dict[str, Any]:
+    """Return the value of a module with other parts."""
+    return {**json.loads(MODULE), **parts}
+
+
+def with_url(url: str, count: int = 1) -> Files:
+    """A module with optional tables at a path of very many folders."""
+    tables = {f"o{it}": {"url": f"{url}{it}", "template": "t", "optional": True} for it in range(count)}
+    return {"reg/mod.json": json.dumps(in_module(tables={"t": {"url": "t.csv"}, **tables}))}
+
+
+def with_groups(concept: str) -> Files:
+    """A template in which 3,000 columns take 3,000 property groups each.
+
+    Their period would come from a parameter, and a prefix is replaced.
+    """
+    group: Dict[str, Any] = {"dimensions": {"concept": "eg:Cash", "period": "2025-01-01"}}
+    columns: Dict[str, Any] = {"cash": {"dimensions": {"concept": "eg:Cash", "period": "2025-01-01"}}}
+    columns["g"] = {"propertyGroups": {f"x{it}": group for it in range(3000)}}
+    fact = {"dimensions": {}, "propertiesFrom": ["g"]}
+    columns.update((f"c{it}", fact) for it in range(3000))
+    template = {"columns": columns, "dimensions": {"concept": concept}}
+    module = in_module(tableTemplates={"t": template}, dimensions={"period": "$p"})
+    module["documentInfo"]["extends"] = ["base.json"]
+    module["documentInfo"]["namespaces"]["a"] = "u"
+    base = meta({"namespaces": {"b": "u"}})
+    return {"reg/mod.json": json.dumps(module), "reg/base.json": base, "reports/t.csv": "cash,c1\n1,b:\n"}
+
+
+def with_replaced_prefixes() -> Files:
+    """A module of which 20,000 prefixes are replaced, and a table of 4 MB to look for them."""
+    module = in_module()
+    module["documentInfo"]["extends"] = ["base.json"]
+    module["documentInfo"]["namespaces"].update((f"a{it}", f"u{it}") for it in range(20_000))
+    base = meta({"namespaces": {f"b{it}": f"u{it}" for it in range(20_000)}})
+    return {
+        "reg/mod.json": json.dumps(module),
+        "reg/base.json": base,
+        "reports/t.csv": repeated(b"b1\n", 4 << 20, b"cash\n"),
+    }
+
+
+def all_final() -> Files:
+    """A chain of modules that are all final, with very many parameters in the last."""
+    final = {"final": dict.fromkeys(("tables", "tableTemplates", "parameters", "dimensions"), True)}
+    names = ["mod", *(f"m{it}" for it in range(1, 1900))]
+    ways = zip(names, names[1:])
+    files: Files = {f"reg/{name}.json": meta({"extends": [f"{next}.json"], **final}) for name, next in ways}
+    parameters = {f"p{it}": "" for it in range(50_000)}
+    return {**files, f"reg/{names[-1]}.json": json.dumps(in_module(parameters=parameters))}
+
+
+def with_many(part: str, count: int) -> Files:
+    """A module with very many tables, parameters, prefixes or URLs."""
+    module = in_module()
+    many: Any = {f"n{it}": f"u{it}" for it in range(count)}
+    if part == "tables":
+        optional = {"template": "t", "optional": True}
+        many = {name: {"url": url, **optional} for name, url in many.items()}
+    if part in ("extends", "taxonomy"):
+        many = [f"{it}.json" for it in range(count)]
+    owner = module["documentInfo"] if part in ("extends", "taxonomy", "namespaces") else module
+    owner[part] = {**owner.get(part, {}), **many} if isinstance(many, dict) else many
+    return {"reg/mod.json": json.dumps(module)}
+
+
+def all_by_all() -> Files:
+    """Modules that each extend all after them."""
+    files: Files = {}
+    for number in range(700):
+        after = [f"m{it}.json" for it in range(number + 1, 700)]
+        files[f"reg/{f'm{number}' if number else 'mod'}.json"] = meta({"extends": after})
+    return files
+
+
 MODULE_IS, SCHEMA_IS = "f.zip/reg/mod.json: ", "f.zip/reg/mod.xsd: "
 URLS = "is asked for by more than 8 URLs: http://reg.example/////////"
-AGAIN = "is read again and again, by other URLs or for other namespaces"
 DEEP = "is nested more than 1000 levels deep (line 1)"
-VALUES = "has more than 5000000 values, with the JSON read before it"
 BROKEN_OFF = catalog("").replace("</catalog>", "")
 SCHEMA_START = schema("").replace("</xs:schema>", "")
+JSON = "has more JSON, with that read before it, than packages of "
+IN_S0 = "f.zip/reg/s0.xsd: "
+ATTRIBUTES = b"<a " + b" ".join(b'a%d=""' % it for it in range(20)) + b"/>"
+XML = "has more XML, with that read before it, than packages of "
+LONG_TAG = "has a tag or a comment of more than 1048576 bytes, which is refused (line 1)"
 SHORT = "has more than 100000 elements of fewer than 16 bytes, with the XML read before it: "
 ATTACKS = (
     Attack("a module that extends itself", module_by_slashes, MODULE_IS + "extends itself"),
-    Attack("a schema of 4 MB by slashes", lambda: by_slashes(4 << 20), SCHEMA_IS + AGAIN),
+    Attack("a schema of 4 MB by slashes", lambda: by_slashes(4 << 20), SCHEMA_IS + XML),
     Attack("a schema of 1 KB by slashes", lambda: by_slashes(1 << 10), SCHEMA_IS + URLS),
     Attack("two schemas by slashes", two_by_slashes, SCHEMA_IS + URLS),
     Attack("a schema 5 million deep", lambda: deep(16 << 20), SCHEMA_IS + DEEP),
@@ -273,16 +399,12 @@ ATTACKS = (
         lambda: deep(16 << 20, BROKEN_OFF, "META-INF/catalog.xml"),
         "f.zip/META-INF/catalog.xml: " + DEEP,
     ),
-    Attack("JSON of 200 MB of {}", lambda: many_values(1, 200 << 20), MODULE_IS + VALUES),
-    Attack("a report of 200 MB of {}", in_reports, "f.zip/reports/report.json: " + VALUES),
-    Attack(
-        "four files of 4 MB of {}",
-        lambda: many_values(4, 4 << 20),
-        "f.zip/reg/m3.json: " + VALUES,
-        seconds=250,
-        memory=600 << 20,
-        is_work=True,
-    ),
+    Attack("JSON of 200 MB of {}", lambda: many_values(1, 200 << 20), MODULE_IS + JSON),
+    Attack("a report of 200 MB of {}", in_reports, "f.zip/reports/report.json: " + JSON),
+    Attack("four files of 4 MB of {}", lambda: many_values(4, 4 << 20), MODULE_IS + JSON),
+    Attack("a file of 14 MB of {}", lambda: many_values(1, 14 << 20), MODULE_IS + JSON),
+    Attack("arrays in 120 levels", branches, MODULE_IS + JSON),
+    Attack("four reports of 14 MB of {}", many_reports),
     Attack(
         "a schema in punycode",
         in_punycode,
@@ -292,7 +414,7 @@ ATTACKS = (
     Attack(
         "a catalog of <a/>",
         lambda: many_elements(b"<a/>", BROKEN_OFF, "META-INF/catalog.xml"),
-        "f.zip/META-INF/catalog.xml: has more than 100000 elements, with the XML read before it: ",
+        "f.zip/META-INF/catalog.xml: has more than 20000 elements, with the XML read before it: ",
     ),
     Attack("a schema of <a/>", lambda: many_elements(b"<a/>", SCHEMA_START), SCHEMA_IS + SHORT),
     Attack(
@@ -311,7 +433,7 @@ ATTACKS = (
         SCHEMA_IS + SHORT,
     ),
     Attack("one file by many paths", one_file_by_many_paths, SCHEMA_IS + SHORT),
-    Attack("a schema for 400 namespaces", many_namespaces, "f.zip/reg/plain.xsd: " + AGAIN),
+    Attack("a schema for 400 namespaces", many_namespaces, "f.zip/reg/plain.xsd: " + XML),
     Attack("many long URLs", many_urls, SCHEMA_IS + "asks for more files than are taken"),
     Attack("many missing files", many_missing, SCHEMA_IS + "asks for more than 1000 files"),
     Attack(
@@ -319,6 +441,40 @@ ATTACKS = (
         many_starts,
         "f.zip/META-INF/catalog.xml: has more than 100 entries",
     ),
+    Attack("elements of 16 bytes", lambda: many_linked(b"<aaaaaaaaaaaaaa/>"), IN_S0 + XML),
+    Attack("elements that are declared", lambda: many_linked(CASH.encode()), IN_S0 + XML),
+    Attack("elements of many attributes", lambda: many_linked(ATTRIBUTES), IN_S0 + XML),
+    Attack("a namespace of a megabyte", lambda: in_a_long_namespace(1_000_000), SCHEMA_IS + "has a namespace of 1000000"),
+    Attack("a namespace that is long", lambda: in_a_long_namespace(255), SCHEMA_IS + SHORT),
+    Attack("a reference of 15 MB", lambda: in_one_tag(LINKBASE + '><a b="'), SCHEMA_IS + LONG_TAG),
+    Attack(
+        "a start string of 15 MB",
+        lambda: in_one_tag(BROKEN_OFF + '<uri name="', "META-INF/catalog.xml"),
+        "f.zip/META-INF/catalog.xml: " + LONG_TAG,
+    ),
+    Attack("references of a megabyte", lambda: with_escapes(5), SCHEMA_IS + "has a URL of 990000"),
+    Attack("start strings of a megabyte", with_long_entries),
+    Attack(
+        "an entry of a megabyte",
+        with_a_long_prefix,
+        "f.zip/META-INF/catalog.xml: has an entry of 1000007 characters",
+    ),
+    Attack(
+        "a path of 500,000 folders",
+        lambda: with_url("a/" * 500_000),
+        MODULE_IS + "the table 'o0' has a url that no file can have",
+    ),
+    Attack("a path of 1,950 folders, often", lambda: with_url("a/" * 1_950, 1000)),
+    Attack("groups of very many columns", lambda: with_groups("eg:Cash")),
+    Attack("groups, for a concept that is referred to", lambda: with_groups("$x")),
+    Attack("replaced prefixes", with_replaced_prefixes),
+    Attack("very much that is final", all_final, "f.zip/reg/m"),
+    Attack("many tables", lambda: with_many("tables", 17_000), MODULE_IS + "has more than 16384 'tables'"),
+    Attack("many parameters", lambda: with_many("parameters", 66_000), MODULE_IS + "has more than 65536 'param"),
+    Attack("many prefixes", lambda: with_many("namespaces", 51_000), MODULE_IS + "has more than 50000 'name"),
+    Attack("many entry points", lambda: with_many("taxonomy", 2001), MODULE_IS + "'documentInfo.taxonomy' has more"),
+    Attack("a long list of modules", lambda: with_many("extends", 2001), MODULE_IS + "'documentInfo.extends' has more"),
+    Attack("modules that extend all others", all_by_all, "f.zip/reg/m"),
     Attack("many modules", many_modules, "f.zip/reg/m1999.json: is one of more than 2000 files"),
 )
 
@@ -407,20 +563,25 @@ def measured(words: List[str], folder: Path) -> Measured:
 
 
 def attacks(folder: Path) -> None:
-    """Each attack ends in its line with status 1, within the bounds, and writes nothing."""
+    """Each attack ends in its line with status 1, within the bounds, and writes nothing.
+
+    Each one without a line is prepared, within the same bounds.
+    """
     for attack in ATTACKS:
         files = {**GOOD, **attack.files()}
         pack(folder / "f.zip", files)
         run = measured(["f.zip", "--prepare", "out"], folder)
-        front = f"xbrl-filing: {attack.line}"
-        is_line = run.err.startswith(front) and run.err.count("\n") == 1
-        case(attack.name, (run.status, run.err if not is_line else front), (1, front))
-        most = attack.seconds * (yardstick() if attack.is_work else 1)
-        what = f"{attack.name}: {run.seconds:.2f} seconds, at most {most:.1f}"
-        case(what, run.seconds <= most, True)
-        case(f"{attack.name}: {run.memory >> 20} MB", run.memory <= attack.memory, True)
-        case(f"{attack.name}: what is left", os.listdir(folder), ["f.zip"])
+        front = f"xbrl-filing: {attack.line}" if attack.line else ""
+        is_line = run.err.startswith(front) and run.err.count("\n") == (1 if front else 0)
+        wanted = (1 if front else 0, front)
+        case(attack.name, (run.status, run.err if not is_line else front), wanted)
+        what = f"{attack.name}: {run.seconds:.2f} seconds, at most {MOST_SECONDS}"
+        case(what, run.seconds <= MOST_SECONDS, True)
+        case(f"{attack.name}: {run.memory >> 20} MB", run.memory <= MOST_MEMORY, True)
+        left = ["f.zip"] if front else ["f.zip", "out"]
+        case(f"{attack.name}: what is left", sorted(os.listdir(folder)), left)
         os.unlink(folder / "f.zip")
+        shutil.rmtree(folder / "out", ignore_errors=True)
 
 
 def large(folder: Path) -> None:

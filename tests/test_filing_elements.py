@@ -12,7 +12,7 @@ from unittest import mock
 TOP = Path(__file__).resolve().parent.parent
 sys.path.insert(0, str(TOP))
 
-from filing import catalog, finding, library, markup, refusals  # noqa: E402
+from filing import allowance, catalog, finding, library, markup, refusals  # noqa: E402
 from tests.filing_bounds import HOST, Files, asks, linked, loc, pack, rewrite, schema  # noqa: E402
 from tests.filing_bounds import catalog as catalog_of  # noqa: E402
 
@@ -31,7 +31,8 @@ class Elements(unittest.TestCase):
         """Read a taxonomy, and return the line of its refusal, or nothing."""
         pack(self.path, {"META-INF/catalog.xml": catalog_of(rewrite()), **files})
         bound = mock.patch.object(finding, "Elements", lambda: markup.Elements(most, most))
-        with bound, mock.patch.object(catalog, "MOST_ELEMENTS", in_catalogs):
+        free = mock.patch.object(allowance, "FREE_WORK", 10**9)
+        with bound, free, mock.patch.object(catalog, "MOST_ELEMENTS", in_catalogs):
             try:
                 library.kinds([str(self.path)], [HOST + "mod.xsd"])
             except refusals.Refusal as refusal:

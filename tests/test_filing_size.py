@@ -6,8 +6,11 @@ import resource
 import zipfile
 from collections.abc import Callable, Iterator
 from typing import Any
+from unittest import mock
+from xml.parsers import expat
 
-from filing import refusals, strict_json
+from filing import markup, refusals, strict_json, urls
+from filing.allowance import Allowance
 from tests.filing_samples import (
     EG,
     ELEMENTS,
@@ -219,18 +222,18 @@ class TestRuns(FilingTest):
                 "a long base",
                 schema(f'<a xml:base="{"y" * 5000}/"/>'),
                 has
-                + f"an 'xml:base' of {len(HOST) + 5001} characters; more than 4096 are not taken"
+                + "an 'xml:base' of 5001 characters; more than 4096 are not taken"
                 " (line 1)",
             ),
             (
                 "a long tag",
                 schema(tag),
-                has + "a tag or a comment of more than 16777216 bytes, which is refused (line 1)",
+                has + "a tag or a comment of more than 1048576 bytes, which is refused (line 1)",
             ),
             (
                 "a long comment",
                 schema(comment),
-                has + "a tag or a comment of more than 16777216 bytes, which is refused (line 1)",
+                has + "a tag or a comment of more than 1048576 bytes, which is refused (line 1)",
             ),
             ("a long URL", schema(far), url.format(5017, shown)),
             (
@@ -241,7 +244,7 @@ class TestRuns(FilingTest):
             (
                 "a long relative URL",
                 schema(near),
-                url.format(len(HOST) + 5004, (HOST + "y" * 100)[:100]),
+                url.format(5004, "y" * 100),
             ),
         ):
             begun = worked()
@@ -338,7 +341,7 @@ class TestRuns(FilingTest):
             ["deep.zip", "--taxonomy", "t", "--prepare", "o deep"], folder, preexec_fn=little
         )
         self.case("a ZIP of very deep names, in 200 MB", seen, (0, b"", ""))
-        starts = "".join(rewrite(f"{HOST}{number}/", "../reg/") for number in range(50_000))
+        starts = "".join(rewrite(f"{HOST}{number}/", "../reg/") for number in range(19_000))
         many = {f"reg/x{number}.xsd": schema() for number in range(4000)}
         imports = "".join(include(f"x{number}.xsd") for number in range(4000))
         many.update(
@@ -401,6 +404,16 @@ class TestRuns(FilingTest):
         finally:
             strict_json.MOST_VALUES = kept
 
+    def test_too_little_memory_for_xml(self) -> None:
+        """A want of memory inside of expat is one of the run, and not a fault of the file."""
+        error = expat.ExpatError("out of memory")
+        error.code, error.lineno = markup.NO_MEMORY, 1
+        parser = mock.Mock(Parse=mock.Mock(side_effect=error))
+        content = markup.Content(urls.Place("a.xsd", True), "a.xsd")
+        with mock.patch.object(expat, "ParserCreate", lambda *_: parser):
+            with self.assertRaises(MemoryError):
+                markup.parse([b"<a/>"], content, markup.Elements(), Allowance(None))
+
     def test_a_long_schema(self) -> None:
         """A schema of 64 MB is read as a stream, out of a ZIP and out of a folder."""
         folder = self.folder
@@ -410,20 +423,6 @@ class TestRuns(FilingTest):
         write(folder / "folder", files)
         pack(folder / "stored.zip", files, method=zipfile.ZIP_STORED)
         little = lambda: resource.setrlimit(resource.RLIMIT_DATA, (56 << 20, 56 << 20))
-        write(
-            folder,
-            {
-                **{f"full/{it}": text for it, text in files.items()},
-                "full/reg/mod.xsd": schema(f'<a b="{"x" * (15 << 20)}"/>'),
-            },
-        )
-        less = lambda: resource.setrlimit(resource.RLIMIT_DATA, (44 << 20, 44 << 20))
-        seen = start(["r", "--taxonomy", "full", "--prepare", "o"], folder, preexec_fn=less)
-        self.case(
-            "too little memory for a tag",
-            seen,
-            (3, b"", "xbrl-filing: there is not enough memory\n"),
-        )
         for taxonomy in ("folder", "stored.zip"):
             status, _, err = start(
                 ["r", "--taxonomy", taxonomy, "--prepare", f"o {taxonomy}"],
