@@ -52,7 +52,6 @@ from .sums import sum_of
 GRACE = 5.0  # seconds from the asking of a process to end until it is made to
 SHOWN_EVERY = 0.5  # seconds between two lines of progress
 OWN_CACHE = ".cache"
-Tell = Callable[[str], None]
 
 
 @dataclass
