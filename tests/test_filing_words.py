@@ -125,6 +125,17 @@ class TestRuns(FilingTest):
                 f"words {given}", run(given, folder), (2, f"xbrl-filing: {what}; try --help\n")
             )
 
+    def test_packages_of_the_command_line(self) -> None:
+        """All words up to the next option are packages, also after one with an equals sign."""
+        for given in (
+            ["r", "--taxonomy", "a", "b", "--explain"],
+            ["r", "--taxonomy=a", "b", "--explain"],
+            ["r", "--taxonomy=a", "--explain", "--taxonomy", "b"],
+            ["r", "--taxonomy=a", "--taxonomy=b", "--explain"],
+        ):
+            seen = whole_command.read_words(given)
+            self.case(f"words {given}", (seen.taxonomy, seen.rest), (("a", "b"), ("--explain",)))
+
     def test_options_that_nobody_has(self) -> None:
         """Such an option is refused before a file is opened, unless xbrl-json has no help."""
         for given in (["--otu", "x"], ["--otu=x"], ["--into", "d", "--otu"]):
