@@ -62,8 +62,6 @@ USAGE: list[tuple[list[str], str]] = [
     (["r", "--parameters=b"], "--parameters has no value"),
     (["r", "--parameters", "b"], "'b' is one word too many"),
     (["r", "--cache", ""], "--cache needs a value"),
-    (["r", "--out"], "--out needs a value"),
-    (["r", "--explain", "--workers"], "--workers needs a value"),
     (["r", "--unpacked-limit", "8G"], "--unpacked-limit is a number of bytes, and '8G' is none"),
     (["r", "--unpacked-limit=-1"], "--unpacked-limit is a number of bytes, and '-1' is none"),
     *(
