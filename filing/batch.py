@@ -65,7 +65,6 @@ SPARE_FILES = 8  # that the run itself may open, for outcomes and pages
 LAST_STREAM = 2
 SHOWN_EVERY = 0.5  # seconds between two lines of progress
 OWN_CACHE = ".cache"
-Tell = Callable[[str], None]
 
 
 @dataclass

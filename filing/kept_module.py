@@ -51,7 +51,6 @@ OF_THE_MODULE = ("tableTemplates", "tables", "dimensions", "decimals", "links")
 INFO_OF_THE_MODULE = ("namespaces", "taxonomy", "baseURL", "final")
 # What both may give.
 OF_BOTH = ("parameters", "parameterURL")
-TYPES_BLOCK = "types"
 Joined = Tuple[Origins, Files, TypesTable]
 
 

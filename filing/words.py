@@ -271,7 +271,7 @@ def read_words(words: Sequence[str]) -> Settings:
     found, left = parser_of_words().read(words)
     if found.report == "":
         raise misuse("'' is one word too many")
-    refuse_wrong(left)
+    refuse_more(left)
     own = (TAXONOMY, LIMIT, *OWN_WITH_VALUE, PARAMETERS)
     given = frozenset(name for name in own if getattr(found, dest_of(name)) is not None)
     return checked(
@@ -296,18 +296,13 @@ def dest_of(name: str) -> str:
     return "limit" if name == LIMIT else name[2:].replace("-", "_")
 
 
-def refuse_wrong(left: Sequence[Sequence[str]]) -> None:
-    """Refuse a second REPORT, and an option of xbrl-json that lacks its value.
-
-    An option that is not known may have a value.
-    """
+def refuse_more(left: Sequence[Sequence[str]]) -> None:
+    """Refuse a second REPORT. An option that is not known may have a value."""
     may_have_one = False
-    for word, *values in left:
+    for word, *_ in left:
         is_option = word.startswith("--")
         if not is_option and not may_have_one:
             raise misuse(f"'{word}' is one word too many")
-        if word in WITH_VALUE and not values:
-            raise misuse(f"{word} needs a value")
         known = word in WITHOUT_VALUE or word in WITH_VALUE
         may_have_one = is_option and not known and "=" not in word
 

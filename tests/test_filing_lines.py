@@ -4,6 +4,7 @@ from __future__ import annotations
 import contextlib
 import csv
 import gc
+import io
 import os
 import re
 import signal
@@ -16,6 +17,7 @@ from typing import Any, NoReturn
 
 from filing import command, joining, library, refusals, stopping
 from filing.converter_lines import ConverterLines
+from filing.csv_text import records_of_report
 from filing.fault_names import name_places
 from filing.faults import FIRST, HEADER, OLD_HEADER
 from tests.filing_samples import (
@@ -335,6 +337,16 @@ class TestRuns(FilingTest):
         self.case("what the calls made", sorted(seen), ["True"] * 8 + [why] * 8)
         self.case("the process as a whole", state_of_process(), before)
         self.case("nothing is made of what is refused", list(folder.glob("none*")), [])
+
+    def test_two_readers_of_csv_at_once(self) -> None:
+        """A reader that ends leaves long fields to one that is not at its end."""
+        before = csv.field_size_limit()
+        long = b"x" * (2 * before)
+        first = records_of_report(io.BytesIO(b"a\n" + long + b"\n"))
+        self.case("the first record", next(first), ["a"])
+        self.case("another reader", list(records_of_report(io.BytesIO(b"b\n"))), [["b"]])
+        self.case("the second record", [len(it[0]) for it in first], [len(long)])
+        self.case("the limit", csv.field_size_limit(), before)
 
     def test_no_warning_of_python(self) -> None:
         """Python warns of nothing, as of a file that is not closed: warnings are errors here."""

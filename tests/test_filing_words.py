@@ -62,8 +62,6 @@ USAGE: list[tuple[list[str], str]] = [
     (["r", "--parameters=b"], "--parameters has no value"),
     (["r", "--parameters", "b"], "'b' is one word too many"),
     (["r", "--cache", ""], "--cache needs a value"),
-    (["r", "--out"], "--out needs a value"),
-    (["r", "--explain", "--workers"], "--workers needs a value"),
     (["r", "--unpacked-limit", "8G"], "--unpacked-limit is a number of bytes, and '8G' is none"),
     (["r", "--unpacked-limit=-1"], "--unpacked-limit is a number of bytes, and '-1' is none"),
     *(
@@ -124,6 +122,17 @@ class TestRuns(FilingTest):
             self.case(
                 f"words {given}", run(given, folder), (2, f"xbrl-filing: {what}; try --help\n")
             )
+
+    def test_packages_of_the_command_line(self) -> None:
+        """All words up to the next option are packages, also after one with an equals sign."""
+        for given in (
+            ["r", "--taxonomy", "a", "b", "--explain"],
+            ["r", "--taxonomy=a", "b", "--explain"],
+            ["r", "--taxonomy=a", "--explain", "--taxonomy", "b"],
+            ["r", "--taxonomy=a", "--taxonomy=b", "--explain"],
+        ):
+            seen = whole_command.read_words(given)
+            self.case(f"words {given}", (seen.taxonomy, seen.rest), (("a", "b"), ("--explain",)))
 
     def test_options_that_nobody_has(self) -> None:
         """Such an option is refused before a file is opened, unless xbrl-json has no help."""
