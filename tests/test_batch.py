@@ -306,6 +306,21 @@ class TestGoingOn(Case):
         """Return another path of the same xbrl-json: what counts is its version."""
         return str(shutil.copy2(PROGRAM, self.folder / "copy"))
 
+    def test_a_report_that_has_moved(self) -> None:
+        (report,) = self.reports("a")
+        self.run_many([report])
+        moved = self.folder / "moved/a.zip"
+        moved.parent.mkdir()
+        Path(report).rename(moved)
+        status, err = self.run_many([str(moved)], "--outcomes", "o.jsonl")
+        self.assertEqual((status, "(1 of them before)" in err), (0, True), err)
+        self.assertEqual(json.loads((self.folder / "o.jsonl").read_text())["report"], str(moved))
+        self.assertEqual(self.outcome("a")["report"], str(moved))
+
+    def test_another_unpacked_limit_is_done_again(self) -> None:
+        self.run_many(self.reports("a"))
+        self.changed("--unpacked-limit", "1000000")
+
     def test_again_does_all_again(self) -> None:
         reports = self.reports("a")
         self.run_many(reports)
