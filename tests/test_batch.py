@@ -508,6 +508,18 @@ class TestRefused(Case):
             self.assertEqual(self.outcome("x")["report"], names[0])
             self.assertEqual((self.folder / "p.html").read_text().count("<a href="), 1)
 
+    def test_a_name_that_is_that_of_a_summary(self) -> None:
+        names = ("a", "a.summary")
+        for reports in (self.reports(*names), self.reports(*names)[::-1]):
+            status, err = self.run_many(reports)
+            self.assertEqual((status, self.outcomes(*names)), (0, dict.fromkeys(names, "done")))
+            shutil.rmtree(self.out)
+            status, err = self.run_many(reports, "--summary", "s.json")
+            line = f"cannot write (a.summary.json would be written for {self.folder}/in/a.zip too"
+            self.assertEqual((status, line in err), (3, True), err)
+            self.assertEqual(self.outcomes("a"), {"a": "done"})
+            shutil.rmtree(self.out)
+
     def test_an_input_in_the_folder(self) -> None:
         report = packed(EXAMPLE / "report", self.out / "a.zip")
         why = f"{report} stands in it, and is an input of this run"
