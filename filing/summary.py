@@ -187,12 +187,19 @@ def short(name: str, most: int = WIDEST) -> str:
         while width_of(shown) > most - 2:
             shown = shown[:-1]
         shown += ".."
-    return shown + LEFT_TO_RIGHT if any(bidirectional(it) in ("R", "AL") for it in shown) else shown
+    return shown + LEFT_TO_RIGHT if any(bidirectional(letter) in ("R", "AL") for letter in shown) else shown
 
 
 def width_of(text: str) -> int:
     """Return how many columns of a terminal a text takes."""
-    return sum(0 if category(it) in NO_WIDTH else 2 if east_asian_width(it) in "WF" else 1 for it in text)
+    return sum(map(width_of_letter, text))
+
+
+def width_of_letter(letter: str) -> int:
+    """Return how many columns of a terminal a letter takes."""
+    if category(letter) in NO_WIDTH:
+        return 0
+    return 2 if east_asian_width(letter) in "WF" else 1
 
 
 def listed(names: Sequence[str]) -> str:

@@ -306,6 +306,21 @@ class TestGoingOn(Case):
         """Return another path of the same xbrl-json: what counts is its version."""
         return str(shutil.copy2(PROGRAM, self.folder / "copy"))
 
+    def test_a_report_that_has_moved(self) -> None:
+        (report,) = self.reports("a")
+        self.run_many([report])
+        moved = self.folder / "moved/a.zip"
+        moved.parent.mkdir()
+        Path(report).rename(moved)
+        status, err = self.run_many([str(moved)], "--outcomes", "o.jsonl")
+        self.assertEqual((status, "(1 of them before)" in err), (0, True), err)
+        self.assertEqual(json.loads((self.folder / "o.jsonl").read_text())["report"], str(moved))
+        self.assertEqual(self.outcome("a")["report"], str(moved))
+
+    def test_another_unpacked_limit_is_done_again(self) -> None:
+        self.run_many(self.reports("a"))
+        self.changed("--unpacked-limit", "1000000")
+
     def test_again_does_all_again(self) -> None:
         reports = self.reports("a")
         self.run_many(reports)
@@ -503,6 +518,18 @@ class TestRefused(Case):
         self.assertIn(f"{shown}: failed (cannot write (its name is not UTF-8: rename it))\n", err)
         self.assertEqual(self.outcome("b")["outcome"], "done")
         self.assertIn(b"a<i>\\xff</i>.zip", (self.folder / "p.html").read_bytes())
+
+    def test_a_name_that_is_that_of_a_summary(self) -> None:
+        names = ("a", "a.summary")
+        for reports in (self.reports(*names), self.reports(*names)[::-1]):
+            status, err = self.run_many(reports)
+            self.assertEqual((status, self.outcomes(*names)), (0, dict.fromkeys(names, "done")))
+            shutil.rmtree(self.out)
+            status, err = self.run_many(reports, "--summary", "s.json")
+            line = f"cannot write (a.summary.json would be written for {self.folder}/in/a.zip too"
+            self.assertEqual((status, line in err), (3, True), err)
+            self.assertEqual(self.outcomes("a"), {"a": "done"})
+            shutil.rmtree(self.out)
 
     def test_an_input_in_the_folder(self) -> None:
         report = packed(EXAMPLE / "report", self.out / "a.zip")

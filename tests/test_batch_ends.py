@@ -39,6 +39,21 @@ def look(path, outcome):
     write(path, outcome)
 batch.write_outcome = look
 """
+# Says how many logs are open in the process of each report.
+COUNTING = """
+import os
+from contextlib import suppress
+from filing import one_report
+attempt = one_report.attempt
+def look(*words):
+    logs = 0
+    for number in os.listdir("/proc/self/fd"):
+        with suppress(OSError):
+            logs += os.readlink("/proc/self/fd/" + number).endswith(".log")
+    os.write(1, b"%d\\n" % logs)
+    return attempt(*words)
+one_report.attempt = look
+"""
 # Sends a signal to each process of a report while Python starts it.
 SIGNALLED = """
 import os, signal
@@ -50,10 +65,10 @@ ASIDE = "0123456789abcdef"
 class EndsCase(Case):
     """Runs of which a part is replaced, or that are ended by force."""
 
-    def run_patched(self, patch: str, reports: List[str]) -> Tuple[int, str, str]:
+    def run_patched(self, patch: str, reports: List[str], *more: str) -> Tuple[int, str, str]:
         """Run the command with a part of it replaced; return its status and what it prints."""
         script = DRIVER.format(top=str(TOP), patch=patch)
-        words = self.words(reports)[1:]
+        words = self.words(reports, *more)[1:]
         done = subprocess.run(
             [sys.executable, "-c", script, self.environment["XBRL_JSON"], *words],
             cwd=self.folder,
@@ -194,6 +209,10 @@ class TestFiles(EndsCase):
         reports = self.reports(*(f"wait{number}" for number in range(30)))
         status, err = self.many_files(32, reports, "--jobs", "30")
         self.assertEqual((status, err.count("\n")), (0, 1), err)
+
+    def test_a_process_has_no_files_of_others(self) -> None:
+        seen = self.run_patched(COUNTING, self.reports("a", "b", "c"), "--jobs", "3")
+        self.assertEqual(seen[:2], (0, "1\n" * 3))
 
     def test_too_few_files_for_one_report(self) -> None:
         status, err = self.many_files(14, self.reports("a", "b"))

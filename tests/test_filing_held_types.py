@@ -146,6 +146,19 @@ class TestHolding(TestCase):
         self.assertEqual(self.went_on(kept_module.MANY - 1), 0)
         self.assertIsNone(kept_module.held[self.path].types)
 
+    def test_the_room(self) -> None:
+        """An entry is held only if all that are held have room."""
+        size = os.path.getsize(self.path)
+        copy = self.path.replace(".module", "2.module")
+        Path(copy).write_bytes(Path(self.path).read_bytes())
+        self.addCleanup(lambda: kept_module.held.pop(copy, None))
+        for room, wanted in ((size - 1, []), (2 * size - 1, [self.path])):
+            with mock.patch.object(kept_module, "MOST_HELD", room):
+                holding = kept_module.Holding(1)
+                holding.hold(self.path)
+                holding.hold(copy)
+            self.assertEqual([it for it in (self.path, copy) if it in kept_module.held], wanted)
+
     def test_too_little_memory(self) -> None:
         """The whole table serves for all reports."""
         for it in ("__init__", "look"):
