@@ -193,6 +193,12 @@ class TestContent(Case):
         wanted = done.stdout.decode().split()[0]
         self.assertEqual((second["folder"], second["sha256"]), ("taxonomy", wanted))
 
+    def test_a_package_that_is_given_twice(self) -> None:
+        """Has each input once."""
+        self.run_filing(*"report --taxonomy taxonomy taxonomy report --out o --summary s.json".split())
+        seen = [it["folder"] for it in self.summary()["inputs"]]
+        self.assertEqual(seen, ["report", "taxonomy"])
+
     def test_versions_and_seconds(self) -> None:
         """Has the version of xbrl-json and of Python, and a time that has passed."""
         self.convert()
@@ -266,6 +272,8 @@ class TestIndicators(Case):
         self.assertEqual((summary["trueWithoutFacts"], summary["falseWithFacts"]), ([], []))
         facts = {it["template"]: (it["filed"], it["facts"]) for it in summary["indicators"]}
         self.assertEqual(facts, {"l_01": (True, 3), "l_02": (True, 4), "l_03": (False, 0)})
+        tables = {it["template"]: it["tables"] for it in summary["indicators"]}
+        self.assertEqual(tables, {name: [name] for name in ("l_01", "l_02", "l_03")})
 
     def module(self) -> Tuple[Path, Any]:
         """Return the module's metadata file and its value."""
@@ -373,7 +381,7 @@ class TestRefused(Case):
     def test_counts_that_are_none(self) -> None:
         """Refuses a file of counts that is missing, broken or of another shape."""
         broken = ['{"tables": [{"table": "l_01"}]}', "[]", "{", '{"tables": 1}']
-        true = '{"tables": [{"table": "t", "url": "t", "read": true, "rows": true}]}'
+        true = json.dumps({"tables": [{"table": "t", "url": "t", "read": True, **dict.fromkeys(MEMBERS, True)}]})
         for counts in ["", true, *broken]:
             write = f"open(w[w.index('--counts') + 1], 'w').write({counts!r})" if counts else ""
             text = f"#!{sys.executable}\nimport sys\nw = sys.argv\n"
