@@ -418,10 +418,10 @@ class TestRefused(Case):
         text = (self.tables / "parameters.csv").read_text()
         self.edit("parameters.csv", "name,value\nbaseCurrency,EUR\n" + text.replace("baseC", "c")[11:])
         self.convert("--faults", "f.csv", "--out", "o.json", status=1)
-        fault = read_faults(str(self.folder / "f.csv"))[0]
-        self.assertEqual((fault.line, fault.cause_line, fault.cause_cell), ("2", "2", "2"))
-        self.assertEqual(self.top().all("article")[0].all("td", "from"), [])
-        self.assertNotEqual(self.top().all("article")[0].all("mark"), [])
+        faults = read_faults(str(self.folder / "f.csv"))
+        seen = [(it.table, it.column, it.line, it.cause_line, it.cause_cell) for it in faults]
+        self.assertIn(("l_02", 3, "2", "2", "2"), seen)
+        self.assertEqual(self.top().all("td", "from"), [])
 
     def test_a_cell_that_the_rows_cut(self) -> None:
         """Shows a cell of some length again, whole."""

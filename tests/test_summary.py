@@ -12,6 +12,7 @@ import io
 import json
 import os
 import pty
+import re
 import shutil
 import subprocess
 import sys
@@ -198,6 +199,15 @@ class TestContent(Case):
         self.run_filing(*"report --taxonomy taxonomy taxonomy report --out o --summary s.json".split())
         seen = [it["folder"] for it in self.summary()["inputs"]]
         self.assertEqual(seen, ["report", "taxonomy"])
+
+    def test_a_metadata_file_by_itself(self) -> None:
+        """Has each file that a report without a package is in, with its digest."""
+        self.convert(report="report/reports/report.json")
+        report, taxonomy, *others = self.summary()["inputs"]
+        self.assertEqual((report["file"], taxonomy["folder"]), ("report/reports/report.json", "taxonomy"))
+        seen = {Path(it["file"]).name: it["sha256"] for it in others}
+        names = [f"{name}.csv" for name in ("FilingIndicators", "l_01", "l_02", "parameters")]
+        self.assertEqual(seen, {name: self.sha256(f"report/reports/{name}") for name in names})
 
     def test_versions_and_seconds(self) -> None:
         """Has the version of xbrl-json and of Python, and a time that has passed."""
@@ -508,6 +518,8 @@ class TestPage(Case):
             cells = "".join(f'<td class="count">{it}</td>' for it in numbers)
             self.assertIn(f"{name}.csv</td>{cells}", text)
         self.assertIn("All tables</th>", text)
+        widths = [len(re.findall("<t[hd]", row)) for row in text.partition("</table>")[0].split("<tr")[1:]]
+        self.assertEqual(widths, [10] * 5)
         self.assertIn("Optional tables without a file</dt><dd>l_03<", text)
         self.assertIn("true without facts</dt><dd>l_09<", text)
         self.assertIn("false with facts</dt><dd>l_01<", text)
