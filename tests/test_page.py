@@ -413,6 +413,23 @@ class TestRefused(Case):
         marks = [it.text() for it in self.top().all("mark")]
         self.assertEqual(marks, ["5", "x", "y"])
 
+    def test_a_cause_in_another_file(self) -> None:
+        """Marks no cell as the cause if that is in another file, though at the same line."""
+        text = (self.tables / "parameters.csv").read_text()
+        self.edit("parameters.csv", "name,value\nbaseCurrency,EUR\n" + text.replace("baseC", "c")[11:])
+        self.convert("--faults", "f.csv", "--out", "o.json", status=1)
+        faults = read_faults(str(self.folder / "f.csv"))
+        seen = [(it.table, it.column, it.line, it.cause_line, it.cause_cell) for it in faults]
+        self.assertIn(("l_02", 3, "2", "2", "2"), seen)
+        self.assertEqual(self.top().all("td", "from"), [])
+
+    def test_a_cell_that_the_rows_cut(self) -> None:
+        """Shows a cell of some length again, whole."""
+        cell = "x" * 100
+        self.edit("l_01.csv", f"datapoint,factValue\ndp1,{cell}\n")
+        self.convert("--out", "o.json", status=1)
+        self.assertIn(f"Found: {cell}", self.top().all("article")[0].text())
+
     def test_other_faults_are_on_the_page(self) -> None:
         """Leads from no fault to the file of the others of its table."""
         self.edit("l_01.csv", "datapoint,factValue\ndp9,5\ndp8,5\n")
@@ -1052,6 +1069,16 @@ class TestBrowser(Case):
                     self.assertLessEqual(own, window, (name, width))
             self.assertTrue(browser.value(wide))
 
+    def test_a_long_name_in_the_index(self) -> None:
+        """Leaves room for the lines of reports, however long the name of one is."""
+        listed = [Listed(Outcome("x" * 250, outcome="refused", line="word " * 40), "")]
+        self.page.write_text(index(listed, "/"), encoding="utf-8")
+        with Browser(self.folder) as browser:
+            size = {"width": 1280, "height": 900, "deviceScaleFactor": 1, "mobile": False}
+            browser.ask("Emulation.setDeviceMetricsOverride", **size)
+            browser.open(f"file://{self.page}")
+            self.assertGreater(browser.value("document.querySelector('.line').offsetWidth"), 400)
+
     def test_scripts_from_right_to_left(self) -> None:
         """Writes paths and lines from left to right, and cells as their letters want it."""
         self.edit("l_01.csv", 'datapoint,factValue\n\u05d01,"\u05d0 1,5"\n')
@@ -1176,6 +1203,11 @@ class TestBrowser(Case):
             browser.load(f"file://{self.page}")
             self.assertEqual(browser.count("article.fault"), 5 * GROUP // 2)
             self.assertEqual(browser.count(".filters:not([hidden])"), 0)
+
+    def test_one_fault_that_is_made_later(self) -> None:
+        """Says so even of one fault, where a script may be blocked."""
+        self.assertIn("it has 1 fault more.", page(self.content(GROUP + 1)))
+        self.assertNotIn("blocked: it has", page(self.content(GROUP)))
 
     def test_a_blocked_script(self) -> None:
         """Says that faults are missing where a browser takes scripts, but not that of the page."""

@@ -12,6 +12,7 @@ import io
 import json
 import os
 import pty
+import re
 import shutil
 import subprocess
 import sys
@@ -193,6 +194,21 @@ class TestContent(Case):
         wanted = done.stdout.decode().split()[0]
         self.assertEqual((second["folder"], second["sha256"]), ("taxonomy", wanted))
 
+    def test_a_package_that_is_given_twice(self) -> None:
+        """Has each input once."""
+        self.run_filing(*"report --taxonomy taxonomy taxonomy report --out o --summary s.json".split())
+        seen = [it["folder"] for it in self.summary()["inputs"]]
+        self.assertEqual(seen, ["report", "taxonomy"])
+
+    def test_a_metadata_file_by_itself(self) -> None:
+        """Has each file that a report without a package is in, with its digest."""
+        self.convert(report="report/reports/report.json")
+        report, taxonomy, *others = self.summary()["inputs"]
+        self.assertEqual((report["file"], taxonomy["folder"]), ("report/reports/report.json", "taxonomy"))
+        seen = {Path(it["file"]).name: it["sha256"] for it in others}
+        names = [f"{name}.csv" for name in ("FilingIndicators", "l_01", "l_02", "parameters")]
+        self.assertEqual(seen, {name: self.sha256(f"report/reports/{name}") for name in names})
+
     def test_versions_and_seconds(self) -> None:
         """Has the version of xbrl-json and of Python, and a time that has passed."""
         self.convert()
@@ -266,6 +282,8 @@ class TestIndicators(Case):
         self.assertEqual((summary["trueWithoutFacts"], summary["falseWithFacts"]), ([], []))
         facts = {it["template"]: (it["filed"], it["facts"]) for it in summary["indicators"]}
         self.assertEqual(facts, {"l_01": (True, 3), "l_02": (True, 4), "l_03": (False, 0)})
+        tables = {it["template"]: it["tables"] for it in summary["indicators"]}
+        self.assertEqual(tables, {name: [name] for name in ("l_01", "l_02", "l_03")})
 
     def module(self) -> Tuple[Path, Any]:
         """Return the module's metadata file and its value."""
@@ -373,7 +391,7 @@ class TestRefused(Case):
     def test_counts_that_are_none(self) -> None:
         """Refuses a file of counts that is missing, broken or of another shape."""
         broken = ['{"tables": [{"table": "l_01"}]}', "[]", "{", '{"tables": 1}']
-        true = '{"tables": [{"table": "t", "url": "t", "read": true, "rows": true}]}'
+        true = json.dumps({"tables": [{"table": "t", "url": "t", "read": True, **dict.fromkeys(MEMBERS, True)}]})
         for counts in ["", true, *broken]:
             write = f"open(w[w.index('--counts') + 1], 'w').write({counts!r})" if counts else ""
             text = f"#!{sys.executable}\nimport sys\nw = sys.argv\n"
@@ -500,6 +518,8 @@ class TestPage(Case):
             cells = "".join(f'<td class="count">{it}</td>' for it in numbers)
             self.assertIn(f"{name}.csv</td>{cells}", text)
         self.assertIn("All tables</th>", text)
+        widths = [len(re.findall("<t[hd]", row)) for row in text.partition("</table>")[0].split("<tr")[1:]]
+        self.assertEqual(widths, [10] * 5)
         self.assertIn("Optional tables without a file</dt><dd>l_03<", text)
         self.assertIn("true without facts</dt><dd>l_09<", text)
         self.assertIn("false with facts</dt><dd>l_01<", text)
