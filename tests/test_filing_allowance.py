@@ -40,6 +40,7 @@ from tests.filing_bounds import (  # noqa: E402
     GOOD,
     HOST,
     LINKBASE,
+    Files,
     catalog,
     meta,
     pack,
@@ -88,6 +89,13 @@ class Counted(unittest.TestCase):
         head, end = schema("")[:-12], "</xs:schema>"
         declared = self.work_of(head + CASH * 4 + end) - self.work_of(head + end)
         self.assertEqual(declared, 4 + 3 + 4 * 6)
+
+    def test_names_of_namespaces(self) -> None:
+        """The name of a namespace has at most 255 characters: expat copies it for each element."""
+        head, end = schema("")[:-12], "</xs:schema>"
+        self.work_of(f'{head}<l:a xmlns:l="{"u" * 255}"/>{end}')
+        why = "x.xsd: has a namespace of 256 characters; more than 255 are not taken (line 1)"
+        self.refused(lambda: self.work_of(f'{head}<l:a xmlns:l="{"u" * 256}"/>{end}'), why)
 
     def test_json(self) -> None:
         """A value counts 100 bytes, a byte of text 3, 5 or 9 by the widest character."""
@@ -216,10 +224,11 @@ class OfPackages(unittest.TestCase):
         """The bound holds for each JSON file of a package in which reports are looked for."""
         with mock.patch.object(allowance, "FREE_MEMORY", 0):
             with mock.patch.object(allowance, "MEMORY_OF_BYTE", 0):
-                pack(self.folder / "r.zip", {"reports/r.json": meta({})})
-                with self.assertRaises(refusals.Refusal) as seen:
-                    library.prepare(str(self.folder / "r.zip"), [], str(self.folder / "o"))
-        self.assertIn("r.json: has more JSON", seen.exception.line)
+                for name in ("reports/r.json", "META-INF/reportPackage.json"):
+                    pack(self.folder / "r.zip", {"reports/r.json": meta({}), name: "{}"})
+                    with self.assertRaises(refusals.Refusal) as seen:
+                        library.prepare(str(self.folder / "r.zip"), [], str(self.folder / "o"))
+                    self.assertIn(f"{name}: has more JSON", seen.exception.line)
 
 
 class Edges(unittest.TestCase):
@@ -255,7 +264,8 @@ class Edges(unittest.TestCase):
             with self.subTest(size=size, count=count), tempfile.TemporaryDirectory() as name:
                 tables = {f"t{it}": {"url": "t.csv", "template": "t"} for it in range(count)}
                 module = {**json.loads(str(GOOD["reg/mod.json"])), "tables": tables}
-                files = {**GOOD, "reg/mod.json": json.dumps(module), "reports/t.csv": "1" * size}
+                files: Files = {**GOOD, "reg/mod.json": json.dumps(module)}
+                files["reports/t.csv"] = "1" * size
                 pack(Path(name) / "f.zip", files)
                 act = partial(library.prepare, f"{name}/f.zip", [], f"{name}/o")
                 with mock.patch.object(prepared, "FREE_READ", 9 * 5000):
@@ -268,13 +278,13 @@ class Edges(unittest.TestCase):
                 self.assertIn(why, seen.exception.line)
 
     def test_many_replaced_prefixes(self) -> None:
-        """Many prefixes are found in a table by their names, as a few are; odd ones always may be."""
+        """Many prefixes are found in a table by their names. Odd ones always may be there."""
         many = {f"p{it}".encode() for it in range(20)}
         for text, is_there in ((b"a\nq:x,p3:y", True), (b'"p3:y"', True), (b"p20:x,xp3:y,p3", False)):
             self.assertEqual(lost_cells.has_one_of(text, many), is_there)
         self.assertTrue(lost_cells.has_one_of(b"x", {b"a,b", *many}))
         lost = {"b": "a"}
-        for cell, found in ((" b:x", "b"), ("c:x b:y", "b"), ("c:x d b:y", None), ("b", None), ("bb:x", None)):
+        for cell, found in ((" b:x", "b"), ("c:x b:y", "b"), ("c:x d b:y", None), ("b", None), ("a:1 c:2 b:3", "b")):
             self.assertEqual(lost_cells.lost_in(cell, lost), found)
 
     def test_indicators(self) -> None:
