@@ -12,7 +12,7 @@ from .prefixes import Renaming
 from .refusals import wrong
 from .urls import normal
 
-MOST_COMPARED = 4_000_000  # keys of a run; a module of 120 files that are all final has 3 million
+MOST_COMPARED = 3_000_000  # keys of a run; a module that extends 120 final files has 100,000
 A_FILE = 4  # keys that take as long as a look into a file
 
 KEYS: Dict[str, Callable[[Metadata], Iterable[str]]] = {

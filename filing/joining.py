@@ -125,8 +125,8 @@ def merged_beside(
 
 def check_files(files: Files, renaming: Renaming, references: Places) -> None:
     """Refuse a report that lacks a parameter, or has a file or a parameter that nothing reads."""
-    files.require_parameters()
     files.refuse_long_urls()
+    files.require_parameters()
     files.refuse_repeated()
     files.refuse_unread()
     check_parameters(files.merged, renaming, files)

@@ -199,8 +199,8 @@ class ModuleCache:
 
     def is_taken(self, files: Files, module: Module) -> bool:
         """Return whether the entry serves a report with these files. Refuse what has a fault."""
-        files.require_parameters()
         files.refuse_long_urls()
+        files.require_parameters()
         files.refuse_repeated()
         files.refuse_unread()
         check_parameters(files.merged, Renaming(module.lost, lambda _: False), files)

@@ -32,7 +32,7 @@ MOST_RECORDS = 65536  # of a parameters file that xbrl-json takes
 LONGEST_NAME, LONGEST_PATH = 255, 4000  # bytes that a file system takes, with a folder before it
 MOST_TABLES = 8  # that one file is for on average, if the files are large
 FREE_READ = 64 << 20  # bytes of the files of all tables
-MOST_FOLDERS = 100  # of a table's path, each of which is looked up; more are left to xbrl-json
+MOST_FOLDERS = 100  # of a table's path; each is made, and removed by recursion
 # What xbrl-json takes as the path of a table; the segments are looked at besides.
 PLAIN = re.compile(r"[^\\:?#%\x00-\x1f]+")
 
@@ -115,17 +115,17 @@ class Files:
             raise wrong(self.package.shown(name), why)
 
     def refuse_long_urls(self) -> None:
-        """Refuse a table whose URL no file can have, because it is too long.
+        """Refuse a table or a parameters file whose URL is too long for a file, or too deep.
 
         xbrl-json would name it as a file that cannot be read, which is not the report's fault.
         """
-        for name, table in objects(self.merged.value, "tables"):
-            url: Json = table.get("url")
-            if not isinstance(url, str) or not is_too_long(url):
-                continue
-            asker = self.merged.origin(("tables", name, "url"))
-            most = f"at most {LONGEST_PATH} bytes, and {LONGEST_NAME} between slashes"
-            raise wrong(asker, f"the table '{name}' has a url that no file can have: {most}")
+        tables = objects(self.merged.value, "tables")
+        places = [(("tables", name, "url"), table.get("url")) for name, table in tables]
+        for path, url in (*places, (("parameterURL",), self.parameters)):
+            if isinstance(url, str) and (url.count("/") > MOST_FOLDERS or is_too_long(url)):
+                most = f"{LONGEST_PATH} bytes, {LONGEST_NAME} of a name, {MOST_FOLDERS} folders"
+                why = f"'{'.'.join(path)}' is longer than a file's path may be ({most})"
+                raise wrong(self.merged.origin(path), why)
 
     def refuse_repeated(self) -> None:
         """Refuse files that very many tables have: each table is read by itself.
@@ -179,7 +179,7 @@ class Files:
     def is_absent(self, url: str) -> bool:
         """Return whether nothing is at a table's path, not even a folder."""
         name = self.name(url)
-        if is_too_long(name) or name.count("/") > MOST_FOLDERS:
+        if url.count("/") > MOST_FOLDERS or is_too_long(name):
             return False
         path = self.package.path_on_disk(name)
         if path is None:

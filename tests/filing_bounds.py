@@ -311,6 +311,12 @@ def with_url(url: str, count: int = 1) -> Files:
     return {"reg/mod.json": json.dumps(in_module(tables={"t": {"url": "t.csv"}, **tables}))}
 
 
+def in_folders() -> Files:
+    """A table in as many folders as it may be."""
+    folders = "a/" * 100
+    return {**with_url(folders), f"reports/{folders}0": "cash\n1\n"}
+
+
 def with_groups(concept: str) -> Files:
     """A template in which 3,000 columns take 3,000 property groups each.
 
@@ -462,9 +468,19 @@ ATTACKS = (
     Attack(
         "a path of 500,000 folders",
         lambda: with_url("a/" * 500_000),
-        MODULE_IS + "the table 'o0' has a url that no file can have",
+        MODULE_IS + "'tables.o0.url' is longer than a file's path may be",
     ),
-    Attack("a path of 1,950 folders, often", lambda: with_url("a/" * 1_950, 1000)),
+    Attack(
+        "a path of 1,950 folders, often",
+        lambda: with_url("a/" * 1_950, 1000),
+        MODULE_IS + "'tables.o0.url' is longer than a file's path may be",
+    ),
+    Attack(
+        "a table in 1,200 folders",
+        lambda: {**with_url("a/" * 1_200), f"reports/{'a/' * 1_200}0": "cash\n1\n"},
+        MODULE_IS + "'tables.o0.url' is longer than a file's path may be",
+    ),
+    Attack("a table in 100 folders", in_folders),
     Attack("groups of very many columns", lambda: with_groups("eg:Cash")),
     Attack("groups, for a concept that is referred to", lambda: with_groups("$x")),
     Attack("replaced prefixes", with_replaced_prefixes),

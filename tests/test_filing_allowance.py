@@ -2,6 +2,7 @@
 
 from __future__ import annotations
 
+import json
 import os
 import struct
 import sys
@@ -10,7 +11,7 @@ import unittest
 import zipfile
 from functools import partial
 from pathlib import Path
-from typing import Callable, Dict, List
+from typing import Any, Callable, Dict, List
 from unittest import mock
 
 TOP = Path(__file__).resolve().parent.parent
@@ -18,13 +19,18 @@ sys.path.insert(0, str(TOP))
 
 from filing import (  # noqa: E402
     allowance,
+    dates,
     finding,
+    indicators,
     library,
+    lost_cells,
     markup,
     nested,
     packages,
+    prepared,
     refusals,
     strict_json,
+    zip_entries,
 )
 from filing.allowance import Allowance  # noqa: E402
 from filing.schemas import Reading, TaxonomyFile  # noqa: E402
@@ -34,6 +40,7 @@ from tests.filing_bounds import (  # noqa: E402
     GOOD,
     HOST,
     LINKBASE,
+    Files,
     catalog,
     meta,
     pack,
@@ -82,6 +89,13 @@ class Counted(unittest.TestCase):
         head, end = schema("")[:-12], "</xs:schema>"
         declared = self.work_of(head + CASH * 4 + end) - self.work_of(head + end)
         self.assertEqual(declared, 4 + 3 + 4 * 6)
+
+    def test_names_of_namespaces(self) -> None:
+        """The name of a namespace has at most 255 characters: expat copies it for each element."""
+        head, end = schema("")[:-12], "</xs:schema>"
+        self.work_of(f'{head}<l:a xmlns:l="{"u" * 255}"/>{end}')
+        why = "x.xsd: has a namespace of 256 characters; more than 255 are not taken (line 1)"
+        self.refused(lambda: self.work_of(f'{head}<l:a xmlns:l="{"u" * 256}"/>{end}'), why)
 
     def test_json(self) -> None:
         """A value counts 100 bytes, a byte of text 3, 5 or 9 by the widest character."""
@@ -210,10 +224,98 @@ class OfPackages(unittest.TestCase):
         """The bound holds for each JSON file of a package in which reports are looked for."""
         with mock.patch.object(allowance, "FREE_MEMORY", 0):
             with mock.patch.object(allowance, "MEMORY_OF_BYTE", 0):
-                pack(self.folder / "r.zip", {"reports/r.json": meta({})})
-                with self.assertRaises(refusals.Refusal) as seen:
-                    library.prepare(str(self.folder / "r.zip"), [], str(self.folder / "o"))
-        self.assertIn("r.json: has more JSON", seen.exception.line)
+                for name in ("reports/r.json", "META-INF/reportPackage.json"):
+                    pack(self.folder / "r.zip", {"reports/r.json": meta({}), name: "{}"})
+                    with self.assertRaises(refusals.Refusal) as seen:
+                        library.prepare(str(self.folder / "r.zip"), [], str(self.folder / "o"))
+                    self.assertIn(f"{name}: has more JSON", seen.exception.line)
+
+
+class Edges(unittest.TestCase):
+    """Bounds that are met exactly."""
+
+    def test_ratio(self) -> None:
+        """A ZIP that unpacks to more than 64 MiB may have 200 times its size, not a byte more."""
+        size = zip_entries.SMALL_PACKAGE // zip_entries.RATIO + 1
+        zip_entries.check_unpacked(200 * size, size, "a.zip", 1 << 40)
+        zip_entries.check_unpacked(64 << 20, 1, "a.zip", 1 << 40)
+        for unpacked, packed in ((200 * size + 1, size), ((64 << 20) + 1, 1)):
+            with self.assertRaises(refusals.Refusal):
+                zip_entries.check_unpacked(unpacked, packed, "a.zip", 1 << 40)
+
+    def test_links_to_nothing(self) -> None:
+        """A link that leads outside of a folder is refused, even if nothing is there."""
+        with tempfile.TemporaryDirectory() as name:
+            folder = Path(name)
+            (folder / "f").mkdir()
+            for link, target in (("a", "../none"), ("b", "/none"), ("c", "none")):
+                (folder / "f" / link).symlink_to(target)
+            package = packages.FolderPackage(str(folder / "f"))
+            for link in ("a", "b"):
+                for act in (package.has, package.path_on_disk, package.children):
+                    with self.assertRaises(refusals.Refusal):
+                        act(link)
+            self.assertFalse(package.has("c"))
+            self.assertFalse(package.has("a/b" * 100_000))  # soon
+
+    def test_tables_of_one_file(self) -> None:
+        """A file of more than 8 tables is refused if all tables have more than 64 MiB."""
+        for size, count, is_taken in ((5000, 9, True), (5001, 9, False), (9000, 8, True)):
+            with self.subTest(size=size, count=count), tempfile.TemporaryDirectory() as name:
+                tables = {f"t{it}": {"url": "t.csv", "template": "t"} for it in range(count)}
+                module = {**json.loads(str(GOOD["reg/mod.json"])), "tables": tables}
+                files: Files = {**GOOD, "reg/mod.json": json.dumps(module)}
+                files["reports/t.csv"] = "1" * size
+                pack(Path(name) / "f.zip", files)
+                act = partial(library.prepare, f"{name}/f.zip", [], f"{name}/o")
+                with mock.patch.object(prepared, "FREE_READ", 9 * 5000):
+                    if is_taken:
+                        act()
+                        continue
+                    with self.assertRaises(refusals.Refusal) as seen:
+                        act()
+                why = f"reports/t.csv: is the file of {count} tables, which are {size * count} bytes"
+                self.assertIn(why, seen.exception.line)
+
+    def test_many_replaced_prefixes(self) -> None:
+        """Many prefixes are found in a table by their names. Odd ones always may be there."""
+        many = {f"p{it}".encode() for it in range(20)}
+        for text, is_there in ((b"a\nq:x,p3:y", True), (b'"p3:y"', True), (b"p20:x,xp3:y,p3", False)):
+            self.assertEqual(lost_cells.has_one_of(text, many), is_there)
+        self.assertTrue(lost_cells.has_one_of(b"x", {b"a,b", *many}))
+        lost = {"b": "a"}
+        for cell, found in ((" b:x", "b"), ("c:x b:y", "b"), ("c:x d b:y", None), ("b", None), ("a:1 c:2 b:3", "b")):
+            self.assertEqual(lost_cells.lost_in(cell, lost), found)
+
+    def test_indicators(self) -> None:
+        """An indicator names a table by its whole name, or by the parts before a dot."""
+        tables = indicators.Tables({"a": {"s.01.02"}, "b": {"s.01", "x"}, "c": {"s.01-a", "s.010"}})
+        for template, found in (("s.01", ("a", "b")), ("s.01.02", ("a",)), ("s", ("a", "b", "c")), ("x.", ())):
+            self.assertEqual(tables.of(template), found)
+
+    def test_groups(self) -> None:
+        """The groups of several givers are kept whole, those of one only if they are sought."""
+        columns: Dict[str, Any] = {
+            "g": {"propertyGroups": {"a": group_of("d"), "b": group_of("n")}},
+            "h": {"propertyGroups": {"a": group_of("d"), "b": group_of("n")}},
+            "one": {"dimensions": {}, "propertiesFrom": ["g"]},
+        }
+        report = {"tableTemplates": {"t": {"columns": columns}}}
+        kind = {"d": "dateTime"}.get
+        found = dates.date_places(report, kind)["t"]
+        self.assertEqual(found, ({"one": ("", ["g"])}, {"g": {"a": "d"}}))
+        columns["two"] = {"dimensions": {}, "propertiesFrom": ["g", "h", "g"]}
+        found = dates.date_places(report, kind)["t"]
+        both = {"a": "d", "b": "n"}
+        self.assertEqual(found.groups, {"g": both, "h": both})
+        self.assertEqual(found.columns["two"].givers, ["g", "h"])
+        columns["three"] = group_of("n")
+        self.assertNotIn("three", dates.date_places(report, kind)["t"].columns)
+
+
+def group_of(concept: str) -> Dict[str, Any]:
+    """Return a property group or a column with a concept."""
+    return {"dimensions": {"concept": concept}}
 
 
 def zip_with(text: bytes) -> bytes:

@@ -220,8 +220,8 @@ class TestRuns(FilingTest):
                     (seen, (folder / f"o {report}/t.csv").is_dir()),
                     ((0, ""), name == "a folder"),
                 )
-        most = "that no file can have: at most 4000 bytes, and 255 between slashes"
-        for url in ("a" * 300 + ".csv", "a/" * 3000 + "b.csv"):
+        most = "than a file's path may be (4000 bytes, 255 of a name, 100 folders)"
+        for url in ("a" * 300 + ".csv", "a/" * 3000 + "b.csv", "a/" * 101 + "b.csv"):
             write(
                 folder,
                 {
@@ -244,7 +244,7 @@ class TestRuns(FilingTest):
                 self.case(
                     f"a table of a name that no file can have: {report}",
                     (seen[0], seen[2]),
-                    (1, f"xbrl-filing: long/reg/mod.json: the table 't' has a url {most}\n"),
+                    (1, f"xbrl-filing: long/reg/mod.json: 'tables.t.url' is longer {most}\n"),
                 )
         both_tables = {"t": {"url": "t.csv"}, "u": {"url": "t.csv/x.csv", "template": "t"}}
         write(
