@@ -16,6 +16,13 @@ WORK_OF_BYTE = 2  # of a ZIP; a taxonomy of 200 MB in 13 MB has 0.6
 # Bytes of memory that JSON takes as text and as values.
 FREE_MEMORY = 48 << 20
 MEMORY_OF_BYTE = 130  # of a ZIP; a module of 28 MB, which alone packs to 2 MB, has 110
+MEGABYTE = 1 << 20
+LATER = 3  # as many bytes each one after the first megabyte counts for: large packages pack well
+
+
+def counted(packed: int) -> int:
+    """Return as how many bytes the size of packages counts."""
+    return packed + (LATER - 1) * max(0, packed - MEGABYTE)
 
 
 class Allowance:
@@ -30,7 +37,7 @@ class Allowance:
     def add_work(self, more: int, label: str) -> None:
         """Add the work that a part of an XML file takes."""
         self.work += more
-        if self.packed is not None and self.work > FREE_WORK + WORK_OF_BYTE * self.packed:
+        if self.packed is not None and self.work > FREE_WORK + WORK_OF_BYTE * counted(self.packed):
             raise self.too_much("XML", label)
 
     def memory_left(self, label: str) -> Optional[int]:
@@ -38,7 +45,7 @@ class Allowance:
         if self.packed is None:
             return None
         taken = sum(self.memory.values()) - self.memory.get(label, 0)
-        return FREE_MEMORY + MEMORY_OF_BYTE * self.packed - taken
+        return FREE_MEMORY + MEMORY_OF_BYTE * counted(self.packed) - taken
 
     def add_memory(self, memory: int, label: str) -> None:
         """Add the memory that a JSON file takes. One that is read again takes the same memory."""

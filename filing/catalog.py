@@ -15,7 +15,8 @@ NAMESPACE = "urn:oasis:names:tc:entity:xmlns:xml:catalog "
 REWRITE, EXACT = NAMESPACE + "rewriteURI", NAMESPACE + "uri"
 STANDARD_HOSTS = ("www.xbrl.org", "xbrl.org", "www.w3.org")
 MOST_IN_OTHER_CAPITALS = 4  # entries that are looked at for a line, each in a whole package
-MOST_ELEMENTS = 20_000  # of the catalogs of a run; one entry serves a whole package
+MOST_ELEMENTS = 100_000  # of the catalogs of a run; one entry serves a whole package
+AN_ENTRY = 25  # elements that take as long as an entry, whose URLs are brought into normal form
 MOST_ENTRIES = 100  # that are tried for one URL; packages of supervisors have one or two
 
 
@@ -39,6 +40,9 @@ class Entries(Content):
 
     def end(self, name: str) -> None:
         self.leave()
+
+    def work(self) -> int:
+        return super().work() + AN_ENTRY * (len(self.rewrites) + len(self.exact))
 
     def target(self, reference: str) -> str:
         """Return the path in the package that an entry names.

@@ -21,7 +21,7 @@ MOST_FILES = 2000  # of a report; modules that were seen have 120 at most
 MOST_TEXTS = 2000  # of a list of URLs
 # In all files of a report. A module has 180 prefixes in each of 120 files, and xbrl-json takes
 # 4,096 tables; optional ones may be left out before.
-MOST_NAMES = {"namespaces": 50_000, "tables": 16_384, "parameters": 65_536}
+MOST_NAMES = {"namespaces": 100_000, "tables": 16_384, "parameters": 65_536}
 
 
 class Metadata:

@@ -33,6 +33,7 @@ from filing import (  # noqa: E402
     zip_entries,
 )
 from filing.allowance import Allowance  # noqa: E402
+from filing.catalog import Entries  # noqa: E402
 from filing.schemas import Reading, TaxonomyFile  # noqa: E402
 from filing.urls import Place  # noqa: E402
 from tests.filing_bounds import (  # noqa: E402
@@ -68,6 +69,30 @@ class Counted(unittest.TestCase):
         some.add_work(100, "a")
         self.refused(lambda: some.add_work(1, "a"), why)
         Allowance(None).add_work(1 << 40, "a")
+
+    def test_large_packages(self) -> None:
+        """A byte after the first megabyte counts for three."""
+        large = Allowance((1 << 20) + 50)
+        large.add_work(WORK + 2 * (1 << 20) + 300, "a")
+        why = "packages of 1048626 bytes may have"
+        with self.assertRaises(refusals.Refusal) as seen:
+            large.add_work(1, "a")
+        self.assertIn(why, seen.exception.line)
+        self.assertEqual(large.memory_left("a"), MEMORY + 130 * ((1 << 20) + 150))
+        self.assertEqual(Allowance(1 << 20).memory_left("a"), MEMORY + 130 * (1 << 20))
+
+    def test_entries_of_a_catalog(self) -> None:
+        """An entry counts as 25 elements besides its own, and what is none counts as an element."""
+        empty = self.work_of_catalog("")
+        entries = rewrite(HOST + "a") * 3 + f'<uri name="{HOST}b" uri="b"/>'
+        self.assertEqual(self.work_of_catalog(entries) - empty, 4 * 26 + 8 // 4)
+        self.assertEqual(self.work_of_catalog("<group/>" * 4) - empty, 4)
+
+    def work_of_catalog(self, entries: str) -> int:
+        """Return the work of a catalog."""
+        counted, text = Allowance(0), catalog(entries).encode()
+        markup.parse([text], Entries("c"), markup.Elements(), counted)
+        return counted.work - len(text) // markup.BYTES_OF_ELEMENT
 
     def work_of(self, text: str) -> int:
         """Return the work of a schema or linkbase."""
