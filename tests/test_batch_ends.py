@@ -10,6 +10,7 @@ import subprocess
 import sys
 import time
 import unittest
+from contextlib import suppress
 from pathlib import Path
 from typing import Dict, List, Tuple
 
@@ -125,6 +126,28 @@ class TestByForce(EndsCase):
         while self.run_many(reports)[0] == TRY_AGAIN:
             self.assertLess(time.monotonic(), until, "the report is never free")
         self.assertEqual((self.out / "slow.json").read_bytes(), EXPECTED)
+
+    def test_a_report_whose_process_is_killed(self) -> None:
+        pid = Path(f"{self.played}.slow")
+        self.played.write_text(PLAYED.replace("echo begun >>", "echo $$ >"))
+        self.environment["XBRL_JSON"] = str(self.played)
+        run = self.start(self.reports("slow"))
+        self.wait_for("the slow one", pid)
+        (python,) = Path(f"/proc/{run.pid}/task/{run.pid}/children").read_text().split()
+        os.kill(int(python), signal.SIGKILL)
+        self.assertEqual(run.wait(SOON), TRY_AGAIN)
+        self.assertEqual(self.outcomes("slow"), {"slow": "signal"})
+        self.addCleanup(self.end, int(pid.read_text()))
+        state = Path(f"/proc/{pid.read_text().strip()}/stat")
+        until = time.monotonic() + SOON
+        while state.exists() and state.read_text().rpartition(")")[2].split()[0] != "Z":
+            self.assertLess(time.monotonic(), until, "xbrl-json goes on")
+            time.sleep(0.05)
+
+    def end(self, process: int) -> None:
+        """End a process, if it is still there."""
+        with suppress(ProcessLookupError):
+            os.kill(process, signal.SIGKILL)
 
     def test_files_that_were_not_finished(self) -> None:
         reports = self.reports("a", "b")
