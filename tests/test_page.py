@@ -592,6 +592,18 @@ class TestHostile(Case):
         self.assertIn("<b onclick=x>'&\\u202e", top.all("title")[0].text())
         self.assertIn("<script>alert(1)</script>\\u202e", top.all("mark")[0].text())
 
+    def test_parameters_and_indicators(self) -> None:
+        """Shows hostile values of parameters, and names of templates, as text."""
+        evil = "<script>alert(1)</script>\u202e"
+        given = (self.tables / "parameters.csv").read_text()
+        self.edit("parameters.csv", f"{given}spare,{evil}\n")
+        self.edit("FilingIndicators.csv", f"template,filed\n{evil},true\n")
+        self.convert("--out", "o.json")
+        shown = evil.replace("\u202e", "\\u202e")
+        cells = [it.text() for it in self.top().all("td")]
+        self.assertIn(shown, cells)
+        self.assertIn(shown, [it.text() for it in self.top().all("dd")])
+
     def test_the_policy(self) -> None:
         """Allows only the style and the script of the page, by their digests."""
         self.convert("--out", "o.json")

@@ -553,6 +553,15 @@ class TestMany(Case):
             self.assertEqual(own["document"]["sha256"], self.sha256(f"out/{name}.json"))
         self.assertIn("is damaged", self.summary("out/c.summary.json")["line"])
 
+    def test_contradictions(self) -> None:
+        """Has the indicators of each report that do not fit its tables."""
+        self.edit("FilingIndicators.csv", "template,filed\nl_01,false\nl_03,true\n")
+        self.run_many(status=1)
+        names = ("report", "trueWithoutFacts", "falseWithFacts")
+        seen = [tuple(it[name] for name in names) for it in self.summary("all.json")["reports"]]
+        wanted = [(f"in/{name}.zip", ["l_03"], ["l_01"]) for name in "ab"]
+        self.assertEqual(seen, [*wanted, ("in/c.zip", [], [])])
+
     def test_again_and_foreign_files(self) -> None:
         """Converts again what has no summary, and leaves a file that no run has made."""
         self.run_many(status=1)
