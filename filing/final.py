@@ -5,14 +5,14 @@ Files that extend it add nothing there (xBRL-CSV 1.0, `documentInfo.final`).
 
 from __future__ import annotations
 
-from typing import Callable, Dict, Iterable, List
+from typing import Callable, Dict, Iterable, List, Tuple
 
 from .chain import Chain, Metadata
 from .prefixes import Renaming
 from .refusals import wrong
 
-MOST_COMPARED = 3_000_000  # keys of a run; a module that extends 120 final files has 100,000
-A_FILE = 4  # keys that take as long as a look into a file
+MOST_COMPARED = 2_500_000  # keys of a run; a module that extends 120 final files has 100,000
+A_FILE = 2  # keys that take as long as a look into a file
 
 KEYS: Dict[str, Callable[[Metadata], Iterable[str]]] = {
     "namespaces": lambda metadata: metadata.info_part("namespaces"),
@@ -32,21 +32,29 @@ def check_final(chain: Chain, lost: Dict[str, str]) -> None:
     That is a key or a URL. A dimension is one key under all its prefixes.
     """
     renaming = Renaming(lost, lambda _: False)
+    having = {part: files_with_keys(chain, part) for part in KEYS}
     compared = 0
     for metadata in chain:
         final = final_parts(metadata)
-        lower, upper = (chain.below(metadata), chain.above(metadata)) if final else ([], [])
+        lower = set(map(id, chain.below(metadata) if final else ()))
+        upper = set(map(id, chain.above(metadata) if final else ()))
         compared += len(chain.files) if final else 0
         for part in final:
             one: Callable[[str], str] = renaming.qname if part == "dimensions" else as_written
-            there = {one(key) for file in lower for key in KEYS[part](file)}
-            compared += len(there) + A_FILE * (len(lower) + len(upper))
+            there = {one(key) for file, keys in having[part] if id(file) in lower for key in keys}
+            compared += len(there) + A_FILE * len(having[part])
             if compared > MOST_COMPARED:
                 raise wrong(metadata.label, f"declares more than can be compared to be final ({MOST_COMPARED} keys)")
-            for above in upper:
-                for key in KEYS[part](above):
-                    if one(key) not in there:
-                        raise wrong(above.label, f"adds '{key}' to '{part}', which is final in {metadata.label}")
+            for above, keys in having[part]:
+                added = (key for key in keys if one(key) not in there) if id(above) in upper else ()
+                for key in added:
+                    raise wrong(above.label, f"adds '{key}' to '{part}', which is final in {metadata.label}")
+
+
+def files_with_keys(chain: Chain, part: str) -> List[Tuple[Metadata, List[str]]]:
+    """Return the files that have something in a part, in order, and what it is."""
+    found = ((metadata, list(KEYS[part](metadata))) for metadata in chain)
+    return [(metadata, keys) for metadata, keys in found if keys]
 
 
 def as_written(key: str) -> str:
