@@ -11,8 +11,8 @@ from .chain import Chain, Metadata
 from .prefixes import Renaming
 from .refusals import wrong
 
-MOST_COMPARED = 2_500_000  # keys of a run; a module that extends 120 final files has 100,000
-A_FILE = 2  # keys that take as long as a look into a file
+MOST_COMPARED = 2_500_000  # files and keys of a run; a module of 120 final files has 100,000
+A_KEY = 2  # files above or below another that take as long to find as a key to compare
 
 KEYS: Dict[str, Callable[[Metadata], Iterable[str]]] = {
     "namespaces": lambda metadata: metadata.info_part("namespaces"),
@@ -42,9 +42,9 @@ def check_final(chain: Chain, lost: Dict[str, str]) -> None:
         for part in final:
             one: Callable[[str], str] = renaming.qname if part == "dimensions" else as_written
             there = {one(key) for file, keys in having[part] if id(file) in lower for key in keys}
-            compared += len(there) + A_FILE * len(having[part])
+            compared += A_KEY * (len(there) + len(having[part]))
             if compared > MOST_COMPARED:
-                raise wrong(metadata.label, f"declares more than can be compared to be final ({MOST_COMPARED} keys)")
+                raise wrong(metadata.label, f"declares more than can be compared to be final ({MOST_COMPARED} files and keys)")
             for above, keys in having[part]:
                 added = (key for key in keys if one(key) not in there) if id(above) in upper else ()
                 for key in added:
