@@ -5,15 +5,15 @@ Files that extend it add nothing there (xBRL-CSV 1.0, `documentInfo.final`).
 
 from __future__ import annotations
 
-from typing import Callable, Dict, Iterable, List
+from typing import Callable, Dict, Iterable, List, Tuple
 
 from .chain import Chain, Metadata
 from .prefixes import Renaming
 from .refusals import wrong
 from .urls import normal
 
-MOST_COMPARED = 3_000_000  # keys of a run; a module that extends 120 final files has 100,000
-A_FILE = 4  # keys that take as long as a look into a file
+MOST_COMPARED = 2_500_000  # files and keys of a run; a module of 120 final files has 100,000
+A_KEY = 2  # files above or below another that take as long to find as a key to compare
 
 KEYS: Dict[str, Callable[[Metadata], Iterable[str]]] = {
     "namespaces": lambda metadata: metadata.info_part("namespaces"),
@@ -32,27 +32,31 @@ def check_final(chain: Chain, lost: Dict[str, str]) -> None:
 
     That is a key or a URL. A dimension is one key under all its prefixes, a URL in all spellings.
     """
-    renaming = Renaming(lost, lambda _: False)
-    in_one_form = {"dimensions": renaming.qname, "taxonomy": normal}
+    one_form = {"dimensions": Renaming(lost, lambda _: False).qname, "taxonomy": normal}
+    having = {part: files_with_keys(chain, part, one_form.get(part, str)) for part in KEYS}
     compared = 0
     for metadata in chain:
         final = final_parts(metadata)
-        lower, upper = (chain.below(metadata), chain.above(metadata)) if final else ([], [])
+        lower = set(map(id, chain.below(metadata) if final else ()))
+        upper = set(map(id, chain.above(metadata) if final else ()))
         compared += len(chain.files) if final else 0
         for part in final:
-            one: Callable[[str], str] = in_one_form.get(part, as_written)
-            there = {one(key) for file in lower for key in KEYS[part](file)}
-            compared += len(there) + A_FILE * (len(lower) + len(upper))
+            there = {form for file, keys in having[part] if id(file) in lower for form in keys}
+            compared += A_KEY * (len(there) + len(having[part]))
             if compared > MOST_COMPARED:
-                raise wrong(metadata.label, f"declares more than can be compared to be final ({MOST_COMPARED} keys)")
-            for above in upper:
-                for key in KEYS[part](above):
-                    if one(key) not in there:
-                        raise wrong(above.label, f"adds '{key}' to '{part}', which is final in {metadata.label}")
+                raise wrong(metadata.label, f"declares more than can be compared to be final ({MOST_COMPARED} files and keys)")
+            for above, keys in having[part]:
+                added = [key for form, key in keys.items() if form not in there] if id(above) in upper else []
+                if added:
+                    raise wrong(above.label, f"adds '{added[0]}' to '{part}', which is final in {metadata.label}")
 
 
-def as_written(key: str) -> str:
-    return key
+def files_with_keys(
+    chain: Chain, part: str, one_form: Callable[[str], str]
+) -> List[Tuple[Metadata, Dict[str, str]]]:
+    """Return the files that have something in a part, in order, and its keys by their one form."""
+    found = ((metadata, {one_form(key): key for key in KEYS[part](metadata)}) for metadata in chain)
+    return [(metadata, keys) for metadata, keys in found if keys]
 
 
 def final_parts(metadata: Metadata) -> List[str]:
