@@ -125,7 +125,7 @@ def merged_beside(
 
 def check_files(files: Files, renaming: Renaming, references: Places) -> None:
     """Refuse a report that lacks a parameter, or has a file or a parameter that nothing reads."""
-    files.refuse_long_urls()
+    files.refuse_urls_of_no_file()
     files.require_parameters()
     files.refuse_repeated()
     files.refuse_unread()

@@ -199,7 +199,7 @@ class ModuleCache:
 
     def is_taken(self, files: Files, module: Module) -> bool:
         """Return whether the entry serves a report with these files. Refuse what has a fault."""
-        files.refuse_long_urls()
+        files.refuse_urls_of_no_file()
         files.require_parameters()
         files.refuse_repeated()
         files.refuse_unread()

@@ -114,18 +114,35 @@ class Files:
             why = f"is missing: 'parameterURL' of {asker} names it"
             raise wrong(self.package.shown(name), why)
 
-    def refuse_long_urls(self) -> None:
-        """Refuse a table or a parameters file whose URL is too long for a file, or too deep.
+    def refuse_urls_of_no_file(self) -> None:
+        """Refuse a table or a parameters file whose URL no file can have, or that is a folder.
 
         xbrl-json would name it as a file that cannot be read, which is not the report's fault.
         """
         tables = objects(self.merged.value, "tables")
         places = [(("tables", name, "url"), table.get("url")) for name, table in tables]
         for path, url in (*places, (("parameterURL",), self.parameters)):
-            if isinstance(url, str) and (url.count("/") > MOST_FOLDERS or is_too_long(url)):
-                most = f"{LONGEST_PATH} bytes, {LONGEST_NAME} of a name, {MOST_FOLDERS} folders"
-                why = f"'{'.'.join(path)}' is longer than a file's path may be ({most})"
-                raise wrong(self.merged.origin(path), why)
+            why = self.why_no_file(url)
+            if why:
+                raise wrong(self.merged.origin(path), f"'{'.'.join(path)}' {why}")
+
+    def why_no_file(self, url: Json) -> str:
+        """Return why a URL is not that of a file; nothing if it is, or if xbrl-json names it."""
+        if not isinstance(url, str):
+            return ""
+        if url.count("/") > MOST_FOLDERS or is_too_long(url):
+            most = f"{LONGEST_PATH} bytes, {LONGEST_NAME} of a name, {MOST_FOLDERS} folders"
+            return f"is longer than a file's path may be ({most})"
+        if (url in self.tables or url == self.parameters) and self.is_folder(self.name(url)):
+            return f"is '{url}', which is a folder"
+        return ""
+
+    def is_folder(self, name: str) -> bool:
+        """Return whether a folder of the package has a name."""
+        path = self.package.path_on_disk(name)
+        if path is not None:
+            return os.path.isdir(path)
+        return not self.package.has(name) and self.package.children(name) != ([], [])
 
     def refuse_repeated(self) -> None:
         """Refuse files that very many tables have: each table is read by itself.
@@ -146,15 +163,14 @@ class Files:
     def refuse_unread(self) -> None:
         """Refuse a CSV file of the report that nothing names, or that is in a folder above.
 
-        Its facts would be missing silently. A URL that is not plain, or a folder at a table's path,
-        is left to xbrl-json.
+        Its facts would be missing silently. A URL that is not plain is left to xbrl-json.
         """
         tables = self.merged.value.get("tables", {}).values()
         urls = [table.get("url") if isinstance(table, dict) else None for table in tables]
         if not all(map(is_plain, urls)) or (self.parameters is None and "parameterURL" in self.merged.value):
             return
         name = next(self.unread(), None)
-        if name is None or any(self.package.children(self.name(url)) != ([], []) for url in self.all()):
+        if name is None:
             return
         if name.startswith(self.folder):
             raise wrong(self.package.shown(name), "is not read: no table of the joined metadata has this url (names are compared exactly)")
@@ -304,15 +320,11 @@ def put_file(target: str, package: Package, name: str, copy: bool) -> None:
     if source is None:
         if package.has(name):
             fill(target, package.pieces(name))
-        elif package.children(name) != ([], []):
-            make_folder(target)
         return
     mode = mode_of(source, package.shown(name))
     if mode is None:
         return
-    if stat.S_ISDIR(mode):
-        make_folder(target)
-    elif copy:
+    if copy:
         fill(target, pieces_of_disk(source, package.shown(name)))
     else:
         if stat.S_ISREG(mode) and not os.access(source, os.R_OK):

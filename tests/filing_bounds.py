@@ -222,7 +222,7 @@ def many_missing() -> Files:
 
 def many_starts() -> Files:
     """A catalog of many start strings for one URL, and a linkbase of many URLs."""
-    starts = (rewrite(HOST + "y" * it, "../none/") for it in range(1, 3000))
+    starts = (rewrite(HOST + "y" * it, "../none/") for it in range(1, 1000))
     urls = (loc(f"{HOST}{'y' * 3000}/{it}.xsd") for it in range(2000))
     entries = rewrite() + "".join(starts)
     return {"META-INF/catalog.xml": catalog(entries), "reg/mod.xsd": linked(urls)}
@@ -387,6 +387,7 @@ DEEP = "is nested more than 1000 levels deep (line 1)"
 BROKEN_OFF = catalog("").replace("</catalog>", "")
 SCHEMA_START = schema("").replace("</xs:schema>", "")
 JSON = "has more JSON, with that read before it, than packages of "
+VALUES = "has more than 5000000 values, with the JSON read before it"
 IN_S0 = "f.zip/reg/s0.xsd: "
 ATTRIBUTES = b"<a " + b" ".join(b'a%d=""' % it for it in range(20)) + b"/>"
 XML = "has more XML, with that read before it, than packages of "
@@ -405,8 +406,8 @@ ATTACKS = (
         lambda: deep(16 << 20, BROKEN_OFF, "META-INF/catalog.xml"),
         "f.zip/META-INF/catalog.xml: " + DEEP,
     ),
-    Attack("JSON of 200 MB of {}", lambda: many_values(1, 200 << 20), MODULE_IS + JSON),
-    Attack("a report of 200 MB of {}", in_reports, "f.zip/reports/report.json: " + JSON),
+    Attack("JSON of 200 MB of {}", lambda: many_values(1, 200 << 20), MODULE_IS + VALUES),
+    Attack("a report of 200 MB of {}", in_reports, "f.zip/reports/report.json: " + VALUES),
     Attack("four files of 4 MB of {}", lambda: many_values(4, 4 << 20), MODULE_IS + JSON),
     Attack("a file of 14 MB of {}", lambda: many_values(1, 14 << 20), MODULE_IS + JSON),
     Attack("arrays in 120 levels", branches, MODULE_IS + JSON),
@@ -420,7 +421,7 @@ ATTACKS = (
     Attack(
         "a catalog of <a/>",
         lambda: many_elements(b"<a/>", BROKEN_OFF, "META-INF/catalog.xml"),
-        "f.zip/META-INF/catalog.xml: has more than 20000 elements, with the XML read before it: ",
+        "f.zip/META-INF/catalog.xml: has more than 100000 elements, with the XML read before it: ",
     ),
     Attack("a schema of <a/>", lambda: many_elements(b"<a/>", SCHEMA_START), SCHEMA_IS + SHORT),
     Attack(
@@ -487,7 +488,7 @@ ATTACKS = (
     Attack("very much that is final", all_final, "f.zip/reg/m"),
     Attack("many tables", lambda: with_many("tables", 17_000), MODULE_IS + "has more than 16384 'tables'"),
     Attack("many parameters", lambda: with_many("parameters", 66_000), MODULE_IS + "has more than 65536 'param"),
-    Attack("many prefixes", lambda: with_many("namespaces", 51_000), MODULE_IS + "has more than 50000 'name"),
+    Attack("many prefixes", lambda: with_many("namespaces", 101_000), MODULE_IS + "has more than 100000 'name"),
     Attack("many entry points", lambda: with_many("taxonomy", 2001), MODULE_IS + "'documentInfo.taxonomy' has more"),
     Attack("a long list of modules", lambda: with_many("extends", 2001), MODULE_IS + "'documentInfo.extends' has more"),
     Attack("modules that extend all others", all_by_all, "f.zip/reg/m"),

@@ -82,7 +82,7 @@ class Counted(unittest.TestCase):
         self.assertEqual(Allowance(1 << 20).memory_left("a"), MEMORY + 130 * (1 << 20))
 
     def test_entries_of_a_catalog(self) -> None:
-        """An entry counts as 25 elements besides its own, and what is none counts as an element."""
+        """An entry counts as 25 elements besides its own. Another element counts as itself."""
         empty = self.work_of_catalog("")
         entries = rewrite(HOST + "a") * 3 + f'<uri name="{HOST}b" uri="b"/>'
         self.assertEqual(self.work_of_catalog(entries) - empty, 4 * 26 + 8 // 4)

@@ -197,29 +197,33 @@ class TestRuns(FilingTest):
                 )
 
     def test_tables_that_are_none(self) -> None:
-        """Leaves a table that is a folder or missing to the converter, and links in no input."""
+        """Refuses a table that is a folder, leaves a missing one to the converter, links in no input."""
         seen: Any
         folder = self.folder
         write(folder / "t", TAXONOMY)
         apart = {"reports/report.json": REPORT["reports/report.json"]}
-        read, missing = (
-            f"xbrl-json: table t, row 0, column 0: {it}\n" for it in ("Read (21)", "NoFile (20)")
-        )
-        for name, files, said in (
-            ("a folder", {**apart, "reports/t.csv/x.csv": "cash\n1\n"}, read),
-            ("nothing", apart, missing),
-        ):
-            write(folder / name, files)
-            pack(folder / f"{name}.zip", files)
-            for report in (name, f"{name}.zip"):
-                seen = start([report, "--taxonomy", "t"], folder)
-                self.case(f"a table that is {name}: {report}", (seen[0], seen[2]), (1, said))
-                seen = run([report, "--taxonomy", "t", "--prepare", f"o {report}"], folder)
-                self.case(
-                    f"a table that is {name}: {report} prepared",
-                    (seen, (folder / f"o {report}/t.csv").is_dir()),
-                    ((0, ""), name == "a folder"),
-                )
+        write(folder / "nothing", apart)
+        pack(folder / "nothing.zip", apart)
+        for report in ("nothing", "nothing.zip"):
+            seen = start([report, "--taxonomy", "t"], folder)
+            said = "xbrl-json: table t, row 0, column 0: NoFile (20)\n"
+            self.case(f"a table that is nothing: {report}", (seen[0], seen[2]), (1, said))
+            seen = run([report, "--taxonomy", "t", "--prepare", f"o {report}"], folder)
+            self.case(
+                f"a table that is nothing: {report} prepared",
+                (seen, (folder / f"o {report}/t.csv").exists()),
+                ((0, ""), False),
+            )
+        write(folder / "a folder", {**apart, "reports/t.csv/x.csv": "cash\n1\n"})
+        pack(folder / "a folder.zip", {**apart, "reports/t.csv/x.csv": "cash\n1\n"})
+        write(folder / "an empty one", apart)
+        (folder / "an empty one/reports/t.csv").mkdir()
+        why = "t/reg/mod.json: 'tables.t.url' is 't.csv', which is a folder"
+        for report in ("a folder", "a folder.zip", "an empty one"):
+            ways: list[list[str]] = [[], ["--prepare", f"o {report}"], *[["--cache", "c"]] * 2]
+            for words in ways:
+                seen = run([report, "--taxonomy", "t", *words], folder)
+                self.case(f"{report}: {words}", seen, (1, f"xbrl-filing: {why}\n"))
         most = "than a file's path may be (4000 bytes, 255 of a name, 100 folders)"
         for url in ("a" * 300 + ".csv", "a/" * 3000 + "b.csv", "a/" * 101 + "b.csv"):
             write(
@@ -257,7 +261,7 @@ class TestRuns(FilingTest):
             self.case(
                 f"a table and the folder that holds it: {report}",
                 (status, err, listing(folder / "a folder")),
-                (1, read, before),
+                (1, f"xbrl-filing: {why}\n", before),
             )
             self.case(
                 f"no link in an input: {report}",
