@@ -197,7 +197,7 @@ class TestRuns(FilingTest):
                 )
 
     def test_tables_that_are_none(self) -> None:
-        """Refuses a table that is a folder, leaves a missing one to the converter, links in no input."""
+        """Refuses a table that is a folder. A missing one is left to the converter."""
         seen: Any
         folder = self.folder
         write(folder / "t", TAXONOMY)
