@@ -22,7 +22,7 @@ from .converter_program import require_counts, require_options, version_of
 from .cache import digests_of_program
 from .digests import digest_of
 from .faults import count_faults
-from .kept_module import Holding
+from .held_modules import Holding
 from .locks import remove, unlock
 from .many_summaries import ManySummaries
 from .marked_output import OTHER, PAGE, SUMMARY, check_inputs, check_place

@@ -11,40 +11,33 @@ that way has lines and refusals of its own.
 
 from __future__ import annotations
 
-import gc
-import json
 import os
-from contextlib import contextmanager, suppress
 from dataclasses import dataclass, field, replace
 from functools import lru_cache
-from typing import Any, Callable, Dict, Iterator, List, Mapping, NamedTuple, Optional, Set, Tuple
+from typing import Callable, Dict, Iterator, List, Mapping, NamedTuple, Optional, Set, Tuple
 
 from .cache import key_of
 from .cache_room import store, used
 from .catalog import CATALOG
 from .chain import Chain, Metadata, read_metadata
-from .dates import DateColumn, DatePlaces, DateTemplate, date_places, with_types_of_dates
-from .digests import digest_of
+from .dates import date_places, with_types_of_dates
 from .final import final_parts
 from .finding import Found
-from .held_types import HeldTypes
+from .held_modules import entry_at
 from .kinds import REASONS, Kinds, kind_of
 from .lost_cells import mention_lost
-from .members import MemberPlaces, member_places, takes_unread, unread_prefixes
+from .members import member_places, takes_unread, unread_prefixes
 from .metadata import Merged, Merging, Path, compact, objects
-from .named import Named, is_reference, names_of
+from .module_entry import Blocks, Module, Source, entry_pieces
+from .module_sketch import sketch
+from .named import Named, names_of
 from .origins import Origins
 from .packages import Package
-from .parameters import (
-    OF_EACH_FACT,
-    check_parameters,
-    check_references,
-    require_parameters,
-)
+from .parameters import check_parameters, check_references, require_parameters
 from .prefixes import Renaming
 from .prepared import Files, TypesTable
 from .refusals import Refusal
-from .strict_json import Json, Object, Values
+from .strict_json import Object, Values
 
 # What a report must leave to its module, at its top and in `documentInfo`.
 OF_THE_MODULE = ("tableTemplates", "tables", "dimensions", "decimals", "links")
@@ -52,37 +45,6 @@ INFO_OF_THE_MODULE = ("namespaces", "taxonomy", "baseURL", "final")
 # What both may give.
 OF_BOTH = ("parameters", "parameterURL")
 Joined = Tuple[Origins, Files, TypesTable]
-
-
-class Block(NamedTuple):
-    """Where a part of the entry is, and its digest."""
-
-    offset: int
-    length: int
-    digest: str
-
-
-class Source(NamedTuple):
-    """A part of the metadata, and the file that gives it: a package's number and a name there."""
-
-    path: List[str]
-    package: int
-    name: str
-
-
-@dataclass(frozen=True)
-class Module:
-    """The index of an entry."""
-
-    rest: Object  # the merged metadata, with sketches instead of the templates
-    final: List[str]  # the parts to which a report may add nothing
-    faulty: List[str]  # templates that name what the taxonomy does not have
-    lost: Dict[str, str]  # the prefixes that are replaced
-    members: MemberPlaces
-    dates: DatePlaces
-    types: Block
-    templates: Dict[str, Block]
-    sources: List[Source]  # of the module's parameters
 
 
 class Draft(NamedTuple):
@@ -283,15 +245,7 @@ class ModuleCache:
         def kind(name: str) -> Optional[str]:
             return kind_of(name, namespaces, kinds)
 
-        blocks: List[bytes] = []
-        place = 0
-
-        def block(data: bytes) -> Block:
-            nonlocal place
-            blocks.append(data)
-            place += len(data)
-            return Block(place - len(data), len(data), digest_of(data).hex())
-
+        blocks = Blocks()
         index = {
             "rest": draft.rest,
             "final": sorted({part for metadata in module_files for part in final_parts(metadata)}),
@@ -299,13 +253,12 @@ class ModuleCache:
             "lost": renaming.lost,
             "members": member_places(merged.value, unread_prefixes(namespaces, kinds), kind),
             "dates": date_places(merged.value, kind),
-            "types": block(types),
-            "templates": {name: block(text) for name, text in draft.texts.items()},
+            "types": blocks.add(types),
+            "templates": {name: blocks.add(text) for name, text in draft.texts.items()},
             "sources": self.sources(merged, module_files),
         }
-        head = json.dumps(index).encode()
         if key_of(self.packages, self.urls()) == self.key:  # else it was changed while it was read
-            store(self.path(), [digest_of(head).hex().encode(), b" ", head, b"\n", *blocks])
+            store(self.path(), entry_pieces(index, blocks))
             self.note_used()
 
     def rest(self, merged: Merged, module_files: List[Metadata]) -> Object:
@@ -346,198 +299,3 @@ def faulty_templates(
         known = ("explicit", "typed")
         found |= {template for dimension, template in named.dimensions if kind(dimension) not in known}
     return None if None in found else {template for template in found if template is not None}
-
-
-def sketch(template: Json) -> Json:
-    """Return what the checks of parameters look at in a template. Equal property groups are one."""
-    if not isinstance(template, dict):
-        return template
-    made = level(template)
-    if "columns" in template:
-        columns = template["columns"]
-        made["columns"] = columns
-        if isinstance(columns, dict):
-            made["columns"] = {name: sketch_of_column(column) for name, column in columns.items()}
-    return made
-
-
-def sketch_of_column(column: Json) -> Json:
-    if not isinstance(column, dict):
-        return column
-    made = level(column)
-    if "propertiesFrom" in column:
-        made["propertiesFrom"] = column["propertiesFrom"]
-    if "propertyGroups" in column:
-        groups: Dict[object, Json] = {}
-        for _, group in objects(column, "propertyGroups"):
-            kept = level(group)
-            mark = mark_of(kept)
-            if mark not in groups:
-                groups[mark] = kept
-        made["propertyGroups"] = {str(at): level for at, level in enumerate(groups.values())}
-    return made
-
-
-def mark_of(kept: Object) -> object:
-    """Return what only equal levels have in common.
-
-    These are their texts, if they have no other values. Else it is the representation, which takes
-    long: modules have 100,000 groups and more.
-    """
-    dimensions = kept.get("dimensions")
-    if not isinstance(dimensions, dict):
-        return repr(kept)
-    for text in dimensions.values():
-        if not isinstance(text, str):
-            return repr(kept)
-    return tuple(dimensions.items()), kept.get("decimals")
-
-
-def level(owner: Object) -> Object:
-    """Return the references of an object that may have `dimensions`, and its entity and period."""
-    made: Object = {}
-    if "dimensions" in owner:
-        dimensions = owner["dimensions"]
-        if isinstance(dimensions, dict):
-            dimensions = {
-                key: text
-                for key, text in dimensions.items()
-                if key in OF_EACH_FACT
-                or isinstance(text, str) and text.startswith("$") and is_reference(text)
-            }
-        made["dimensions"] = dimensions
-    decimals = owner.get("decimals")
-    if isinstance(decimals, str) and is_reference(decimals):
-        made["decimals"] = decimals
-    return made
-
-
-class Entry(NamedTuple):
-    """An entry that is open or in memory."""
-
-    module: Module
-    text_of: Callable[[Block], bytes]
-    types_file: Optional[str]  # which has the types table, if it is in memory
-    types: Optional[HeldTypes]  # if many reports are to look at it
-
-
-# By their paths: the entries that the run which started this process has read for all reports.
-held: Dict[str, Entry] = {}
-MOST_HELD = 64 << 20  # bytes of all these entries
-MANY = 50  # reports of a run, from which on it is worth while to look at all templates
-
-
-# What an entry that is not whole, or too little memory, leads to.
-UNUSABLE = (OSError, ValueError, LookupError, TypeError, RecursionError, MemoryError)
-
-
-class Holding:
-    """Reads entries into memory for later processes, as many as there is room for."""
-
-    def __init__(self, reports: int) -> None:
-        """Hold nothing so far. Take how many reports the run has."""
-        self.has_many = reports >= MANY
-        self.tried: Set[str] = set()
-        self.room = MOST_HELD
-        self.looking: List[Iterator[None]] = []  # at types tables, one after the other
-
-    def hold(self, path: str) -> None:
-        """Read an entry, unless it was tried before, is not whole, or is larger than the room."""
-        if path in self.tried:
-            return
-        self.tried.add(path)
-        with suppress(*UNUSABLE):
-            with open(path, "rb") as file:
-                size = os.fstat(file.fileno()).st_size
-                if size > self.room:
-                    return
-                module = read_index(file.readline())
-                start = file.tell()
-                blocks = [module.types, *module.templates.values()]
-                texts = {block: read_block(file, start, block) for block in blocks}
-            self.room -= size
-            types_file = file_of(texts[module.types])
-            held[path] = Entry(module, texts.__getitem__, types_file, None)
-            if self.has_many:
-                self.looking.append(look_at_types(path, texts))
-            gc.freeze()  # as the run does at its begin
-
-    def go_on(self) -> bool:
-        """Do a little of what makes later reports faster. Return whether more is left to do."""
-        if not self.looking:
-            return False
-        with suppress(StopIteration, *UNUSABLE):
-            next(self.looking[0])
-            return True
-        del self.looking[0]
-        return bool(self.looking)
-
-
-def look_at_types(path: str, texts: Mapping[Block, bytes]) -> Iterator[None]:
-    """Find the records of an entry's types table that each of its templates names.
-
-    Yield after every few hundredths of a second. Reports that begin before the end get the whole
-    table.
-    """
-    module = held[path].module
-    templates = {name: texts[block] for name, block in module.templates.items()}
-    namespaces = module.rest["documentInfo"].get("namespaces", {})
-    types = HeldTypes(texts[module.types], templates, namespaces)
-    yield
-    yield from types.look()
-    held[path] = held[path]._replace(types=types)
-    gc.freeze()
-
-
-def file_of(text: bytes) -> Optional[str]:
-    """Return the path of a file with this text, which this process and those that it starts see.
-
-    It is in memory, so it ends with them. None if the system has no such files.
-    """
-    with suppress(OSError, AttributeError):
-        number = os.memfd_create("types.csv", 0)
-        with open(number, "wb", closefd=False) as file:
-            file.write(text)
-        path = f"/proc/self/fd/{number}"
-        if os.path.isfile(path):
-            return path
-        os.close(number)
-    return None
-
-
-@contextmanager
-def entry_at(path: str) -> Iterator[Entry]:
-    """Open an entry, unless it is in memory."""
-    if path in held:
-        yield held[path]
-        return
-    with open(path, "rb") as file:
-        module = read_index(file.readline())
-        start = file.tell()
-        yield Entry(module, lambda block: read_block(file, start, block), None, None)
-
-
-def read_index(line: bytes) -> Module:
-    """Read the first line of an entry. Raises ValueError if it is not whole."""
-    digest, _, head = line.rstrip(b"\n").partition(b" ")
-    if digest_of(head).hex() != digest.decode():
-        raise ValueError("the index is not whole")
-    index: Dict[str, Any] = json.loads(head)
-    index["members"] = MemberPlaces(*index["members"])
-    index["dates"] = {
-        name: DateTemplate({column: DateColumn(*place) for column, place in columns.items()}, groups)
-        for name, (columns, groups) in index["dates"].items()
-    }
-    index["types"] = Block(*index["types"])
-    index["templates"] = {name: Block(*block) for name, block in index["templates"].items()}
-    index["sources"] = [Source(*source) for source in index["sources"]]
-    return Module(**index)
-
-
-def read_block(file: Any, start: int, block: Block) -> bytes:
-    """Read a part of an entry. Raises ValueError if it is not whole."""
-    file.seek(start + block.offset)
-    data: bytes = file.read(block.length)
-    if digest_of(data).hex() != block.digest:
-        raise ValueError("a part is not whole")
-    return data

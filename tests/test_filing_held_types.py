@@ -15,7 +15,7 @@ from pathlib import Path
 from typing import Any
 from unittest import mock
 
-from filing import held_types, kept_module, library
+from filing import held_modules, held_types, library
 from filing.held_types import HeldTypes
 from filing.metadata import Merged
 from filing.prepared import Files
@@ -37,8 +37,8 @@ SPARE = 20  # concepts that nothing names
 # Runs over many reports as if there were enough to look at the templates, or not.
 DRIVER = """import sys
 sys.path.insert(0, sys.argv[1])
-from filing import command, held_types, kept_module
-kept_module.MANY, held_types.LEAST_LEFT_OUT = int(sys.argv[2]), 0
+from filing import command, held_modules, held_types
+held_modules.MANY, held_types.LEAST_LEFT_OUT = int(sys.argv[2]), 0
 sys.exit(command.main(sys.argv[4:], sys.argv[3]))
 """
 # Notes how many records the types table has that xbrl-json gets.
@@ -119,52 +119,52 @@ class TestHolding(TestCase):
         at = {it: str(self.folder / it) for it in ("r", "t", "p", "c")}
         library.prepare(at["r"], [at["t"]], at["p"], at["c"])
         self.path = str(next((self.folder / "c").glob("*.module")))
-        self.addCleanup(lambda: kept_module.held.pop(self.path, None))
+        self.addCleanup(lambda: held_modules.held.pop(self.path, None))
 
     def went_on(self, reports: int) -> int:
         """Holds the entry in a run of some reports. Returns how often it then goes on."""
-        holding = kept_module.Holding(reports)
+        holding = held_modules.Holding(reports)
         holding.hold(self.path)
-        self.assertIsNone(kept_module.held[self.path].types)
+        self.assertIsNone(held_modules.held[self.path].types)
         times = 0
         while holding.go_on():
             times += 1
-            self.assertIsNone(kept_module.held[self.path].types)
+            self.assertIsNone(held_modules.held[self.path].types)
         self.assertFalse(holding.go_on())
         return times
 
     def test_many_reports(self) -> None:
         """The whole table serves until all templates are looked at."""
         entry_templates = 2
-        self.assertEqual(self.went_on(kept_module.MANY), entry_templates + 1)
-        module, types = kept_module.held[self.path].module, kept_module.held[self.path].types
+        self.assertEqual(self.went_on(held_modules.MANY), entry_templates + 1)
+        module, types = held_modules.held[self.path].module, held_modules.held[self.path].types
         assert types is not None
         self.assertEqual(set(types.of_template), set(module.templates))
 
     def test_few_reports(self) -> None:
         """Nothing is looked at."""
-        self.assertEqual(self.went_on(kept_module.MANY - 1), 0)
-        self.assertIsNone(kept_module.held[self.path].types)
+        self.assertEqual(self.went_on(held_modules.MANY - 1), 0)
+        self.assertIsNone(held_modules.held[self.path].types)
 
     def test_the_room(self) -> None:
         """An entry is held only if all that are held have room."""
         size = os.path.getsize(self.path)
         copy = self.path.replace(".module", "2.module")
         Path(copy).write_bytes(Path(self.path).read_bytes())
-        self.addCleanup(lambda: kept_module.held.pop(copy, None))
+        self.addCleanup(lambda: held_modules.held.pop(copy, None))
         for room, wanted in ((size - 1, []), (2 * size - 1, [self.path])):
-            with mock.patch.object(kept_module, "MOST_HELD", room):
-                holding = kept_module.Holding(1)
+            with mock.patch.object(held_modules, "MOST_HELD", room):
+                holding = held_modules.Holding(1)
                 holding.hold(self.path)
                 holding.hold(copy)
-            self.assertEqual([it for it in (self.path, copy) if it in kept_module.held], wanted)
+            self.assertEqual([it for it in (self.path, copy) if it in held_modules.held], wanted)
 
     def test_too_little_memory(self) -> None:
         """The whole table serves for all reports."""
         for it in ("__init__", "look"):
             with self.subTest(it), mock.patch.object(HeldTypes, it, side_effect=MemoryError):
-                self.assertLess(self.went_on(kept_module.MANY), 2)
-                self.assertIsNone(kept_module.held[self.path].types)
+                self.assertLess(self.went_on(held_modules.MANY), 2)
+                self.assertIsNone(held_modules.held[self.path].types)
 
 
 class TestManyReports(TestCase):
