@@ -174,9 +174,9 @@ def files_of_other_reports() -> Iterator[Case]:
             form=form,
         )
         inside = {**bare, "reports/t.csv/x.csv": rows, "reports/T.csv": rows}
-        yield makes(
-            f"a folder in a table's place is the converter's fault, {form}",
-            parts={"tables": {"t": optional["t"]}},
+        yield stops(
+            f"a folder in a table's place, {form}",
+            "t0/reg/mod.json: 'tables.t.url' is 't.csv', which is a folder",
             report=inside,
             form=form,
             **inputs,
