@@ -88,7 +88,7 @@ uint32_t xbrl_json_convert(const xbrl_json_file *files, size_t count,
                            uint32_t layout, xbrl_json_answer *answer);
 
 /* Gives the version of xbrl-json that the library is a part of, and the kit that proved it, as in
- * `0.25.1 (proved with KIT)`. Never free this text. */
+ * `0.25.2 (proved with KIT)`. Never free this text. */
 void xbrl_json_version(xbrl_json_text *version);
 
 #ifdef __cplusplus

@@ -9,6 +9,7 @@ use Rattle.oim_report.specs.Types.{TypesValue}
 use Rattle.oim_report.specs.declared.data.Column.{Column}
 use Rattle.oim_report.specs.declared.data.ColumnKind.TheVariants as column
 use Rattle.oim_report.specs.declared.data.Level.{Level}
+use Rattle.oim_report.specs.declared.data.Side.TheVariants as side
 use Rattle.oim_report.specs.declared.data.Written.{Written}
 use Rattle.oim_report.specs.declared.data.Written.TheVariants as w
 use Rattle.oim_report.specs.declared.data.WrittenDecimals.{WrittenDecimals}
@@ -33,10 +34,11 @@ unfoldable origins_on_literals : ⊤
 unfolding on_literals is_currency
 origins_on_literals = tt
 
--- Cash is monetary and of an instant.
+-- Cash is monetary and of an instant, Fee of any period.
 abbrev types : TypesValue
 types =
-    known (codes "Cash") (kind.Concept (record { value = item.Monetary; period = Some wanted.Instant })) ∷ known (codes "North") kind.Member ∷ known (codes "Note") kind.Text
+    known (codes "Cash") (kind.Concept (record { value = item.Monetary; period = Some wanted.Instant }))
+    ∷ known (codes "Fee") (kind.Concept (record { value = item.Monetary; period = None })) ∷ known (codes "North") kind.Member ∷ known (codes "Note") kind.Text
     ∷ known (codes "Rate") (kind.Number number.Decimal) ∷ known (codes "Region") kind.Explicit ∷ []
 
 abbrev Dimensions : Type 0
@@ -176,6 +178,16 @@ wanted_by_cash :
     ≡ Some (Dimension (codes "unit")) ∷ Some (Dimension (codes "period")) ∷ Some (Dimension (codes "unit")) ∷ Some (Dimension (codes "period")) ∷ []
 unfolding origins_on_literals
 wanted_by_cash = refl
+
+-- The end of a year is an instant, the year is not. Fee wants no period.
+wanted_periods :
+    causes fault.WrongPeriod (concept (codes "eg:Cash") ∷ (codes "period", w.Named (codes "b") side.End) ∷ unit (codes "iso4217:EUR") ∷ []) (codes "1") (codes "0005")
+    ∷ causes fault.WrongPeriod (concept (codes "eg:Cash") ∷ (codes "period", reference (codes "b")) ∷ unit (codes "iso4217:EUR") ∷ []) (codes "1") (codes "0005")
+    ∷ causes fault.WrongPeriod (concept (codes "eg:Fee") ∷ unit (codes "iso4217:EUR") ∷ []) (codes "1") []
+    ∷ []
+    ≡ None ∷ Some (Dimension (codes "period")) ∷ None ∷ []
+unfolding origins_on_literals
+wanted_periods = refl
 
 value_of_the_cell : causes fault.BadNumber (good (codes "eg:Rate")) (codes "one") [] ≡ Some OwnCell
 unfolding origins_on_literals

@@ -15,7 +15,7 @@ use oim_names::Text;
 use std::alloc::{AllocError, Global};
 
 /// The program's version, and the kit that proves it, as `rt version` prints it.
-pub const VERSION: &str = "0.25.1 (proved with rattle-kit-13f logic dac8208d650f15bf)";
+pub const VERSION: &str = "0.25.2 (proved with rattle-kit-13f logic dac8208d650f15bf)";
 
 /// The help of each argument.
 const META_HELP: &str = "The metadata file of the report";

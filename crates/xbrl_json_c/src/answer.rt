@@ -8,8 +8,8 @@ ghost use Rattle.xbrl_json_c.specs.Answers.{IsEmpty};
 #[derive(Clone, Copy)]
 pub struct CallAnswer {
     /// The exit status of the program: 0 if the document is written, 1 if the report has a fault or
-    /// a table is refused, 2 if the call is wrong, 3 if memory ran out or there is no file for the
-    /// metadata, the types table or the parameters.
+    /// a table is refused, 2 if the call is wrong, and 3 if memory runs out or the metadata, the
+    /// types table or the parameters file does not exist.
     pub status: u32,
     /// The document: whole with status 0. With refused tables it is unfinished, up to and including
     /// the first of them.
