@@ -336,15 +336,15 @@ def with_groups(concept: str) -> Files:
 
 
 def with_replaced_prefixes() -> Files:
-    """A module of which 20,000 prefixes are replaced, and a table of 4 MB to look for them."""
+    """A module of which 10,000 prefixes are replaced, and a table of 3 MB to look for them."""
     module = in_module()
     module["documentInfo"]["extends"] = ["base.json"]
-    module["documentInfo"]["namespaces"].update((f"a{it}", f"u{it}") for it in range(20_000))
-    base = meta({"namespaces": {f"b{it}": f"u{it}" for it in range(20_000)}})
+    module["documentInfo"]["namespaces"].update((f"a{it}", f"u{it}") for it in range(10_000))
+    base = meta({"namespaces": {f"b{it}": f"u{it}" for it in range(10_000)}})
     return {
         "reg/mod.json": json.dumps(module),
         "reg/base.json": base,
-        "reports/t.csv": repeated(b"b1\n", 4 << 20, b"cash\n"),
+        "reports/t.csv": repeated(b"b1\n", 3 << 20, b"cash\n"),
     }
 
 
