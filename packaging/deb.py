@@ -191,7 +191,7 @@ def add_documents(package: Package, root: Path, version: str) -> None:
 def mend_interpreter(root: Path) -> None:
     """Names Debian's own Python in xbrl-filing, whatever the user's PATH has."""
     script = root / "usr/share/xbrl-json/xbrl-filing"
-    text = script.read_text().replace("#!/usr/bin/env python3", "#!/usr/bin/python3", 1)
+    text = script.read_text().replace("exec python3 ", "exec /usr/bin/python3 ", 1)
     write(script, text, 0o755)
 
 

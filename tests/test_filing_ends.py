@@ -406,6 +406,15 @@ class TestRuns(FilingTest):
         finally:
             strict_json.LARGEST, whole_command.find_report = kept
 
+    def test_too_little_address_space(self) -> None:
+        """Where Python could not start, the script says so first, with status 3."""
+        write(self.folder, {"r": "{}"})
+        for limit in (8000, 10_000, 12_000, 13_500, 15_500, 23_999):
+            shell = ["bash", "-c", f'ulimit -v {limit}; exec "$0" r', FILING]
+            done = subprocess.run(shell, cwd=self.folder, capture_output=True, text=True)
+            said = (3, "xbrl-filing: there is not enough memory\n")
+            self.case(f"{limit} KiB", (done.returncode, done.stderr), said)
+
     def test_whose_fault(self) -> None:
         """What is not the fault of the report has status 3.
 
